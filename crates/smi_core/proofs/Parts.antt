@@ -1,0 +1,130 @@
+-- What was fed part by part.
+use Rattle.std.proofs.Common.{◌≡◌, ◌==◌, ℕ, Bool, true, false, cond, List, [], ◌∷◌, ◌++◌, Option, sym, refl, ap, ◌∙◌, subst, append_assoc, append-nil}
+use Rattle.std.specs.Prelude.{◌⊎◌}
+use Rattle.std.proofs.Common.{inl, inr}
+use Rattle.std.specs.Io.KnownBytes.{Appends}
+use Rattle.smi_core.specs.Feeds.{Feeds, IsPending, Went, Halted, FirstLines, Outputs, lines_of}
+use Rattle.smi_core.proofs.Io.{appends_none, appends_more}
+use Rattle.smi_core.proofs.Fed.{feeds_none, feeds_append, fed, fed_lines, onto_nothing}
+
+module _ {S : Type 0} (makes : S → List ℕ → List ℕ → S → Type 0) where
+  pub went_none : (m : S) (line : List ℕ) (old : Option (List ℕ)) (kept : List ℕ) (over : Bool) → IsPending kept over line → Went makes m line [] old old m kept over
+  went_none m line old kept over p = record { out = []; left = line; pending = p; feeds = feeds_none makes m line; written = appends_none old }
+
+  pub went_more : (m : S) (line xs ys : List ℕ) (old mid new : Option (List ℕ)) (m2 m3 : S) (kept : List ℕ) (over : Bool) (kept3 : List ℕ) (over3 : Bool) → Went makes m line xs old mid m2 kept over → ((l : List ℕ) → IsPending kept over l → Went makes m2 l ys mid new m3 kept3 over3) → Went makes m line (xs ++ ys) old new m3 kept3 over3
+  went_more m line xs ys old mid new m2 m3 kept over kept3 over3 w next =
+      let v = next w.left w.pending in
+      record {
+        out = w.out ++ v.out;
+        left = v.left;
+        pending = v.pending;
+        feeds = feeds_append makes m line xs w.out m2 w.left ys v.out m3 v.left w.feeds v.feeds;
+        written = appends_more old mid new w.out v.out w.written v.written;
+      }
+
+  pub halted_more : (m : S) (line xs ys : List ℕ) (old mid new : Option (List ℕ)) (m2 m3 : S) (kept : List ℕ) (over : Bool) → Went makes m line xs old mid m2 kept over → ((l : List ℕ) → IsPending kept over l → Halted makes m2 l ys mid new m3) → Halted makes m line (xs ++ ys) old new m3
+  halted_more m line xs ys old mid new m2 m3 kept over w next =
+      let v = next w.left w.pending in
+      record {
+        fed = xs ++ v.fed;
+        unfed = v.unfed;
+        out = w.out ++ v.out;
+        unwritten = v.unwritten;
+        left = v.left;
+        split = ap (λ l. xs ++ l) v.split ∙ sym (append_assoc xs v.fed v.unfed);
+        feeds = subst (λ o. Feeds makes m line (xs ++ v.fed) o m3 v.left) (sym (append_assoc w.out v.out v.unwritten)) (feeds_append makes m line xs w.out m2 w.left v.fed (v.out ++ v.unwritten) m3 v.left w.feeds v.feeds);
+        written = appends_more old mid new w.out v.out w.written v.written;
+      }
+
+  pub halted_before : (m : S) (line xs ys : List ℕ) (old new : Option (List ℕ)) (m2 : S) → Halted makes m line xs old new m2 → Halted makes m line (xs ++ ys) old new m2
+  halted_before m line xs ys old new m2 h = record {
+    fed = h.fed;
+    unfed = h.unfed ++ ys;
+    out = h.out;
+    unwritten = h.unwritten;
+    left = h.left;
+    split = ap (λ l. l ++ ys) h.split ∙ append_assoc h.fed h.unfed ys;
+    feeds = h.feeds;
+    written = h.written;
+  }
+
+  -- nothing more was fed
+  pub halted_here : (m : S) (line xs ys : List ℕ) (old new : Option (List ℕ)) (m2 : S) (kept : List ℕ) (over : Bool) → Went makes m line xs old new m2 kept over → Halted makes m line (xs ++ ys) old new m2
+  halted_here m line xs ys old new m2 kept over w = record {
+    fed = xs;
+    unfed = ys;
+    out = w.out;
+    unwritten = [];
+    left = w.left;
+    split = refl;
+    feeds = subst (λ o. Feeds makes m line xs o m2 w.left) (sym (append-nil w.out)) w.feeds;
+    written = w.written;
+  }
+
+  -- a line feed ends the line
+  pub went_line : (m m2 : S) (line out : List ℕ) (b : ℕ) (old new : Option (List ℕ)) (kept : List ℕ) (over : Bool) → (b == 10) ≡ true → makes m line out m2 → Appends old new out → IsPending kept over [] → Went makes m line (b ∷ []) old new m2 kept over
+  went_line m m2 line out b old new kept over is made w p =
+      let P : Bool → Type 0 = λ c. cond c ((mid : S) × (one : List ℕ) × (rest : List ℕ) × makes m line one mid × Feeds makes mid [] [] rest m2 [] × (out ≡ one ++ rest)) (Feeds makes m (line ++ b ∷ []) [] out m2 []) in
+      record { out = out; left = []; pending = p; feeds = subst P (sym is) (m2, out, [], made, (refl, refl, refl), sym (append-nil out)); written = w }
+
+  pub went_byte : (m : S) (line : List ℕ) (b : ℕ) (old : Option (List ℕ)) (kept : List ℕ) (over : Bool) → (b == 10) ≡ false → IsPending kept over (line ++ b ∷ []) → Went makes m line (b ∷ []) old old m kept over
+  went_byte m line b old kept over is p =
+      let P : Bool → Type 0 = λ c. cond c ((mid : S) × (one : List ℕ) × (rest : List ℕ) × makes m line one mid × Feeds makes mid [] [] rest m (line ++ b ∷ []) × (◌≡◌ {A = List ℕ} [] (one ++ rest))) (Feeds makes m (line ++ b ∷ []) [] [] m (line ++ b ∷ [])) in
+      record { out = []; left = line ++ b ∷ []; pending = p; feeds = subst P (sym is) (refl, refl, refl); written = appends_none old }
+
+  -- a line that was made and not written whole
+  pub halted_line : (m m2 : S) (line : List ℕ) (b : ℕ) (old new : Option (List ℕ)) → (b == 10) ≡ true → ((m2 ≡ m) × Appends old new []) ⊎ ((out : List ℕ) × (unwritten : List ℕ) × makes m line (out ++ unwritten) m2 × Appends old new out) → Halted makes m line (b ∷ []) old new m2
+  halted_line m m2 line b old new is (inl h) = record { fed = []; unfed = b ∷ []; out = []; unwritten = []; left = line; split = refl; feeds = (refl, h.0, refl); written = h.1 }
+  halted_line m m2 line b old new is (inr h) =
+      let P : Bool → Type 0 = λ c. cond c ((mid : S) × (one : List ℕ) × (rest : List ℕ) × makes m line one mid × Feeds makes mid [] [] rest m2 [] × (h.0 ++ h.1 ≡ one ++ rest)) (Feeds makes m (line ++ b ∷ []) [] (h.0 ++ h.1) m2 []) in
+      record { fed = b ∷ []; unfed = []; out = h.0; unwritten = h.1; left = []; split = refl; feeds = subst P (sym is) (m2, h.0 ++ h.1, [], h.2, (refl, refl, refl), sym (append-nil (h.0 ++ h.1))); written = h.3 }
+
+  pub first_lines : (m : S) (text : List ℕ) (old new : Option (List ℕ)) (m2 : S) → Halted makes m [] text old new m2 → FirstLines makes m text old new m2
+  first_lines m text old new m2 h =
+      let k = fed_lines makes m [] h.fed h.unfed (h.out ++ h.unwritten) m2 h.left h.feeds in
+      record {
+        lines = k.0;
+        more = k.1;
+        split = ap lines_of h.split ∙ (sym (onto_nothing makes (h.fed ++ h.unfed)) ∙ k.2);
+        out = h.out;
+        unwritten = h.unwritten;
+        outputs = k.3;
+        written = h.written;
+      }
+
+  pub halted_now : (m : S) (line xs : List ℕ) (old new : Option (List ℕ)) (m2 : S) (kept : List ℕ) (over : Bool) → Went makes m line xs old new m2 kept over → Halted makes m line xs old new m2
+  halted_now m line xs old new m2 kept over w = subst (λ l. Halted makes m line l old new m2) (append-nil xs) (halted_here m line xs [] old new m2 kept over w)
+
+  -- the last line was made and written whole
+  pub whole : (m : S) (text : List ℕ) (old mid new : Option (List ℕ)) (m2 m3 : S) (kept : List ℕ) (over : Bool) → (w : Went makes m [] text old mid m2 kept over) → (last : List ℕ) → makes m2 w.left last m3 → Appends mid new last
+      → (out : List ℕ) × Appends old new out × Outputs makes m (lines_of text) out m3
+  whole m text old mid new m2 m3 kept over w last made written = (
+    w.out ++ last,
+    appends_more old mid new w.out last w.written written,
+    subst (λ ls. Outputs makes m ls (w.out ++ last) m3) (onto_nothing makes text) (fed makes m [] text w.out m2 w.left last m3 w.feeds made),
+  )
+
+  -- the last line was not written whole
+  pub torn : (m : S) (text : List ℕ) (old mid new : Option (List ℕ)) (m2 m3 : S) (kept : List ℕ) (over : Bool) → (w : Went makes m [] text old mid m2 kept over)
+      → ((m3 ≡ m2) × Appends mid new []) ⊎ ((out : List ℕ) × (unwritten : List ℕ) × makes m2 w.left (out ++ unwritten) m3 × Appends mid new out) → FirstLines makes m text old new m3
+  torn m text old mid new m2 m3 kept over w (inl h) =
+      let out = appends_more old mid new w.out [] w.written h.1 in
+      first_lines m text old new m3 (record {
+        fed = text;
+        unfed = [];
+        out = w.out;
+        unwritten = [];
+        left = w.left;
+        split = sym (append-nil text);
+        feeds = subst (λ o. Feeds makes m [] text o m3 w.left) (sym (append-nil w.out)) (subst (λ n. Feeds makes m [] text w.out n w.left) (sym h.0) w.feeds);
+        written = subst (Appends old new) (append-nil w.out) out;
+      })
+  torn m text old mid new m2 m3 kept over w (inr h) = record {
+    lines = lines_of text;
+    more = [];
+    split = sym (append-nil (lines_of text));
+    out = w.out ++ h.0;
+    unwritten = h.1;
+    outputs = subst (λ o. Outputs makes m (lines_of text) o m3) (sym (append_assoc w.out h.0 h.1)) (subst (λ ls. Outputs makes m ls (w.out ++ (h.0 ++ h.1)) m3) (onto_nothing makes text) (fed makes m [] text w.out m2 w.left (h.0 ++ h.1) m3 w.feeds h.2));
+    written = appends_more old mid new w.out h.0 w.written h.3;
+  }

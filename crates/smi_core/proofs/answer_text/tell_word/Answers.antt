@@ -1,0 +1,6 @@
+use Rattle.sml_text.proofs.Writes.{told_as}
+use Rattle.smi_core.proofs.Tolds.{then_told}
+use Rattle.smi_core.proofs.answer_text.tell_word.Goals as goal
+
+pub returns : goal.returns
+returns g c = then_told c.tell.ensures.told (told_as _ _ _ _ _ _ c.tell-2.ensures.told c.as_bytes.ensures.bytes)

@@ -1,0 +1,36 @@
+use Rattle.std.proofs.Common.{◌≡◌, ◌<◌, ◌≤◌, ◌++◌, ◌∷◌, [], length, arith, sym, subst, refl, slice_set}
+use Rattle.std.proofs.lemmas.Grind.{common_steps}
+use Rattle.smi_core.specs.declared.entry.Verdict.TheVariants.{Full}
+use Rattle.smi_core.specs.Journal.{Move, post_of}
+use Rattle.smi_core.specs.World.{Machine, waiting, put_at, GoesOn}
+use Rattle.smi_core.specs.Parts.{IsNextPost}
+use Rattle.smi_core.proofs.Steps.{good_goes}
+use Rattle.smi_core.proofs.Moves.{post_goes}
+use Rattle.smi_core.proofs.machine.Core.post_refused.Goals as goal
+
+pub invariant_of-self-2 : goal.invariant_of-self-2
+invariant_of-self-2 c =
+    let P : Machine → Type 0 = λ M. c.args.o < length M.setup.domain.objects in
+    let Q : Machine → Type 0 = λ M. M.setup.capacity ≤ waiting c.args.target M.world in
+    let R : Machine → Type 0 = λ M. IsNextPost M.setup M.world c.args.o c.args.action c.args.target in
+    let within = subst P (sym c.self.view_is) c.requires.within in
+    let full = subst Q (sym c.self.view_is) c.requires.full in
+    let at = subst R (sym c.self.view_is) c.requires.next in
+    let x : Move = record { target = c.args.target; verdict = Full; action = c.args.action; args = record {} } in
+    let e : c.add_move.new.journal ≡ c.self.inside.journal ++ post_of c.args.o x ∷ [] = grind (arith, common_steps) in
+    let f : slice_set c.self.inside.turns.items c.get.result c.add_move.new.turn ≡ put_at c.self.inside.turns.items c.args.o x = grind (arith, common_steps) in
+    rw (e, f) (good_goes _ _ _ c.args.o c.self.invariant within (post_goes _ _ _ c.args.o x c.self.invariant within at (full, refl)))
+
+pub returns-clause-step : goal.returns-clause-step
+returns-clause-step c =
+    let P : Machine → Type 0 = λ M. c.args.o < length M.setup.domain.objects in
+    let Q : Machine → Type 0 = λ M. M.setup.capacity ≤ waiting c.args.target M.world in
+    let R : Machine → Type 0 = λ M. IsNextPost M.setup M.world c.args.o c.args.action c.args.target in
+    let within = subst P (sym c.self.view_is) c.requires.within in
+    let full = subst Q (sym c.self.view_is) c.requires.full in
+    let at = subst R (sym c.self.view_is) c.requires.next in
+    let x : Move = record { target = c.args.target; verdict = Full; action = c.args.action; args = record {} } in
+    let e : c.add_move.new.journal ≡ c.self.inside.journal ++ post_of c.args.o x ∷ [] = grind (arith, common_steps) in
+    let f : slice_set c.self.inside.turns.items c.get.result c.add_move.new.turn ≡ put_at c.self.inside.turns.items c.args.o x = grind (arith, common_steps) in
+    let G : Machine → Type 0 = λ M. GoesOn M.setup M.world c.args.o (record { journal = c.add_move.new.journal; arrived = c.self.inside.mailboxes.items; moves = slice_set c.self.inside.turns.items c.get.result c.add_move.new.turn }) in
+    subst G c.self.view_is (rw (e, f) (post_goes _ _ _ c.args.o x c.self.invariant within at (full, refl)))

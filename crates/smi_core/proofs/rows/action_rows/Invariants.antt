@@ -1,0 +1,12 @@
+use Rattle.std.proofs.Common.{map, All, ◌++◌}
+use Rattle.sml_tree.specs.Content.{item_content, state_content, action_content, instr_content, block_of}
+use Rattle.smi_core.specs.FileDomain as domain
+use Rattle.smi_core.specs.Placed.{InstrIsPlaced, ActionIsPlaced, StateIsPlaced, ClassIsPlaced, ObjectIsPlaced}
+use Rattle.smi_core.proofs.Rests.{Rest}
+use Rattle.smi_core.proofs.rows.action_rows.Given as goal
+
+abbrev pub invariant-loop-action : goal.invariant-loop-action
+invariant-loop-action g l = record {
+  left : Rest (λ ys. l.rows.items ++ map (domain.action_row l.names) (map action_content ys)) l.actions.items l.action-index (let ys = l.actions.items in map (domain.action_row l.names) (map action_content ys));
+  placed : All (ActionIsPlaced l.names) l.rows.items;
+}

@@ -1,0 +1,12 @@
+use Rattle.std.proofs.Common.{map, All, ◌++◌}
+use Rattle.sml_tree.specs.Content.{item_content, state_content, action_content, instr_content, block_of}
+use Rattle.smi_core.specs.FileDomain as domain
+use Rattle.smi_core.specs.Placed.{InstrIsPlaced, ActionIsPlaced, StateIsPlaced, ClassIsPlaced, ObjectIsPlaced}
+use Rattle.smi_core.proofs.Rests.{Rest}
+use Rattle.smi_core.proofs.rows.class_rows.Given as goal
+
+abbrev pub invariant-loop-item : goal.invariant-loop-item
+invariant-loop-item g l = record {
+  left : Rest (λ ys. l.rows.items ++ map (domain.class_row l.names) (domain.classes_in (map item_content ys))) l.items l.item-index (let ys = l.items in map (domain.class_row l.names) (domain.classes_in (map item_content ys)));
+  placed : All (ClassIsPlaced l.names) l.rows.items;
+}

@@ -1,0 +1,22 @@
+-- The texts of errors.
+use Rattle.std.specs.Prelude.{ℕ, List, codes}
+use Rattle.smi_core.specs.declared.error.StepError.{StepError}
+use Rattle.smi_core.specs.declared.error.StepError.TheVariants as error
+use Rattle.smi_core.specs.declared.error.CoreError.{CoreError}
+use Rattle.smi_core.specs.declared.error.CoreError.TheVariants as core_error
+
+-- why a step is refused, in words
+abbrev pub step_error_text : StepError → List ℕ
+step_error_text error.UnknownObject = codes "no object has this name"
+step_error_text error.UnknownAction = codes "no state of the object declares this action"
+step_error_text error.Memory = codes "want of memory"
+step_error_text error.Full = codes "the mailbox of the object is full"
+step_error_text error.Limit = codes "no more requests may be started"
+step_error_text error.AlreadyOpen = codes "an action is open at the object"
+step_error_text error.Empty = codes "no request waits at the object"
+step_error_text error.NotOpen = codes "no action is open at the object"
+
+-- why a core is not made, in words
+abbrev pub core_error_text : CoreError → List ℕ
+core_error_text core_error.BadConfig = codes "the capacity or the limit of starts is out of range"
+core_error_text core_error.Memory = codes "want of memory"

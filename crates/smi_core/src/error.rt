@@ -1,0 +1,69 @@
+//! Why a step or a core is refused.
+
+ghost use Rattle.std.specs.Prelude.{Some};
+ghost use Rattle.smi_core.specs.Errors.{step_error_text, core_error_text};
+
+use std::error::Error;
+use std::fmt;
+
+/// Why a step is refused. A refused step changes nothing.
+#[derive(Clone, Copy, Debug, Eq, PartialEq)]
+pub enum StepError {
+    /// No object has the name.
+    UnknownObject,
+    /// No state of the object's class declares the action.
+    UnknownAction,
+    /// Want of memory.
+    Memory,
+    /// As many requests wait at the object as its mailbox holds.
+    Full,
+    /// As many requests were started as may be.
+    Limit,
+    /// An action is open at the object.
+    AlreadyOpen,
+    /// No request waits at the object.
+    Empty,
+    /// No action is open at the object.
+    NotOpen,
+}
+
+impl fmt::Display for StepError {
+    ghost output = { λ e. Some (step_error_text e) };
+
+    fn fmt<W: fmt::Write>(&self, f: &mut fmt::Formatter<W>) -> fmt::Result {
+        f.write_str(match *self {
+            StepError::UnknownObject => "no object has this name",
+            StepError::UnknownAction => "no state of the object declares this action",
+            StepError::Memory => "want of memory",
+            StepError::Full => "the mailbox of the object is full",
+            StepError::Limit => "no more requests may be started",
+            StepError::AlreadyOpen => "an action is open at the object",
+            StepError::Empty => "no request waits at the object",
+            StepError::NotOpen => "no action is open at the object",
+        })
+    }
+}
+
+/// Why a core is not made.
+#[derive(Clone, Copy, Debug, Eq, PartialEq)]
+pub enum CoreError {
+    /// The capacity is outside 1 to 1,024, or the count of starts outside 1 to 1,000,000.
+    BadConfig,
+    /// Want of memory.
+    Memory,
+}
+
+impl fmt::Display for CoreError {
+    ghost output = { λ e. Some (core_error_text e) };
+
+    fn fmt<W: fmt::Write>(&self, f: &mut fmt::Formatter<W>) -> fmt::Result {
+        f.write_str(match *self {
+            CoreError::BadConfig => "the capacity or the limit of starts is out of range",
+            CoreError::Memory => "want of memory",
+        })
+    }
+}
+
+impl Error for StepError {}
+
+impl Error for CoreError {}

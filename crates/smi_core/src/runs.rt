@@ -1,0 +1,46 @@
+//! A list of steps from the opening world.
+
+ghost use Rattle.std.specs.Prelude.{◌≡◌, ◌↔◌, IfOk, Ok, Err};
+ghost use Rattle.std.specs.Arc.{arc_value};
+ghost use Rattle.smi_core.specs.Legal.{IsLegal};
+ghost use Rattle.smi_core.specs.World.{FrontOk, IsConfig};
+ghost use Rattle.smi_core.specs.Laws.{Reaches};
+
+use crate::domain::Domain;
+use crate::error::{CoreError, StepError};
+use crate::machine::Core;
+use crate::step::{Answer, Step};
+use std::alloc::Global;
+use std::sync::Arc;
+
+/// Makes steps in order on a new core, and gives the core with their answers.
+///
+/// Want of memory of a step is one of the answers; that of the core or of the list is the error.
+/// For the numbers see [`Core::new`], for the cost of a step [`Core::step`].
+pub fn run(
+    alloc: Global,
+    domain: Arc<Domain>,
+    capacity: usize,
+    max_starts: usize,
+    steps: &[Step],
+) -> Result<(Core, Vec<Result<Answer, StepError>>), CoreError>
+    ensures bad_config { (result ≡ Err CoreError.BadConfig) ↔ ¬ IsConfig capacity max_starts }
+    ensures setup { IfOk result (λ made. made.0.setup ≡ record {
+      domain = arc_value domain;
+      capacity = capacity;
+      max_starts = max_starts;
+    }) }
+    ensures run { IfOk result (λ made. Reaches made.0.setup steps.now made.1.items made.0.world) }
+    ensures legal { IfOk result (λ made. IsLegal made.0.setup.domain made.0.world.journal) }
+    ensures front { IfOk result (λ made. FrontOk made.0.world) }
+{
+    let mut core = Core::new(alloc, domain, capacity, max_starts)?;
+    let mut answers = Vec::new(alloc);
+    for step in steps {
+        let answer = core.step(step);
+        if answers.push(answer).is_err() {
+            return Err(CoreError::Memory);
+        }
+    }
+    Ok((core, answers))
+}

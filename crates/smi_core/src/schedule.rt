@@ -1,0 +1,320 @@
+//! Schedules: lines of steps from a reader, and what they write to a writer.
+ghost use Rattle.std.specs.Prelude.{◌≡◌, ℕ, List, [], ◌++◌, ◌∷◌, ◌<◌, ◌≤◌, ◌⊎◌, length, take, drop, Option, IfSome, IfNone, OnOk, OnErr, Ok, Err, Some, codes};
+ghost use Rattle.std.specs.Io.KnownBytes.{Appends, Consumes, IsAtEnd, Keeps};
+ghost use Rattle.sml_text.specs.Written.{Told};
+ghost use Rattle.smi_core.specs.Feeds.{Outputs, IsPending, Went, Halted, FirstLines, lines_of};
+ghost use Rattle.smi_core.specs.Line.{LineReads};
+ghost use Rattle.smi_core.specs.Output.{Writes, LineWrites, refused_text};
+
+use crate::answer_text::{tell_answer, tell_refused};
+use crate::entry::Entry;
+use crate::error::StepError;
+use crate::line::{LONGEST_LINE, LineError, read_step};
+use crate::machine::Core;
+use crate::step::Step;
+use std::alloc::{AllocError, Global};
+use std::io::{Read, Write};
+
+/// Why a schedule was not run to its end.
+#[derive(Clone, Copy, Debug, PartialEq, Eq)]
+pub enum ScheduleFault {
+    /// The reader failed.
+    Read,
+    /// The writer failed, or took no byte of some.
+    Write,
+    /// The text has more than 16,777,216 bytes.
+    TooLong,
+    /// Want of memory.
+    Memory,
+}
+
+// Why a line was not ended.
+enum LineFault {
+    Write,
+    Memory,
+}
+
+impl LineFault {
+    fn of_schedule(self) -> ScheduleFault
+        ensures read { result ≡ ScheduleFault.Read → ⊥ }
+        ensures too_long { result ≡ ScheduleFault.TooLong → ⊥ }
+    {
+        match self {
+            LineFault::Write => ScheduleFault::Write,
+            LineFault::Memory => ScheduleFault::Memory,
+        }
+    }
+}
+
+// How many bytes a schedule may have.
+const LONGEST_TEXT: usize = 16_777_216;
+
+// What is kept of a line whose end has not come: its bytes, unless there are too many.
+#[derive(Drop)]
+struct Pending {
+    kept: Vec<u8>,
+    over: bool,
+}
+
+impl Pending {
+    fn add(&mut self, b: u8) -> Result<(), AllocError>
+        ensures ok { OnOk result ((line : List ℕ) → IsPending self.old.kept.items self.old.over line → IsPending self.new.kept.items self.new.over (line ++ b ∷ [])) }
+        ensures err { OnErr result ((self.new.kept.items ≡ self.old.kept.items) × (self.new.over ≡ self.old.over)) }
+    {
+        if self.over {
+            return Ok(());
+        }
+        if self.kept.len() >= LONGEST_LINE {
+            self.over = true;
+            return Ok(());
+        }
+        self.kept.push(b)?;
+        Ok(())
+    }
+
+    // What the line asks.
+    fn read(&self) -> Result<Option<Step>, LineError>
+        ensures { (line : List ℕ) → IsPending self.now.kept.items self.now.over line → LineReads line result }
+    {
+        if self.over {
+            Err(LineError::BadLine)
+        } else {
+            read_step(&self.kept)
+        }
+    }
+
+    // Begins the next line.
+    fn clear(&mut self)
+        ensures { IsPending self.new.kept.items self.new.over [] }
+    {
+        self.kept.clear();
+        self.over = false;
+    }
+}
+
+// The entries from a place on.
+fn behind(entries: &[Entry], first: usize) -> &[Entry]
+    ensures { result.now ≡ drop first entries.now }
+{
+    if first <= entries.len() {
+        entries.split_at(first).1
+    } else {
+        &[]
+    }
+}
+
+// Makes a step and writes its lines. Want of memory changes nothing and writes nothing.
+fn make_step<W: Write>(
+    core: &mut Core,
+    writer: &mut W,
+    failed: &mut bool,
+    step: &Step,
+) -> Result<(), LineFault>
+    ensures ok { OnOk result ((out : List ℕ) × Writes core.old (Ok (Some step.now)) out core.new × Told (W.contents writer.old) failed.old (W.contents writer.new) failed.new out) }
+    ensures err { OnErr result ((core.new ≡ core.old) × (W.contents writer.new ≡ W.contents writer.old)) }
+{
+    let first = core.journal().len();
+    let answer = core.step(step);
+    if let Err(StepError::Memory) = answer {
+        return Err(LineFault::Memory);
+    }
+    let added = behind(core.journal().entries(), first);
+    tell_answer(writer, failed, core.domain(), step, &answer, added);
+    Ok(())
+}
+
+// Makes a step and writes its lines, or the first part of them.
+fn step_line<W: Write>(core: &mut Core, writer: &mut W, step: &Step) -> Result<(), LineFault>
+    ensures ok { OnOk result ((out : List ℕ) × Writes core.old (Ok (Some step.now)) out core.new × Appends (W.contents writer.old) (W.contents writer.new) out) }
+    ensures err { OnErr result
+        (((core.new ≡ core.old) × Appends (W.contents writer.old) (W.contents writer.new) [])
+        ⊎ ((out : List ℕ) × (unwritten : List ℕ) × Writes core.old (Ok (Some step.now)) (out ++ unwritten) core.new × Appends (W.contents writer.old) (W.contents writer.new) out)) }
+{
+    let mut failed = false;
+    make_step(core, writer, &mut failed, step)?;
+    if failed {
+        return Err(LineFault::Write);
+    }
+    Ok(())
+}
+
+// Writes that a line is no step, or the first part of that.
+fn bad_line<W: Write>(writer: &mut W) -> Result<(), LineFault>
+    ensures ok { OnOk result (Appends (W.contents writer.old) (W.contents writer.new) (refused_text (codes "BadLine"))) }
+    ensures err { OnErr result ((out : List ℕ) × (unwritten : List ℕ) × (refused_text (codes "BadLine") ≡ out ++ unwritten) × Appends (W.contents writer.old) (W.contents writer.new) out) }
+{
+    let mut failed = false;
+    tell_refused(writer, &mut failed, b"BadLine");
+    if failed {
+        return Err(LineFault::Write);
+    }
+    Ok(())
+}
+
+// Does what a line asks and writes what it writes, or the first part of that.
+fn make_line<W: Write>(
+    core: &mut Core,
+    writer: &mut W,
+    asked: Result<Option<Step>, LineError>,
+) -> Result<(), LineFault>
+    ensures ok { OnOk result ((out : List ℕ) × Writes core.old asked out core.new × Appends (W.contents writer.old) (W.contents writer.new) out) }
+    ensures err { OnErr result
+        (((core.new ≡ core.old) × Appends (W.contents writer.old) (W.contents writer.new) [])
+        ⊎ ((out : List ℕ) × (unwritten : List ℕ) × Writes core.old asked (out ++ unwritten) core.new × Appends (W.contents writer.old) (W.contents writer.new) out)) }
+{
+    match asked {
+        Err(LineError::BadLine) => bad_line(writer),
+        Err(LineError::Memory) => Err(LineFault::Memory),
+        Ok(None) => Ok(()),
+        Ok(Some(step)) => step_line(core, writer, &step),
+    }
+}
+
+// Ends the line: does what it asks, writes what it writes, and begins the next line.
+fn end_line<W: Write>(
+    core: &mut Core,
+    writer: &mut W,
+    pending: &mut Pending,
+) -> Result<(), LineFault>
+    ensures ok { (line : List ℕ) → IsPending pending.old.kept.items pending.old.over line → OnOk result
+        ((out : List ℕ) × LineWrites core.old line out core.new × Appends (W.contents writer.old) (W.contents writer.new) out × IsPending pending.new.kept.items pending.new.over []) }
+    ensures err { (line : List ℕ) → IsPending pending.old.kept.items pending.old.over line → OnErr result
+        (((core.new ≡ core.old) × Appends (W.contents writer.old) (W.contents writer.new) [])
+        ⊎ ((out : List ℕ) × (unwritten : List ℕ) × LineWrites core.old line (out ++ unwritten) core.new × Appends (W.contents writer.old) (W.contents writer.new) out)) }
+{
+    let asked = pending.read();
+    if let Err(fault) = make_line(core, writer, asked) {
+        return Err(fault);
+    }
+    pending.clear();
+    Ok(())
+}
+
+fn feed_byte<W: Write>(
+    core: &mut Core,
+    writer: &mut W,
+    pending: &mut Pending,
+    b: u8,
+) -> Result<(), LineFault>
+    ensures ok { (line : List ℕ) → IsPending pending.old.kept.items pending.old.over line → OnOk result
+        (Went LineWrites core.old line (b ∷ []) (W.contents writer.old) (W.contents writer.new) core.new pending.new.kept.items pending.new.over) }
+    ensures err { (line : List ℕ) → IsPending pending.old.kept.items pending.old.over line → OnErr result
+        (Halted LineWrites core.old line (b ∷ []) (W.contents writer.old) (W.contents writer.new) core.new) }
+{
+    if b == b'\n' {
+        return end_line(core, writer, pending);
+    }
+    let Ok(()) = pending.add(b) else {
+        return Err(LineFault::Memory);
+    };
+    Ok(())
+}
+
+fn feed_chunk<W: Write>(
+    core: &mut Core,
+    writer: &mut W,
+    pending: &mut Pending,
+    chunk: &[u8],
+) -> Result<(), LineFault>
+    ensures ok { (line : List ℕ) → IsPending pending.old.kept.items pending.old.over line → OnOk result
+        (Went LineWrites core.old line chunk.now (W.contents writer.old) (W.contents writer.new) core.new pending.new.kept.items pending.new.over) }
+    ensures err { (line : List ℕ) → IsPending pending.old.kept.items pending.old.over line → OnErr result
+        (Halted LineWrites core.old line chunk.now (W.contents writer.old) (W.contents writer.new) core.new) }
+{
+    for b in chunk {
+        if let Err(fault) = feed_byte(core, writer, pending, *b) {
+            return Err(fault);
+        }
+    }
+    Ok(())
+}
+
+// What gives bytes, some at a call, and knows whether it has failed to.
+trait Source {
+    ghost remaining: { Self → Option (List ℕ) };
+
+    ghost has_failed: { Self → Type 0 };
+
+    // The next bytes: so many at the front of the buffer. None where the source failed.
+    fn fetch(&mut self, buf: &mut [u8]) -> Option<usize>
+        ensures some { IfSome result (λ n. (n ≤ length buf.new) × Consumes (remaining self.old) (remaining self.new) (take n buf.new)
+            × (n ≡ 0 → 0 < length buf.new → IsAtEnd (remaining self.new))) }
+        ensures none { IfNone result (has_failed self.new × Keeps (remaining self.old) (remaining self.new)) };
+}
+
+impl<R: Read> Source for R {
+    ghost remaining = { R.remaining };
+
+    ghost has_failed = { λ _. Unit {0} };
+
+    fn fetch(&mut self, buf: &mut [u8]) -> Option<usize> {
+        match self.read(buf) {
+            Ok(n) => Some(n),
+            Err(_) => None,
+        }
+    }
+}
+
+// Runs a schedule from a source. `Read` is answered only of a source that has failed.
+fn run_from<S: Source, W: Write>(
+    alloc: Global,
+    core: &mut Core,
+    source: &mut S,
+    writer: &mut W,
+) -> Result<(), ScheduleFault>
+    ensures ok { OnOk result ((text : List ℕ) × Consumes (S.remaining source.old) (S.remaining source.new) text × IsAtEnd (S.remaining source.new) × (length text ≤ 16777216)
+        × ((out : List ℕ) × Appends (W.contents writer.old) (W.contents writer.new) out × Outputs LineWrites core.old (lines_of text) out core.new)) }
+    ensures err { OnErr result ((text : List ℕ) × Consumes (S.remaining source.old) (S.remaining source.new) text
+        × FirstLines LineWrites core.old text (W.contents writer.old) (W.contents writer.new) core.new) }
+    ensures too_long { result ≡ Err ScheduleFault.TooLong → (text : List ℕ) × Consumes (S.remaining source.old) (S.remaining source.new) text × (16777216 < length text) }
+    ensures read { result ≡ Err ScheduleFault.Read → S.has_failed source.new }
+{
+    let mut buf = [0u8; 4096];
+    let mut pending = Pending {
+        kept: Vec::new(alloc),
+        over: false,
+    };
+    let mut total = 0usize;
+    'reads: loop {
+        let Some(n) = source.fetch(&mut buf) else {
+            return Err(ScheduleFault::Read);
+        };
+        if n == 0 {
+            break;
+        }
+        if n > LONGEST_TEXT - total {
+            return Err(ScheduleFault::TooLong);
+        }
+        total += n;
+        if let Err(fault) = feed_chunk(core, writer, &mut pending, &buf[..n]) {
+            return Err(fault.of_schedule());
+        }
+    }
+    match end_line(core, writer, &mut pending) {
+        Ok(()) => Ok(()),
+        Err(fault) => Err(fault.of_schedule()),
+    }
+}
+
+/// Runs a schedule: reads it to its end, makes the steps of its lines in order, and writes what they
+/// write. (docs/FORMATS.md, "Schedules".)
+///
+/// Lines that are no steps, and steps that are refused, are told in the output and end nothing. `Read`
+/// comes where the reader failed, `Write` where the writer failed or took nothing, `TooLong` past
+/// 16,777,216 bytes, `Memory` where a growth was refused, of a step too. After a fault the first lines
+/// of what was read are made, and a front of what they write is written. It is read in parts of 4,096
+/// bytes; each turn reads a byte or ends. Memory is taken for one line and for the journal.
+pub fn run_schedule<R: Read, W: Write>(
+    alloc: Global,
+    core: &mut Core,
+    reader: &mut R,
+    writer: &mut W,
+) -> Result<(), ScheduleFault>
+    ensures ok { OnOk result ((text : List ℕ) × Consumes (R.remaining reader.old) (R.remaining reader.new) text × IsAtEnd (R.remaining reader.new) × (length text ≤ 16777216)
+        × ((out : List ℕ) × Appends (W.contents writer.old) (W.contents writer.new) out × Outputs LineWrites core.old (lines_of text) out core.new)) }
+    ensures err { OnErr result ((text : List ℕ) × Consumes (R.remaining reader.old) (R.remaining reader.new) text
+        × FirstLines LineWrites core.old text (W.contents writer.old) (W.contents writer.new) core.new) }
+    ensures too_long { result ≡ Err ScheduleFault.TooLong → (text : List ℕ) × Consumes (R.remaining reader.old) (R.remaining reader.new) text × (16777216 < length text) }
+{
+    run_from(alloc, core, reader, writer)
+}

@@ -1,0 +1,157 @@
+//! Why a command ends before it is done.
+ghost use Rattle.std.specs.Prelude.{◌≡◌, ◌≢◌, ◌≤◌};
+ghost use Rattle.std.specs.IoError.{error_kind};
+ghost use Rattle.smirun.specs.Status.{fault_status};
+
+use smi_core::{CheckError, CheckKind, CoreError, PlainError, ScheduleFault};
+use sml_read::{ReadError, ReadErrorKind};
+use std::io::ErrorKind;
+use std::{fmt, io};
+
+/// Why a command ends before it is done. Its `Display` is the fault line (docs/FORMATS.md, "Fault
+/// lines and exit statuses"), without the line feed. Each text is the word of the command line that
+/// names the file.
+#[derive(Drop)]
+pub enum Fault<'a> {
+    /// The text is no file of the language.
+    Read(&'a str, ReadError),
+    /// The file is not well-formed.
+    Check(&'a str, CheckError),
+    /// The file uses a form that is not executed yet.
+    NotYet(&'a str),
+    /// The file cannot be opened or read.
+    Unreadable(&'a str),
+    /// The schedule is past its limit.
+    TooLong(&'a str),
+    /// Standard output cannot be written.
+    Output,
+    /// An option is out of its range. The parser of the command line refuses one before, so no words
+    /// lead here.
+    Options,
+    /// Want of memory.
+    Memory,
+}
+
+impl<'a> Fault<'a> {
+    /// The exit status.
+    pub fn status(&self) -> u8
+        ensures status { result ≡ fault_status self.now }
+        ensures range { result ≤ 3 }
+    {
+        match *self {
+            Fault::Read(..) | Fault::Check(..) => 1,
+            Fault::NotYet(_) | Fault::Unreadable(_) | Fault::TooLong(_) | Fault::Output => 1,
+            Fault::Options => 2,
+            Fault::Memory => 3,
+        }
+    }
+
+    /// The fault of a text that was refused.
+    pub fn of_text(file: &'a str, error: ReadError) -> Fault<'a>
+        ensures memory { error.kind ≡ ReadErrorKind.Memory → result ≡ Fault.Memory }
+        ensures read { error.kind ≢ ReadErrorKind.Memory → result ≡ Fault.Read file.entry error }
+    {
+        match error.kind {
+            ReadErrorKind::Memory => Fault::Memory,
+            _ => Fault::Read(file, error),
+        }
+    }
+
+    /// The fault of a file that has no domain.
+    pub fn of_file(file: &'a str, error: PlainError) -> Fault<'a>
+        ensures not_yet { error ≡ PlainError.NotYet → result ≡ Fault.NotYet file.entry }
+        ensures check { (e : CheckError) → error ≡ PlainError.Check e → e.kind ≢ CheckKind.Memory
+            → result ≡ Fault.Check file.entry e }
+        ensures memory { (e : CheckError) → error ≡ PlainError.Check e → e.kind ≡ CheckKind.Memory
+            → result ≡ Fault.Memory }
+    {
+        match error {
+            PlainError::NotYet => Fault::NotYet(file),
+            PlainError::Check(error) => match error.kind {
+                CheckKind::Memory => Fault::Memory,
+                _ => Fault::Check(file, error),
+            },
+        }
+    }
+
+    /// The fault of a file that could not be opened or read.
+    pub fn of_input(file: &'a str, error: &io::Error) -> Fault<'a>
+        ensures memory { error_kind error.now ≡ ErrorKind.OutOfMemory → result ≡ Fault.Memory }
+        ensures unreadable { error_kind error.now ≢ ErrorKind.OutOfMemory
+            → result ≡ Fault.Unreadable file.entry }
+    {
+        match error.kind() {
+            ErrorKind::OutOfMemory => Fault::Memory,
+            _ => Fault::Unreadable(file),
+        }
+    }
+
+    /// The fault of a core that could not be made.
+    pub fn of_core(error: CoreError) -> Fault<'a>
+        ensures bad_config { error ≡ CoreError.BadConfig → result ≡ Fault.Options }
+        ensures memory { error ≡ CoreError.Memory → result ≡ Fault.Memory }
+    {
+        match error {
+            CoreError::BadConfig => Fault::Options,
+            CoreError::Memory => Fault::Memory,
+        }
+    }
+
+    /// The fault of a schedule that could not be run to its end.
+    pub fn of_schedule(schedule: &'a str, fault: ScheduleFault) -> Fault<'a>
+        ensures read { fault ≡ ScheduleFault.Read → result ≡ Fault.Unreadable schedule.entry }
+        ensures write { fault ≡ ScheduleFault.Write → result ≡ Fault.Output }
+        ensures too_long { fault ≡ ScheduleFault.TooLong → result ≡ Fault.TooLong schedule.entry }
+        ensures memory { fault ≡ ScheduleFault.Memory → result ≡ Fault.Memory }
+    {
+        match fault {
+            ScheduleFault::Read => Fault::Unreadable(schedule),
+            ScheduleFault::Write => Fault::Output,
+            ScheduleFault::TooLong => Fault::TooLong(schedule),
+            ScheduleFault::Memory => Fault::Memory,
+        }
+    }
+}
+
+impl fmt::Display for Fault<'_> {
+    ghost use Rattle.smirun.specs.Status.{fault_line};
+
+    ghost output = { fault_line };
+
+    fn fmt<W: fmt::Write>(&self, f: &mut fmt::Formatter<W>) -> fmt::Result {
+        match self {
+            Fault::Read(file, ReadError { kind, offset }) => {
+                write!(
+                    f,
+                    "{file} read {} {} at {offset}",
+                    kind.number(),
+                    kind.name()
+                )
+            }
+            Fault::Check(file, error) => write_check(f, file, error),
+            Fault::NotYet(file) => write!(f, "{file} not yet"),
+            Fault::Unreadable(file) => write!(f, "{file} unreadable"),
+            Fault::TooLong(file) => write!(f, "{file} too long"),
+            Fault::Output => f.write_str("output fault"),
+            Fault::Options => f.write_str("error: an option is out of its range"),
+            Fault::Memory => f.write_str("memory"),
+        }
+    }
+}
+
+fn write_check<W: fmt::Write>(
+    f: &mut fmt::Formatter<W>,
+    file: &str,
+    error: &CheckError,
+) -> fmt::Result {
+    write!(
+        f,
+        "{file} check {} {} ",
+        error.kind.number(),
+        error.kind.name()
+    )?;
+    for byte in error.name.as_bytes() {
+        f.write_char(*byte as char)?;
+    }
+    Ok(())
+}

@@ -1,0 +1,86 @@
+//! The texts of `--help`.
+
+pub const ABOUT: &str = "\
+Runs state manager domains.
+
+A domain is a text that describes equipment and what is done with it. A class declares states, and
+a state declares actions; an action is a list of instructions, such as an order to another object
+or a move to another state. Objects belong to classes. Every object keeps the requests that it was
+sent in a mailbox, and performs them one after the other, in the order in which they came.";
+
+pub const STATUSES: &str = "\
+`smirun step --help` has the forms of both files and an example.
+
+Exit status: 0 done, also where single steps were refused; 1 an input was refused, or a file could
+not be read or the output not be written; 2 a wrong command line; 3 not enough memory.";
+
+pub const STEP: &str = "\
+Runs a schedule on a domain, and writes one line for each thing that is done.";
+
+pub const FILE: &str = "The domain file";
+
+pub const SCHEDULE: &str = "The schedule: a text with one step a line";
+
+pub const CAPACITY: &str = "How many requests wait at an object at most, 1 to 1024";
+
+pub const MAX_STARTS: &str = "How many actions are started at most, 1 to 1000000";
+
+pub const STEP_MORE: &str = "\
+FILE, the domain file, has at most 1048576 bytes of ASCII. `!` begins a comment. For example:
+
+  class: LAMP
+    state: OFF
+      action: LIGHT
+        move_to ON
+    state: ON
+  class: BOSS
+    state: IDLE
+      action: GO
+        do LIGHT L
+        move_to DONE
+    state: DONE
+  object: L is_of_class LAMP
+  object: B is_of_class BOSS
+
+An object begins in the first state of its class. `do LIGHT L` sends the request LIGHT to L and goes
+on; `move_to DONE` ends the action. Classes, states without marks, actions without parameters, `do`
+without arguments, `move_to` and objects are executed today; a file that uses another form of the
+language is refused as `FILE not yet`.
+
+SCHEDULE has at most 16777216 bytes. Each line is one step, of at most 8192 bytes, or has only
+blanks and a comment. Names may be written in capitals or not. The steps:
+
+  request @S OBJECT ACTION   session @S, which is @1 to @8, asks OBJECT for ACTION
+  start OBJECT               OBJECT takes the request that waits longest and begins its action
+  go OBJECT                  the action that is open at OBJECT makes its next move
+
+What is written, one line each, with all names in capitals:
+
+  accept @S OBJECT NUMBER ACTION           the request waits; it is number NUMBER, counted from 0,
+                                           of those that @S has sent to OBJECT
+  start OBJECT SENDER NUMBER ACTION        the action of that request has begun
+  post OBJECT TARGET NUMBER ACTION         a `do` of OBJECT has sent the request to TARGET
+  post OBJECT TARGET refused full ACTION   a `do` of OBJECT, but as many wait at TARGET as may
+  end OBJECT STATE                         the action has ended, and OBJECT is in STATE
+  end OBJECT skipped                       the state of OBJECT does not declare the action, so it
+                                           ended as it began
+  refused KIND                             the step was not done, and nothing has changed
+
+KIND is BadLine, UnknownObject, UnknownAction, Full, Limit, AlreadyOpen, Empty or NotOpen.
+With the domain above, the schedule on the left writes what is on the right:
+
+  request @1 B GO     accept @1 B 0 GO
+  start B             start B @1 0 GO
+  go B                post B L 0 LIGHT
+  go B                end B DONE
+  start L             start L B 0 LIGHT
+  go L                end L ON
+  start L             refused Empty
+
+A file that is refused is told on standard error, by FILE and one of: `read NO KIND at OFFSET` (no
+text of the language; OFFSET counts bytes from 0), `check NO KIND NAME` (not well-formed), `not yet`,
+`unreadable`, `too long`. `output fault` says that the output cannot be written, `memory` that there
+is not enough memory.
+
+Exit status: 0 done, also where steps were refused; 1 an input was refused, or a file could not be
+read or the output not be written; 2 a wrong command line; 3 not enough memory.";

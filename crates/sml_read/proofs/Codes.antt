@@ -1,0 +1,20 @@
+-- The numbers of kinds.
+use Rattle.std.proofs.Common.{◌≡◌, ℕ, [], ◌∷◌, refl, true, nat_eq, get_or, sym, ap, ◌∙◌, arith}
+use Rattle.std.proofs.lemmas.Bool.Decides.{nat_tests}
+use Rattle.sml_tree.specs.declared.token_kind.TokenKind.{TokenKind}
+use Rattle.sml_tree.specs.declared.token_kind.TokenKind.TheVariants.{Class, Object, ObjectSet, IsOfClass, State, Action, Parameters, IntKind, StringKind, Do, If, Then, Else, Endif, Set, MoveTo, TerminateAction, InState, NotInState, AllIn, AnyIn, And, Or, Not, Wait, Insert, Remove, In, From, Associated, InitialState, DeadState, Colon, Comma, Equals, OpenBracket, CloseBracket, OpenBrace, CloseBrace, Slash, Name, Int, Str, Stray}
+use Rattle.sml_read.specs.Machine.{code}
+
+abbrev kind_at : ℕ → TokenKind
+kind_at n = get_or (Class ∷ Object ∷ ObjectSet ∷ IsOfClass ∷ State ∷ Action ∷ Parameters ∷ IntKind ∷ StringKind ∷ Do ∷ If ∷ Then ∷ Else ∷ Endif ∷ Set ∷ MoveTo ∷ TerminateAction ∷ InState ∷ NotInState ∷ AllIn ∷ AnyIn ∷ And ∷ Or ∷ Not ∷ Wait ∷ Insert ∷ Remove ∷ In ∷ From ∷ Associated ∷ InitialState ∷ DeadState ∷ Colon ∷ Comma ∷ Equals ∷ OpenBracket ∷ CloseBracket ∷ OpenBrace ∷ CloseBrace ∷ Slash ∷ Name ∷ Int ∷ Str ∷ Stray ∷ []) n Class
+
+kind_at_code : (a : TokenKind) → kind_at (code a) ≡ a
+kind_at_code Class = refl
+kind_at_code _ = refl
+
+-- kinds of one number are one
+pub same_kind : (a b : TokenKind) → nat_eq (code a) (code b) ≡ true → a ≡ b
+same_kind a b h = let e : code a ≡ code b = grind (arith, nat_tests) in sym (kind_at_code a) ∙ ap kind_at e ∙ kind_at_code b
+
+pub same_code : (a b : TokenKind) → a ≡ b → nat_eq (code a) (code b) ≡ true
+same_code a b e = let c : code a ≡ code b = ap code e in grind (arith, nat_tests)

@@ -1,0 +1,14 @@
+pub mod Bracketed
+pub mod Codes
+pub mod Complete
+pub mod Faulty
+pub mod Heads
+pub mod Late
+pub mod Lists
+pub mod Naming
+pub mod Only
+pub mod Sound
+pub mod Refused
+pub mod Sorts
+pub mod Steps
+pub mod Tables

@@ -1,0 +1,14 @@
+use Rattle.std.proofs.Common.{◌≤◌, ◌++◌, length, map, vec_len}
+use Rattle.sml_tree.specs.declared.token_kind.TokenKind.TheVariants.{CloseBracket}
+use Rattle.sml_tree.specs.Content.{action_param_content}
+use Rattle.sml_tree.specs.Form.{ActionParamList, MoreActionParam}
+use Rattle.sml_read.specs.Lists.{LeadsTo}
+use Rattle.sml_read.proofs.reader.Reader.action_params.Given as goal
+
+-- what was read stands before what is left
+abbrev pub invariant-loop-params : goal.invariant-loop-params
+invariant-loop-params g l =
+    (length l.self ≤ length l.fn.self) × (vec_len l.params ≤ 16) × LeadsTo ActionParamList (MoreActionParam (vec_len l.params)) CloseBracket (λ v. map action_param_content l.params.items ++ v) l.fn.self l.self
+
+abbrev pub decreases-loop-params : goal.decreases-loop-params
+decreases-loop-params g l = length l.self

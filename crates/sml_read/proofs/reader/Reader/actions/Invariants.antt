@@ -1,0 +1,13 @@
+use Rattle.std.proofs.Common.{◌≤◌, ◌++◌, length, map, vec_len}
+use Rattle.sml_tree.specs.Content.{action_content}
+use Rattle.sml_tree.specs.Form.{Action}
+use Rattle.sml_read.specs.Reads.{Leads}
+use Rattle.sml_read.proofs.reader.Reader.actions.Given as goal
+
+-- what was read stands before what is left
+abbrev pub invariant-loop-actions : goal.invariant-loop-actions
+invariant-loop-actions g l =
+    (length l.self ≤ length l.fn.self) × (vec_len l.actions ≤ 32) × Leads (Action 0) (Action (vec_len l.actions)) (λ v. map action_content l.actions.items ++ v) l.fn.self l.self
+
+abbrev pub decreases-loop-actions : goal.decreases-loop-actions
+decreases-loop-actions g l = length l.self

@@ -1,0 +1,14 @@
+use Rattle.std.proofs.Common.{◌≤◌, ◌++◌, length, map}
+use Rattle.sml_tree.specs.Content.{item_content}
+use Rattle.sml_tree.specs.Form.{File}
+use Rattle.sml_read.specs.Counts.{file_part, IsWithin}
+use Rattle.sml_read.specs.Reads.{Leads}
+use Rattle.sml_read.proofs.reader.Reader.file.Given as goal
+
+-- what was read stands before what is left
+abbrev pub invariant-loop-items : goal.invariant-loop-items
+invariant-loop-items g l =
+    (length l.self ≤ length l.fn.self) × IsWithin l.counts × Leads (File 0 0 0) (file_part l.counts) (λ v. map item_content l.items.items ++ v) l.fn.self l.self
+
+abbrev pub decreases-loop-items : goal.decreases-loop-items
+decreases-loop-items g l = length l.self

@@ -1,0 +1,13 @@
+use Rattle.std.proofs.Common.{◌≤◌, ◌++◌, length, map, vec_len}
+use Rattle.sml_tree.specs.Content.{state_content}
+use Rattle.sml_tree.specs.Form.{State}
+use Rattle.sml_read.specs.Reads.{Leads}
+use Rattle.sml_read.proofs.reader.Reader.states.Given as goal
+
+-- what was read stands before what is left
+abbrev pub invariant-loop-states : goal.invariant-loop-states
+invariant-loop-states g l =
+    (length l.self ≤ length l.fn.self) × (vec_len l.states ≤ 32) × Leads (State 0) (State (vec_len l.states)) (λ v. map state_content l.states.items ++ v) l.fn.self l.self
+
+abbrev pub decreases-loop-states : goal.decreases-loop-states
+decreases-loop-states g l = length l.self

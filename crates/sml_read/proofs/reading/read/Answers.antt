@@ -1,0 +1,38 @@
+use Rattle.std.proofs.Common.{◌≤◌, ◌^◌, ap, sym, ◌∙◌, Err, rules, length, []}
+use Rattle.sml_text.specs.declared.source.Source.TheVariants.{Domain}
+use Rattle.sml_read.specs.declared.error.ReadErrorKind.TheVariants as kinds
+use Rattle.sml_read.specs.Promise.{refusal}
+use Rattle.sml_read.proofs.Late.{late, derived}
+use Rattle.sml_read.proofs.reading.read.Goals as goal
+
+pub returns-in-Some-first_bad-clause-bad_token : goal.returns-in-Some-first_bad-clause-bad_token
+returns-in-Some-first_bad-clause-bad_token g c k short ascii bad =
+    let one = c.laws_of_tokens.ensures.one_bad Domain c.args.text.now c.in-Some-first_bad.offset k c.in-Some-first_bad.ensures bad in
+    ap (λ n. Err (refusal kinds.BadToken n)) one
+
+pub returns-in-Ok-clause-read : goal.returns-in-Ok-clause-read
+returns-in-Ok-clause-read g c =
+    let tokens = c.in_default-first_bad.ensures in
+    let short : length c.args.text.now ≤ 2 ^ 20 = search rules in (
+      short,
+      sym c.foreign_at.ensures ∙ c.in_default.is,
+      (tokens.0, tokens.1, derived c.args.text.now tokens.0 _ (c.laws_of_tokens.ensures.tokens_from Domain 0 c.args.text.now tokens.0 tokens.1) c.in-Ok.ensures),
+    )
+
+pub returns-in-Ok-clause-bad_token : goal.returns-in-Ok-clause-bad_token
+returns-in-Ok-clause-bad_token g c k short ascii bad =
+    let tokens = c.in_default-first_bad.ensures in
+    absurd (c.laws_of_tokens.ensures.one Domain c.args.text.now tokens.0 k tokens.1 bad)
+
+pub returns-clause-refused : goal.returns-clause-refused
+returns-clause-refused g c =
+    let tokens = c.in_default-first_bad.ensures in
+    let short : length c.args.text.now ≤ 2 ^ 20 = search rules in
+    let cause = late {X = Unit {0}} (λ _. []) c.args.text.now tokens.0 c.in-Err.stop (length c.args.text.now) short (sym c.foreign_at.ensures ∙ c.in_default.is) tokens.1
+    (c.laws_of_tokens.ensures.tokens_from Domain 0 c.args.text.now tokens.0 tokens.1) c.in-Err.ensures in
+    rw c.error_of.ensures cause
+
+pub returns-clause-bad_token : goal.returns-clause-bad_token
+returns-clause-bad_token g c k short ascii bad =
+    let tokens = c.in_default-first_bad.ensures in
+    absurd (c.laws_of_tokens.ensures.one Domain c.args.text.now tokens.0 k tokens.1 bad)

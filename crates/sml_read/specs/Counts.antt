@@ -1,0 +1,12 @@
+-- The items of a file that were read.
+use Rattle.std.specs.Prelude.{◌≤◌}
+use Rattle.sml_tree.specs.Form.{Part, File}
+use Rattle.sml_read.specs.declared.item.Counts.{Counts}
+
+-- the rest of a file that has so many items before it
+abbrev pub file_part : Counts → Part
+file_part c = File c.classes c.objects c.sets
+
+-- no sort has more items than it may
+abbrev pub IsWithin : Counts → Type 0
+IsWithin c = (c.classes ≤ 64) × (c.objects ≤ 64) × (c.sets ≤ 32)

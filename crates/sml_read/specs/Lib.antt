@@ -1,0 +1,9 @@
+pub mod Counts
+pub mod Faults
+pub mod Held
+pub mod Left
+pub mod Lists
+pub mod Machine
+pub mod Promise
+pub mod Reads
+pub mod Refusal

@@ -1,0 +1,194 @@
+//! Instructions.
+ghost use Rattle.std.specs.Prelude.{◌≡◌, ◌≤◌, ◌<◌, ◌+◌, List, [], ◌∷◌, map, Ok, IfOk, IsSome};
+ghost use Rattle.sml_tree.specs.Form.{Literal as Literal', Arg as Arg', Every, Passed as Passed', ArgList, MorePassedArg, Block as Block'};
+ghost use Rattle.sml_tree.specs.Content.{literal_content, arg_content, passed_content, instr_content};
+ghost use Rattle.sml_tree.specs.declared.token_kind.TokenKind.TheVariants as kinds;
+ghost use Rattle.sml_read.specs.Reads.{Reads, ReadsNext, ReadsFront, SeesKind};
+
+use crate::fault::{Fault, Stop};
+use crate::make;
+use crate::reader::Reader;
+use sml_tree::block::{Block, Instr};
+use sml_tree::literal::{Arg, Literal, Passed};
+use sml_tree::token_kind::TokenKind;
+use std::alloc::Allocator;
+
+/// How many arguments a `do` may have.
+const MAX_ARGS: usize = 16;
+
+impl Reader<'_> {
+    /// A value that is written out.
+    pub fn literal<A: Allocator + Clone>(&mut self, alloc: &A) -> Result<Literal<A>, Stop>
+        ensures { Reads Literal' literal_content self.old self.new result }
+    {
+        match self.peek() {
+            Some(TokenKind::Int) => Ok(Literal::Int(self.take().int())),
+            Some(TokenKind::Str) => {
+                let held = self.take();
+                Ok(Literal::Str(Vec::from_slice(alloc.clone()?, held.bytes())?))
+            }
+            _ => Err(self.refusal()),
+        }
+    }
+
+    /// A value, or the name of a parameter.
+    fn arg<A: Allocator + Clone>(&mut self, alloc: &A) -> Result<Arg<A>, Stop>
+        ensures { Reads Arg' arg_content self.old self.new result }
+    {
+        match self.peek() {
+            Some(TokenKind::Int) => Ok(Arg::Lit(Literal::Int(self.take().int()))),
+            Some(TokenKind::Str) => {
+                let held = self.take();
+                Ok(Arg::Lit(Literal::Str(Vec::from_slice(alloc.clone()?, held.bytes())?)))
+            }
+            Some(TokenKind::Name) => Ok(Arg::Param(self.take().name())),
+            _ => Err(self.refusal()),
+        }
+    }
+
+    /// Whether `all_in` stands here.
+    fn every(&mut self) -> bool
+        ensures { Reads Every (λ all. all) self.old self.new (Ok result) }
+    {
+        match self.peek() {
+            Some(TokenKind::AllIn) => {
+                self.take();
+                true
+            }
+            _ => false,
+        }
+    }
+
+    /// An argument that has so many before it.
+    fn passed<A: Allocator + Clone>(&mut self, alloc: &A, before: usize) -> Result<Passed<A>, Stop>
+        requires { before ≤ 16 }
+        ensures read { Reads (Passed' before) passed_content self.old self.new result }
+        ensures room { IfOk result (λ p. before < 16) }
+    {
+        if !matches!(self.peek(), Some(TokenKind::Name)) {
+            return Err(self.refusal());
+        }
+        let held = self.take();
+        if before >= MAX_ARGS {
+            return Err(Stop::Fault(Fault::TooMany(held.at())));
+        }
+        self.expect(TokenKind::Equals)?;
+        Ok(Passed {
+            name: held.name(),
+            value: self.arg(alloc)?,
+        })
+    }
+
+    /// The next argument of a list that has so many before it, where a comma stands there.
+    fn next_passed<A: Allocator + Clone>(
+        &mut self,
+        alloc: &A,
+        before: usize,
+    ) -> Result<Option<Passed<A>>, Stop>
+        requires { before ≤ 16 }
+        ensures next { ReadsNext (MorePassedArg before) (MorePassedArg (before + 1)) (λ p v. passed_content p ∷ v) [] self.old self.new result }
+        ensures room { IfOk result (λ p. IsSome p → before < 16) }
+    {
+        if !matches!(self.peek(), Some(TokenKind::Comma)) {
+            return Ok(None);
+        }
+        self.take();
+        Ok(Some(self.passed(alloc, before)?))
+    }
+
+    /// The arguments of a `do`, where a bracket stands there.
+    fn args<A: Allocator + Clone>(&mut self, alloc: &A) -> Result<Vec<Passed<A>, A>, Stop>
+        ensures { Reads ArgList (λ v. map passed_content v.items) self.old self.new result }
+    {
+        let mut args = Vec::new(alloc.clone()?);
+        if !matches!(self.peek(), Some(TokenKind::OpenBracket)) {
+            return Ok(args);
+        }
+        self.take();
+        args.push(self.passed(alloc, 0)?)?;
+        while let Some(passed) = self.next_passed(alloc, args.len())? {
+            args.push(passed)?;
+        }
+        self.expect(TokenKind::CloseBracket)?;
+        Ok(args)
+    }
+
+    /// A `do`, whose word stands in front.
+    fn send<A: Allocator + Clone>(&mut self, alloc: &A, depth: u32) -> Result<Instr<A>, Stop>
+        requires { SeesKind kinds.Do self.old }
+        ensures { ReadsFront (Block' depth) (Block' depth) (λ i v. instr_content i ∷ v) self.old self.new result }
+    {
+        self.take();
+        let action = self.expect(TokenKind::Name)?.name();
+        let args = self.args(alloc)?;
+        let all = self.every();
+        let target = self.expect(TokenKind::Name)?.name();
+        Ok(make::send(action, args, all, target))
+    }
+
+    /// A `set`, whose word stands in front.
+    fn assignment<A: Allocator + Clone>(&mut self, alloc: &A, depth: u32) -> Result<Instr<A>, Stop>
+        requires { SeesKind kinds.Set self.old }
+        ensures { ReadsFront (Block' depth) (Block' depth) (λ i v. instr_content i ∷ v) self.old self.new result }
+    {
+        self.take();
+        let param = self.expect(TokenKind::Name)?.name();
+        self.expect(TokenKind::Equals)?;
+        let value = self.arg(alloc)?;
+        Ok(make::set(param, value))
+    }
+
+    /// A `move_to`, whose word stands in front.
+    fn movement<A: Allocator + Clone>(&mut self, depth: u32) -> Result<Instr<A>, Stop>
+        requires { SeesKind kinds.MoveTo self.old }
+        ensures { ReadsFront (Block' depth) (Block' depth) (λ i v. instr_content i ∷ v) self.old self.new result }
+    {
+        self.take();
+        let state = self.expect(TokenKind::Name)?.name();
+        Ok(make::move_to(state))
+    }
+
+    /// A `terminate_action`, whose word stands in front.
+    fn termination<A: Allocator + Clone>(&mut self, depth: u32) -> Result<Instr<A>, Stop>
+        requires { SeesKind kinds.TerminateAction self.old }
+        ensures { ReadsFront (Block' depth) (Block' depth) (λ i v. instr_content i ∷ v) self.old self.new result }
+    {
+        self.take();
+        self.expect(TokenKind::Slash)?;
+        self.expect(TokenKind::State)?;
+        self.expect(TokenKind::Equals)?;
+        let state = self.expect(TokenKind::Name)?.name();
+        Ok(make::terminate(state))
+    }
+
+    /// The next instruction of a block inside so many `if`s, where one stands there.
+    fn instr<A: Allocator + Clone>(
+        &mut self,
+        alloc: &A,
+        depth: u32,
+    ) -> Result<Option<Instr<A>>, Stop>
+        requires { depth ≤ 16 }
+        ensures { ReadsNext (Block' depth) (Block' depth) (λ i v. instr_content i ∷ v) [] self.old self.new result }
+    {
+        match self.peek() {
+            Some(TokenKind::Do) => Ok(Some(self.send(alloc, depth)?)),
+            Some(TokenKind::Set) => Ok(Some(self.assignment(alloc, depth)?)),
+            Some(TokenKind::MoveTo) => Ok(Some(self.movement(depth)?)),
+            Some(TokenKind::TerminateAction) => Ok(Some(self.termination(depth)?)),
+            Some(TokenKind::If) => Err(Stop::NotYet(self.take().at())),
+            _ => Ok(None),
+        }
+    }
+
+    /// The instructions of a block inside so many `if`s.
+    pub fn block<A: Allocator + Clone>(&mut self, alloc: &A, depth: u32) -> Result<Block<A>, Stop>
+        requires { depth ≤ 16 }
+        ensures { Reads (Block' depth) (λ b. map instr_content b.instrs.items) self.old self.new result }
+    {
+        let mut instrs = Vec::new(alloc.clone()?);
+        while let Some(instr) = self.instr(alloc, depth)? {
+            instrs.push(instr)?;
+        }
+        Ok(Block { instrs })
+    }
+}

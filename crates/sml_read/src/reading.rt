@@ -1,0 +1,96 @@
+//! The reading of a text.
+ghost use Rattle.std.specs.Prelude.{◌≡◌, ◌≤◌, ◌<◌, ◌^◌, ℕ, map, length, IfOk, IfErr, Some, None, Err, false};
+ghost use Rattle.sml_text.specs.declared.source.Source.TheVariants as source;
+ghost use Rattle.sml_text.specs.Tokens.{BadTokenOf};
+ghost use Rattle.sml_tree.specs.Form.{File, part};
+ghost use Rattle.sml_tree.specs.Content.{item_content, file_content};
+ghost use Rattle.sml_read.specs.declared.error.ReadErrorKind.TheVariants as kinds;
+ghost use Rattle.sml_read.specs.Left.{left};
+ghost use Rattle.sml_read.specs.Machine.{run};
+ghost use Rattle.sml_read.specs.Reads.{Gives};
+ghost use Rattle.sml_read.specs.Promise.{refusal, IsShort, first_foreign, IsFileOf, Cause, error_of as told};
+
+use crate::error::{ReadError, ReadErrorKind};
+use crate::fault::{Fault, Stop};
+use crate::reader::Reader;
+use sml_text::laws::laws_of_tokens;
+use sml_text::source::Source;
+use sml_text::tokens::first_bad;
+use sml_tree::file::{Item, SmlFile};
+use std::alloc::Allocator;
+
+/// How many bytes a text may have.
+pub const MAX_TEXT: usize = 1_048_576;
+
+// The items that a text says, by the reading from left to right.
+fn read_items<A: Allocator + Clone>(alloc: &A, text: &[u8]) -> Result<Vec<Item<A>, A>, Stop>
+    requires { length text.now ≤ 2 ^ 20 }
+    ensures { Gives (λ v. map item_content v.items) result (run (File 0 0 0) _ (part (File 0 0 0)) (left false 0 text.now)) }
+{
+    let mut reader = Reader::new(text);
+    let items = reader.file(alloc)?;
+    match reader.peek() {
+        None => Ok(items),
+        Some(_) => Err(reader.refusal()),
+    }
+}
+
+// The place of the first byte above 0x7F.
+fn foreign_at(text: &[u8]) -> Option<usize>
+    ensures { result ≡ first_foreign text.now }
+{
+    text.iter().position(|b| *b > 127)
+}
+
+// What a stop is to the caller, of a text of so many bytes.
+fn error_of(stop: Stop, length: usize) -> ReadError
+    ensures { result ≡ told stop length }
+{
+    let (kind, offset) = match stop {
+        Stop::Memory => (ReadErrorKind::Memory, 0),
+        Stop::NotYet(offset) => (ReadErrorKind::Unexpected, offset),
+        Stop::Fault(Fault::Unexpected(offset)) => (ReadErrorKind::Unexpected, offset),
+        Stop::Fault(Fault::TooDeep(offset)) => (ReadErrorKind::TooDeep, offset),
+        Stop::Fault(Fault::TooMany(offset)) => (ReadErrorKind::TooMany, offset),
+        Stop::Fault(Fault::Ends) => (ReadErrorKind::Unexpected, length),
+    };
+    ReadError { kind, offset }
+}
+
+/// Reads a text of a domain, by the whole grammar (docs/LANGUAGE.md, "Grammar") but for `if`, which
+/// is refused as Unexpected for now.
+///
+/// The kinds of refusals are looked for in the order of their numbers, TooLong, NotAscii and BadToken
+/// over the whole text; these three take no memory. Where nothing is read nothing stays allocated. The
+/// time grows with the length of the text.
+pub fn read<A: Allocator + Clone>(alloc: A, text: &[u8]) -> Result<SmlFile<A>, ReadError>
+    ensures read { IfOk result (λ f. IsFileOf text.now (file_content f)) }
+    ensures refused { IfErr result (λ e. Cause text.now e.kind e.offset) }
+    ensures too_long { 2 ^ 20 < length text.now → result ≡ Err (refusal kinds.TooLong (2 ^ 20)) }
+    ensures not_ascii { (k : ℕ) → IsShort text.now → first_foreign text.now ≡ Some k → result ≡ Err (refusal kinds.NotAscii k) }
+    ensures bad_token { (k : ℕ) → IsShort text.now → first_foreign text.now ≡ None → BadTokenOf source.Domain text.now k → result ≡ Err (refusal kinds.BadToken k) }
+{
+    laws_of_tokens();
+    if text.len() > MAX_TEXT {
+        return Err(ReadError {
+            kind: ReadErrorKind::TooLong,
+            offset: MAX_TEXT,
+        });
+    }
+    if let Some(offset) = foreign_at(text) {
+        return Err(ReadError {
+            kind: ReadErrorKind::NotAscii,
+            offset,
+        });
+    }
+    if let Some(offset) = first_bad(Source::Domain, text) {
+        return Err(ReadError {
+            kind: ReadErrorKind::BadToken,
+            offset,
+        });
+    }
+    match read_items(&alloc, text) {
+        Ok(items) => Ok(SmlFile { items }),
+        Err(stop) => Err(error_of(stop, text.len())),
+    }
+}

@@ -1,0 +1,191 @@
+//! States and their actions.
+ghost use Rattle.std.specs.Prelude.{◌≡◌, ◌≤◌, ◌<◌, ◌+◌, List, [], ◌∷◌, map, IfOk, OnOk, IsSome};
+ghost use Rattle.sml_tree.specs.Form.{Action as Action', State as State', StateMark, FirstMark, InitialMark, DeadMark};
+ghost use Rattle.sml_tree.specs.Content.{action_content, state_content};
+ghost use Rattle.sml_tree.specs.declared.token_kind.TokenKind.TheVariants as kinds;
+ghost use Rattle.sml_read.specs.Reads.{Reads, ReadsNext, ReadsFront, SeesKind};
+
+use crate::fault::{Fault, Stop};
+use crate::reader::Reader;
+use sml_tree::file::{Action, State};
+use sml_tree::token_kind::TokenKind;
+use std::alloc::Allocator;
+
+/// How many actions a state may have.
+const MAX_ACTIONS: usize = 32;
+
+/// How many states a class may have.
+const MAX_STATES: usize = 32;
+
+/// The marks of a state.
+#[derive(Drop)]
+pub(crate) struct Marks {
+    pub initial: bool,
+    pub dead: bool,
+}
+
+impl Reader<'_> {
+    /// The action that stands in front, of a state that has so many before it.
+    fn action<A: Allocator + Clone>(&mut self, alloc: &A, before: usize) -> Result<Action<A>, Stop>
+        requires at_action { SeesKind kinds.Action self.old }
+        requires before { before ≤ 32 }
+        ensures next { ReadsFront (Action' before) (Action' (before + 1)) (λ a v. action_content a ∷ v) self.old self.new result }
+        ensures room { OnOk result (before < 32) }
+    {
+        let held = self.take();
+        if before >= MAX_ACTIONS {
+            return Err(Stop::Fault(Fault::TooMany(held.at())));
+        }
+        self.expect(TokenKind::Colon)?;
+        let name = self.expect(TokenKind::Name)?.name();
+        let params = self.action_params(alloc)?;
+        let body = self.block(alloc, 0)?;
+        Ok(Action { name, params, body })
+    }
+
+    /// The next action of a state that has so many before it, where one stands there.
+    fn next_action<A: Allocator + Clone>(
+        &mut self,
+        alloc: &A,
+        before: usize,
+    ) -> Result<Option<Action<A>>, Stop>
+        requires { before ≤ 32 }
+        ensures next { ReadsNext (Action' before) (Action' (before + 1)) (λ a v. action_content a ∷ v) [] self.old self.new result }
+        ensures room { IfOk result (λ a. IsSome a → before < 32) }
+    {
+        if !matches!(self.peek(), Some(TokenKind::Action)) {
+            return Ok(None);
+        }
+        Ok(Some(self.action(alloc, before)?))
+    }
+
+    /// The actions of a state.
+    fn actions<A: Allocator + Clone>(&mut self, alloc: &A) -> Result<Vec<Action<A>, A>, Stop>
+        ensures { Reads (Action' 0) (λ v. map action_content v.items) self.old self.new result }
+    {
+        let mut actions = Vec::new(alloc.clone()?);
+        while let Some(action) = self.next_action(alloc, actions.len())? {
+            actions.push(action)?;
+        }
+        Ok(actions)
+    }
+
+    /// Whether the mark of an initial state follows.
+    fn initial_mark(&mut self) -> Result<bool, Stop>
+        ensures { Reads InitialMark (λ b. b) self.old self.new result }
+    {
+        match self.peek() {
+            Some(TokenKind::Slash) => {
+                self.take();
+                self.expect(TokenKind::InitialState)?;
+                Ok(true)
+            }
+            _ => Ok(false),
+        }
+    }
+
+    /// Whether the mark of a dead state follows.
+    fn dead_mark(&mut self) -> Result<bool, Stop>
+        ensures { Reads DeadMark (λ b. b) self.old self.new result }
+    {
+        match self.peek() {
+            Some(TokenKind::Slash) => {
+                self.take();
+                self.expect(TokenKind::DeadState)?;
+                Ok(true)
+            }
+            _ => Ok(false),
+        }
+    }
+
+    /// What follows the first slash behind a state's name.
+    fn first_mark(&mut self) -> Result<Marks, Stop>
+        ensures { Reads FirstMark (λ m. record { initial = m.initial; dead = m.dead }) self.old self.new result }
+    {
+        match self.peek() {
+            Some(TokenKind::InitialState) => {
+                self.take();
+                let dead = self.dead_mark()?;
+                Ok(Marks {
+                    initial: true,
+                    dead,
+                })
+            }
+            Some(TokenKind::DeadState) => {
+                self.take();
+                let initial = self.initial_mark()?;
+                Ok(Marks {
+                    initial,
+                    dead: true,
+                })
+            }
+            _ => Err(self.refusal()),
+        }
+    }
+
+    /// The marks of a state, where a slash stands there.
+    fn marks(&mut self) -> Result<Marks, Stop>
+        ensures { Reads StateMark (λ m. record { initial = m.initial; dead = m.dead }) self.old self.new result }
+    {
+        match self.peek() {
+            Some(TokenKind::Slash) => {
+                self.take();
+                self.first_mark()
+            }
+            _ => Ok(Marks {
+                initial: false,
+                dead: false,
+            }),
+        }
+    }
+
+    /// The state that stands in front, of a class that has so many before it.
+    fn state<A: Allocator + Clone>(&mut self, alloc: &A, before: usize) -> Result<State<A>, Stop>
+        requires at_state { SeesKind kinds.State self.old }
+        requires before { before ≤ 32 }
+        ensures next { ReadsFront (State' before) (State' (before + 1)) (λ s v. state_content s ∷ v) self.old self.new result }
+        ensures room { OnOk result (before < 32) }
+    {
+        let held = self.take();
+        if before >= MAX_STATES {
+            return Err(Stop::Fault(Fault::TooMany(held.at())));
+        }
+        self.expect(TokenKind::Colon)?;
+        let name = self.expect(TokenKind::Name)?.name();
+        let marks = self.marks()?;
+        let actions = self.actions(alloc)?;
+        Ok(State {
+            name,
+            initial: marks.initial,
+            dead: marks.dead,
+            actions,
+        })
+    }
+
+    /// The next state of a class that has so many before it, where one stands there.
+    fn next_state<A: Allocator + Clone>(
+        &mut self,
+        alloc: &A,
+        before: usize,
+    ) -> Result<Option<State<A>>, Stop>
+        requires { before ≤ 32 }
+        ensures next { ReadsNext (State' before) (State' (before + 1)) (λ s v. state_content s ∷ v) [] self.old self.new result }
+        ensures room { IfOk result (λ s. IsSome s → before < 32) }
+    {
+        if !matches!(self.peek(), Some(TokenKind::State)) {
+            return Ok(None);
+        }
+        Ok(Some(self.state(alloc, before)?))
+    }
+
+    /// The states of a class.
+    pub fn states<A: Allocator + Clone>(&mut self, alloc: &A) -> Result<Vec<State<A>, A>, Stop>
+        ensures { Reads (State' 0) (λ v. map state_content v.items) self.old self.new result }
+    {
+        let mut states = Vec::new(alloc.clone()?);
+        while let Some(state) = self.next_state(alloc, states.len())? {
+            states.push(state)?;
+        }
+        Ok(states)
+    }
+}

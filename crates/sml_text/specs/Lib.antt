@@ -1,0 +1,9 @@
+pub mod Bytes
+pub mod Tokens
+pub mod Front
+pub mod Scan
+pub mod Stream
+pub mod Views
+pub mod Laws
+pub mod Written
+pub mod Decimal

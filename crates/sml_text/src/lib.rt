@@ -1,0 +1,11 @@
+//! The lexical rules of domain texts, schedules and scripts, and the writing of bytes.
+#![tactic(auto)]
+
+pub mod decimal;
+pub mod front;
+pub mod laws;
+pub mod source;
+#[cfg(test)]
+mod tests;
+pub mod tokens;
+pub mod writing;

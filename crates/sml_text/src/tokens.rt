@@ -1,0 +1,95 @@
+//! The tokens of a text, one after another.
+
+ghost use Rattle.std.specs.Prelude.{◌≡◌, ◌≤◌, ◌<◌, ◌+◌, ◌^◌, ◌∷◌, [], ℕ, List, MatchOption, IfSome, length, Some, None};
+ghost use Rattle.sml_text.specs.Tokens.{Token as Told, TokensOf, BadTokenOf};
+ghost use Rattle.sml_text.specs.Front.{front_what};
+ghost use Rattle.sml_text.specs.Stream.{tokens_from};
+ghost use Rattle.sml_text.specs.Views.{lexeme_of, token_of, IsLexeme, FrontFits};
+
+use crate::front::{Front, front_at};
+use crate::source::{Sign, Source};
+
+/// What a token is.
+#[derive(Clone, Copy, Debug, PartialEq, Eq)]
+pub enum Lexeme<'a> {
+    /// A word as it stands in the text. Two words are the same where their upper cases are.
+    Word(&'a [u8]),
+    Int(i64),
+    /// The bytes between the quotes.
+    Str(&'a [u8]),
+    Sign(Sign),
+    /// From 1 to 8.
+    Session(u8),
+}
+
+/// A token, and the place of its first byte.
+#[derive(Clone, Copy, Debug, PartialEq, Eq)]
+pub struct Token<'a> {
+    pub lexeme: Lexeme<'a>,
+    pub at: usize,
+}
+
+// What stands at the front of a text as a lexeme.
+fn lexeme_at(front: Front, text: &[u8]) -> Option<Lexeme>
+    requires { FrontFits front text.now }
+    ensures same { MatchOption result (front_what front text.now ≡ None) (λ lexeme. front_what front text.now ≡ Some (lexeme_of lexeme)) }
+    ensures fits { IfSome result IsLexeme }
+{
+    match front {
+        Front::End | Front::Bad | Front::Skip(_) => None,
+        Front::Word(length) => Some(Lexeme::Word(text.split_at(length).0)),
+        Front::Int { value, .. } => Some(Lexeme::Int(value)),
+        Front::Str(length) => Some(Lexeme::Str(text.split_at(1).1.split_at(length).0)),
+        Front::Sign(sign) => Some(Lexeme::Sign(sign)),
+        Front::Session(session) => Some(Lexeme::Session(session)),
+    }
+}
+
+/// The next token of a text whose first byte is at this place, with the text behind the token and
+/// its place; or None at the end of the text and at the first thing that is no token.
+///
+/// The time grows with the bytes up to the end of the token. No memory is taken.
+pub fn next_token(source: Source, text: &[u8], at: usize) -> Option<(Token, &[u8], usize)>
+    requires { at + length text.now < 2 ^ 63 }
+    ensures next { MatchOption result (tokens_from source at text.now ≡ [])
+        (λ x. tokens_from source at text.now ≡ token_of x.0 ∷ tokens_from source x.2 x.1.now) }
+    ensures within { IfSome result (λ x.
+        (x.2 + length x.1.now ≤ at + length text.now) × (length x.1.now < length text.now)) }
+    ensures fits { IfSome result (λ x. IsLexeme x.0.lexeme) }
+{
+    let mut rest = text;
+    let mut at = at;
+    'skip: loop {
+        let front = front_at(source, rest);
+        if !front.stands() {
+            return None;
+        }
+        let size = front.size();
+        let after = rest.split_at(size).1;
+        if let Some(lexeme) = lexeme_at(front, rest) {
+            return Some((Token { lexeme, at }, after, at + size));
+        }
+        rest = after;
+        at += size;
+    }
+}
+
+/// The place of the first thing of a text that is neither a blank or a comment nor a token, or None
+/// where the text has tokens.
+///
+/// The time grows with the length of the text. No memory is taken.
+pub fn first_bad(source: Source, text: &[u8]) -> Option<usize>
+    ensures { MatchOption result ((ts : List Told) × TokensOf source text.now ts) (λ bad. BadTokenOf source text.now bad) }
+{
+    let mut rest = text;
+    let mut at = 0;
+    'things: loop {
+        let front = front_at(source, rest);
+        if !front.stands() {
+            return if rest.is_empty() { None } else { Some(at) };
+        }
+        let size = front.size();
+        rest = rest.split_at(size).1;
+        at += size;
+    }
+}

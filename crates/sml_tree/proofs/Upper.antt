@@ -1,0 +1,58 @@
+-- A word in upper case is a word, and how an array is filled with one.
+use Rattle.std.proofs.Common.{◌≡◌, ℕ, suc, ◌+◌, ◌<◌, ◌≤◌, List, [], ◌∷◌, ◌++◌, length, take, drop, replicate, IsTrue, refl, arith, ap, ◌∙◌, sym, nat_le, get_or, add-one, set, drop-cons}
+use Rattle.std.proofs.lemmas.List.{length-map, map-append, take_more, take_more_set, drop-set-lt}
+use Rattle.std.proofs.lemmas.Bool.{and_from, and_parts}
+use Rattle.std.proofs.lemmas.Bool.Decides.{nat_tests}
+use Rattle.std.specs.Char.{is_ascii_alphabetic, to_ascii_uppercase}
+use Rattle.std.specs.List.{list_all}
+use Rattle.sml_tree.specs.Word.{is_word_byte, is_word_text, is_word, upper}
+
+letter_upper : (b : ℕ) → IsTrue (is_ascii_alphabetic b) → IsTrue (is_ascii_alphabetic (to_ascii_uppercase b))
+letter_upper b h = grind (arith, nat_tests)
+
+byte_upper : (b : ℕ) → IsTrue (is_word_byte b) → IsTrue (is_word_byte (to_ascii_uppercase b))
+byte_upper b h = grind (arith, nat_tests)
+
+upper_twice : (b : ℕ) → to_ascii_uppercase (to_ascii_uppercase b) ≡ to_ascii_uppercase b
+upper_twice b = grind (arith, nat_tests)
+
+pub upper-upper : (bs : List ℕ) → upper (upper bs) ≡ upper bs
+upper-upper [] = refl
+upper-upper (b ∷ bs) = cc (upper_twice b, upper-upper bs)
+
+all_upper : (bs : List ℕ) → IsTrue (list_all is_word_byte bs) → IsTrue (list_all is_word_byte (upper bs))
+all_upper [] h = refl
+all_upper (b ∷ bs) h =
+    let p = and_parts (is_word_byte b) (list_all is_word_byte bs) h in
+    and_from _ _ (byte_upper b p.0) (all_upper bs p.1)
+
+text_upper : (bs : List ℕ) → IsTrue (is_word_text bs) → IsTrue (is_word_text (upper bs))
+text_upper [] h = h
+text_upper (b ∷ bs) h =
+    let p = and_parts (is_ascii_alphabetic b) (list_all is_word_byte bs) h in
+    and_from _ _ (letter_upper b p.0) (all_upper bs p.1)
+
+pub word_upper : (bs : List ℕ) → IsTrue (is_word bs) → IsTrue (is_word (upper bs))
+word_upper bs h =
+    let p = and_parts (is_word_text bs) (nat_le (length bs) 64) h in
+    and_from _ _ (text_upper bs p.0) (ap (λ n. nat_le n 64) (length-map bs to_ascii_uppercase) ∙ p.1)
+
+pub word_fits : (bs : List ℕ) → IsTrue (is_word bs) → length bs ≤ 64
+word_fits bs h = let p = (and_parts (is_word_text bs) (nat_le (length bs) 64) h).1 in grind (arith, nat_tests)
+
+pub upper_more : (bytes word : List ℕ) (i : ℕ) → i < length bytes → i < length word → take i bytes ≡ upper (take i word) →
+    take (i + 1) (set bytes i (to_ascii_uppercase (get_or word i 0))) ≡ upper (take (i + 1) word)
+upper_more bytes word i h k e =
+    take_more_set bytes i _ h ∙ ap (λ xs. xs ++ to_ascii_uppercase (get_or word i 0) ∷ []) e
+    ∙ sym (map-append to_ascii_uppercase (take i word) (get_or word i 0 ∷ [])) ∙ ap upper (sym (take_more word i 0 k))
+
+tail_of : List ℕ → List ℕ
+tail_of [] = []
+tail_of (x ∷ xs) = xs
+
+pub padded_more : (bytes : List ℕ) (i y n : ℕ) → i < length bytes → drop i bytes ≡ replicate (suc n) 0 → drop (i + 1) (set bytes i y) ≡ replicate n 0
+padded_more bytes i y n h e =
+    drop-set-lt (i + 1) bytes i y (omega arith) ∙ tail (drop-cons bytes i 0 h)
+  where
+    tail : drop i bytes ≡ get_or bytes i 0 ∷ drop (suc i) bytes → drop (i + 1) bytes ≡ replicate n 0
+    tail d = rw add-one (cc (sym d ∙ e))

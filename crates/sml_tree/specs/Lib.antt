@@ -1,0 +1,9 @@
+pub mod Content
+pub mod Derive
+pub mod Form
+pub mod Grammar
+pub mod Padding
+pub mod Piece
+pub mod Syntax
+pub mod Word
+pub mod Rows

@@ -1,0 +1,104 @@
+//! Conditions.
+ghost use Rattle.std.specs.Prelude.{◌≡◌, ◌↔◌, IfOk, IsTrue};
+ghost use Rattle.sml_tree.specs.Content.{cond_content};
+
+use crate::name::{Name, same_names};
+use std::alloc::{AllocError, Allocator};
+
+/// Which objects a test asks.
+#[derive(Clone, Copy, Debug, PartialEq, Eq)]
+pub enum Scope {
+    One,
+    All,
+    Any,
+}
+
+/// The condition of an `if`.
+#[derive(Drop)]
+pub enum Cond<A: Allocator + Clone> {
+    And(Box<Cond<A>, A>, Box<Cond<A>, A>),
+    Or(Box<Cond<A>, A>, Box<Cond<A>, A>),
+    Not(Box<Cond<A>, A>),
+    Test {
+        scope: Scope,
+        name: Name,
+        negated: bool,
+        states: Vec<Name, A>,
+    },
+}
+
+impl<A: Allocator + Clone> Cond<A> {
+    /// The same condition in other memory.
+    pub fn copy_in<B: Allocator + Clone>(&self, alloc: B) -> Result<Cond<B>, AllocError>
+        ensures { IfOk result (λ c. cond_content c ≡ cond_content self.now) }
+    {
+        match self {
+            Cond::And(a, b) => {
+                let left = a.copy_in(alloc.clone()?)?;
+                let left = Box::new(alloc.clone()?, left)?;
+                let right = b.copy_in(alloc.clone()?)?;
+                Ok(Cond::And(left, Box::new(alloc, right)?))
+            }
+            Cond::Or(a, b) => {
+                let left = a.copy_in(alloc.clone()?)?;
+                let left = Box::new(alloc.clone()?, left)?;
+                let right = b.copy_in(alloc.clone()?)?;
+                Ok(Cond::Or(left, Box::new(alloc, right)?))
+            }
+            Cond::Not(a) => {
+                let inner = a.copy_in(alloc.clone()?)?;
+                Ok(Cond::Not(Box::new(alloc, inner)?))
+            }
+            Cond::Test {
+                scope,
+                name,
+                negated,
+                states,
+            } => Ok(Cond::Test {
+                scope: *scope,
+                name: *name,
+                negated: *negated,
+                states: Vec::from_slice(alloc, states)?,
+            }),
+        }
+    }
+
+    /// Whether two conditions are the same.
+    pub fn same<B: Allocator + Clone>(&self, other: &Cond<B>) -> bool
+        ensures { IsTrue result ↔ (cond_content self.now ≡ cond_content other.now) }
+    {
+        match (self, other) {
+            (Cond::And(a, b), Cond::And(c, d)) => a.same(c) && b.same(d),
+            (Cond::Or(a, b), Cond::Or(c, d)) => a.same(c) && b.same(d),
+            (Cond::Not(a), Cond::Not(b)) => a.same(b),
+            (
+                Cond::Test {
+                    scope,
+                    name,
+                    negated,
+                    states,
+                },
+                Cond::Test {
+                    scope: other_scope,
+                    name: other_name,
+                    negated: other_negated,
+                    states: other_states,
+                },
+            ) => {
+                let same_question = *scope == *other_scope && *negated == *other_negated;
+                same_question && same_tested(name, states, other_name, other_states)
+            }
+            (Cond::And(..), Cond::Or(..) | Cond::Not(_) | Cond::Test { .. }) => false,
+            (Cond::Or(..), Cond::And(..) | Cond::Not(_) | Cond::Test { .. }) => false,
+            (Cond::Not(_), Cond::And(..) | Cond::Or(..) | Cond::Test { .. }) => false,
+            (Cond::Test { .. }, Cond::And(..) | Cond::Or(..) | Cond::Not(_)) => false,
+        }
+    }
+}
+
+// Whether two tests ask the same name for the same states.
+fn same_tested(name: &Name, states: &[Name], other_name: &Name, other_states: &[Name]) -> bool
+    ensures { IsTrue result ↔ ((name.now ≡ other_name.now) × (states.now ≡ other_states.now)) }
+{
+    *name == *other_name && same_names(states, other_states)
+}

@@ -1,0 +1,12 @@
+//! The tree of a domain file, in memory of any allocator.
+#![tactic(auto)]
+
+pub mod block;
+pub mod cond;
+pub mod file;
+pub mod literal;
+pub mod name;
+#[cfg(test)]
+mod tests;
+pub mod token_kind;
+pub mod words;
