@@ -1,5 +1,5 @@
 -- The initial and the dead state of a class are among its states.
-use Rattle.std.proofs.Common.{◌≡◌, ◌≢◌, ◌∙◌, sym, ap, refl, ℕ, ◌==◌, Bool, true, false, cond, ◌||◌, List, [], ◌∷◌, ◌++◌, Option, Some, None, map, is_some, eq-eqb, subst, not, if◌then◌else◌}
+use Rattle.std.proofs.Common.{◌≡◌, ◌∙◌, sym, ap, refl, ℕ, ◌==◌, Bool, true, false, cond, ◌||◌, List, [], ◌∷◌, ◌++◌, Some, None, map, is_some, eq-eqb, subst, not, if◌then◌else◌}
 use Rattle.std.specs.Prelude.{◌⊎◌}
 use Rattle.std.proofs.Common.{inl, inr}
 use Rattle.std.specs.List.{list_any}
@@ -7,7 +7,7 @@ use Rattle.std.proofs.lemmas.Slice.Eq.{bytes_eq-Decides}
 use Rattle.sml_tree.specs.Syntax.{StateData, ClassData}
 use Rattle.smi_core.specs.Domain.{State, state_in, same_name}
 use Rattle.smi_core.specs.Faults.{is_state, dead_name}
-use Rattle.smi_core.specs.FileDomain.{Names, number, state_row, added_state, lacks_dead, first_name}
+use Rattle.smi_core.specs.FileDomain.{Names, number, state_row, added_state, first_name}
 
 -- names that test the same are the same
 same_eq : (x y : List ℕ) → same_name x y ≡ true → x ≡ y

@@ -10,8 +10,8 @@ use Rattle.smi_core.specs.declared.error.StepError.{StepError}
 use Rattle.smi_core.specs.declared.error.StepError.TheVariants as error
 use Rattle.smi_core.specs.declared.line.LineError.{LineError}
 use Rattle.smi_core.specs.declared.line.LineError.TheVariants as line
-use Rattle.smi_core.specs.World.{Machine, World, StepsTo}
-use Rattle.smi_core.specs.Laws.{IsMemory, NoMemory}
+use Rattle.smi_core.specs.World.{Machine}
+use Rattle.smi_core.specs.Laws.{IsMemory}
 use Rattle.smi_core.specs.Line.{LineReads, LineAnswers, ReadsTokens, is_line}
 use Rattle.smi_core.specs.Feeds.{Outputs, lines_of}
 use Rattle.smi_core.specs.Output.{Writes, LineWrites, answer_text, added_in}

@@ -1,6 +1,6 @@
 -- What may be wrong with a file of the forms that are executed now: for each kind the names of its faults, in the order
 -- of the text.
-use Rattle.std.specs.Prelude.{◌≡◌, ℕ, Bool, true, false, ◌||◌, not, List, [], ◌∷◌, ◌++◌, Option, Some, None, is_some, map, flat_map, if◌then◌else◌, codes}
+use Rattle.std.specs.Prelude.{◌≡◌, ℕ, Bool, false, ◌||◌, not, List, [], ◌∷◌, ◌++◌, Option, Some, None, is_some, map, flat_map, if◌then◌else◌, codes}
 use Rattle.std.specs.List.{list_any}
 use Rattle.sml_tree.specs.Syntax.{InstrData, send, choose, assign, move_to, terminate, BlockData, done, step, ActionData, StateData, ClassData, ObjectData, ItemData, class, object, group}
 use Rattle.smi_core.specs.Domain.{same_name}

@@ -1,5 +1,5 @@
 -- What a schedule writes.
-use Rattle.std.specs.Prelude.{◌≡◌, ℕ, ◌==◌, List, [], ◌∷◌, ◌++◌, length, drop, flat_map, Option, Some, None, Result, Ok, Err, codes, if◌then◌else◌}
+use Rattle.std.specs.Prelude.{◌≡◌, ℕ, List, [], ◌∷◌, length, drop, flat_map, Option, Some, None, Result, Ok, Err, codes}
 use Rattle.sml_text.specs.Decimal.{decimal_text}
 use Rattle.smi_core.specs.declared.step.Step.{Step}
 use Rattle.smi_core.specs.declared.step.Step.TheVariants as step
@@ -11,7 +11,7 @@ use Rattle.smi_core.specs.declared.entry.Entry.{Entry}
 use Rattle.smi_core.specs.declared.line.LineError.{LineError}
 use Rattle.smi_core.specs.declared.line.LineError.TheVariants as line
 use Rattle.smi_core.specs.Domain.{Domain}
-use Rattle.smi_core.specs.World.{Setup, World, Machine, StepsTo}
+use Rattle.smi_core.specs.World.{World, Machine, StepsTo}
 use Rattle.smi_core.specs.EntryText.{session_text, line_text, entry_text}
 use Rattle.smi_core.specs.Line.{LineReads}
 

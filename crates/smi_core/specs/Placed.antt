@@ -1,5 +1,5 @@
 -- The numbers of a domain's parts are those of names.
-use Rattle.std.specs.Prelude.{◌≡◌, ◌<◌, ℕ, true, List, All, length, is_some}
+use Rattle.std.specs.Prelude.{◌≡◌, ◌<◌, true, All, length, is_some}
 use Rattle.smi_core.specs.declared.instr.Instr.{Instr}
 use Rattle.smi_core.specs.declared.instr.Instr.TheVariants.{Do, MoveTo}
 use Rattle.smi_core.specs.Domain.{Class, Object, State, Action, state_in}

@@ -23,6 +23,7 @@ impl Model for Mailbox {
 }
 
 impl Mailbox {
+    /// The requests, by rank.
     pub fn requests(&self) -> &[Request]
         ensures { result.now ≡ self.now }
     {
@@ -36,6 +37,7 @@ impl Mailbox {
         self.requests.get(rank).copied()
     }
 
+    /// Accepts a request, or changes nothing where memory is refused.
     pub fn push(&mut self, request: Request) -> Result<(), AllocError>
         ensures ok { OnOk result (self.new ≡ self.old ++ request ∷ []) }
         ensures err { OnErr result (self.new ≡ self.old) }
@@ -61,12 +63,14 @@ impl Model for Turn {
 }
 
 impl Turn {
+    /// How many moves were made.
     pub fn len(&self) -> usize
         ensures { result ≡ length self.now }
     {
         self.moves.len()
     }
 
+    /// Forgets the moves.
     pub fn clear(&mut self)
         ensures { self.new ≡ [] }
     {

@@ -16,7 +16,7 @@ fault_status Output = 1
 fault_status Options = 2
 fault_status Memory = 3
 
--- the line of a fault, where it has no name of a file in it
+-- the line of a fault, but that of a file that is not well-formed
 abbrev pub fault_line : Fault → Option (List ℕ)
 fault_line (Read file e) = Some (file.now ++ codes " read " ++ decimal (number_of e.kind) ++ codes " " ++ name_of e.kind
     ++ codes " at " ++ decimal e.offset)

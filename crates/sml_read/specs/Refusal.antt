@@ -1,5 +1,7 @@
 -- The numbers and names of refusals.
-use Rattle.std.specs.Prelude.{ℕ, List, codes}
+use Rattle.std.specs.Prelude.{ℕ, List, ◌++◌, codes}
+use Rattle.std.specs.Fmt.{decimal}
+use Rattle.sml_read.specs.declared.error.ReadError.{ReadError}
 use Rattle.sml_read.specs.declared.error.ReadErrorKind.{ReadErrorKind}
 use Rattle.sml_read.specs.declared.error.ReadErrorKind.TheVariants.{TooLong, NotAscii, BadToken, Unexpected, TooDeep, TooMany, Memory}
 
@@ -22,3 +24,7 @@ name_of Unexpected = codes "Unexpected"
 name_of TooDeep = codes "TooDeep"
 name_of TooMany = codes "TooMany"
 name_of Memory = codes "Memory"
+
+-- a refusal in words
+abbrev pub error_text : ReadError → List ℕ
+error_text e = name_of e.kind ++ codes " at " ++ decimal e.offset

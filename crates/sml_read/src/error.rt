@@ -1,6 +1,6 @@
 //! Why a text is refused.
-ghost use Rattle.std.specs.Prelude.{◌≡◌};
-ghost use Rattle.sml_read.specs.Refusal.{number_of, name_of};
+ghost use Rattle.std.specs.Prelude.{◌≡◌, Some};
+ghost use Rattle.sml_read.specs.Refusal.{number_of, name_of, error_text};
 
 use std::fmt;
 
@@ -63,12 +63,16 @@ impl ReadErrorKind {
 }
 
 impl fmt::Display for ReadErrorKind {
+    ghost output = { λ kind. Some (name_of kind) };
+
     fn fmt<W: fmt::Write>(&self, f: &mut fmt::Formatter<W>) -> fmt::Result {
         f.write_str(self.name())
     }
 }
 
 impl fmt::Display for ReadError {
+    ghost output = { λ error. Some (error_text error) };
+
     fn fmt<W: fmt::Write>(&self, f: &mut fmt::Formatter<W>) -> fmt::Result {
         write!(f, "{} at {}", self.kind, self.offset)
     }

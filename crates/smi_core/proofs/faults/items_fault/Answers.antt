@@ -1,7 +1,7 @@
 use Rattle.std.proofs.Common.{map, flat_map, refl}
-use Rattle.sml_tree.specs.Content.{instr_content, block_of, action_content, state_content, class_content, item_content}
-use Rattle.smi_core.specs.Faults.{first, in_block, in_action, in_state, instr_faults, item_faults, with_kind}
-use Rattle.smi_core.proofs.Rests.{first_here, first_next, first-append}
+use Rattle.sml_tree.specs.Content.{item_content}
+use Rattle.smi_core.specs.Faults.{first, item_faults}
+use Rattle.smi_core.proofs.Rests.{first_here, first-append}
 use Rattle.smi_core.proofs.faults.items_fault.Goals as goal
 
 pub returns-in-Some : goal.returns-in-Some

@@ -1,8 +1,6 @@
-use Rattle.std.proofs.Common.{◌≡◌, ap, refl, ◌∙◌, sym, subst, Bool, true, Result, Err, Option}
+use Rattle.std.proofs.Common.{ap, refl, ◌∙◌, sym, subst, Bool, Err}
 use Rattle.sml_text.specs.declared.source.Source.TheVariants.{Line}
-use Rattle.smi_core.specs.Line.{LineAnswers, asked, lexemes, is_line}
-use Rattle.smi_core.specs.declared.step.Step.{Step}
-use Rattle.smi_core.specs.declared.line.LineError.{LineError}
+use Rattle.smi_core.specs.Line.{LineAnswers, asked, lexemes}
 use Rattle.smi_core.specs.declared.line.LineError.TheVariants.{BadLine}
 use Rattle.smi_core.proofs.line.read_step.Goals as goal
 

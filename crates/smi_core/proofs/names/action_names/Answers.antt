@@ -1,7 +1,7 @@
 use Rattle.std.proofs.Common.{◌∙◌, ap, sym, refl, map, flat_map, fold}
 use Rattle.sml_tree.specs.Syntax.{ClassData}
 use Rattle.sml_tree.specs.Content.{item_content}
-use Rattle.smi_core.specs.FileDomain.{distinct_more, class_list, classes_in, names_of_states, names_of_actions}
+use Rattle.smi_core.specs.FileDomain.{distinct_more, class_list, classes_in, names_of_actions}
 use Rattle.smi_core.proofs.Foldings.{moves_of, names_item}
 use Rattle.smi_core.proofs.names.action_names.Goals as goal
 

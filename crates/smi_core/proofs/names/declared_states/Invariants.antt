@@ -1,7 +1,5 @@
-use Rattle.std.proofs.Common.{map, flat_map, fold, ◌++◌, List, []}
-use Rattle.std.specs.List.{list_any}
-use Rattle.sml_tree.specs.Syntax.{StateData, ActionData, ClassData, ObjectData}
-use Rattle.sml_tree.specs.Content.{item_content, class_content, state_content, action_content}
+use Rattle.std.proofs.Common.{map, flat_map, fold, []}
+use Rattle.sml_tree.specs.Content.{item_content}
 use Rattle.smi_core.specs.FileDomain as domain
 use Rattle.smi_core.specs.FileDomain.{distinct_more}
 use Rattle.smi_core.proofs.Rests.{Rest}

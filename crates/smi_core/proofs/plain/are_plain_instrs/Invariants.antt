@@ -1,8 +1,6 @@
-use Rattle.std.proofs.Common.{map, flat_map, List, [], fold, take}
-use Rattle.std.specs.List.{list_all, list_any}
-use Rattle.sml_tree.specs.Content.{file_content, item_content, class_content, state_content, action_content, instr_content, block_of}
+use Rattle.std.proofs.Common.{map}
+use Rattle.sml_tree.specs.Content.{instr_content, block_of}
 use Rattle.smi_core.specs.Plain as forms
-use Rattle.smi_core.specs.Faults as faults
 use Rattle.smi_core.proofs.Rests.{Rest}
 use Rattle.smi_core.proofs.plain.are_plain_instrs.Given as goal
 

@@ -1,5 +1,5 @@
 use Rattle.std.proofs.Common.{map, []}
-use Rattle.sml_tree.specs.Content.{item_content, state_content, action_content}
+use Rattle.sml_tree.specs.Content.{action_content}
 use Rattle.smi_core.specs.Faults as faults
 use Rattle.smi_core.proofs.Rests.{Past}
 use Rattle.smi_core.proofs.repeats.repeated_action.Given as goal

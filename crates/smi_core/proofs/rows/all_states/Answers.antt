@@ -1,4 +1,4 @@
-use Rattle.std.proofs.Common.{◌≡◌, sym, ap, ◌∙◌, subst, All, [], ℕ}
+use Rattle.std.proofs.Common.{sym, ap, ◌∙◌, subst, All}
 use Rattle.smi_core.specs.Placed.{StateIsPlaced, ActionIsPlaced}
 use Rattle.smi_core.proofs.Gathered.{all_more, all_none}
 use Rattle.smi_core.proofs.rows.all_states.Goals as goal

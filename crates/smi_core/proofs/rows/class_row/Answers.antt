@@ -1,7 +1,7 @@
-use Rattle.std.proofs.Common.{◌≡◌, ℕ, sym, ap, ◌∙◌, subst, map, List, [], ◌++◌, is_some, true}
+use Rattle.std.proofs.Common.{◌≡◌, ℕ, sym, ap, ◌∙◌, subst, List, is_some, true}
 use Rattle.sml_tree.specs.Content.{state_content, class_content}
 use Rattle.smi_core.specs.Domain.{State, state_in}
-use Rattle.smi_core.specs.FileDomain.{added_state, state_row, number}
+use Rattle.smi_core.specs.FileDomain.{added_state, number}
 use Rattle.smi_core.specs.Placed.{ClassIsPlaced}
 use Rattle.smi_core.proofs.DeadStates.{starts_in, dead_among, map_some}
 use Rattle.smi_core.proofs.rows.class_row.Goals as goal

@@ -1,9 +1,8 @@
-use Rattle.std.proofs.Common.{map, flat_map, refl, ap, sym, ◌∙◌, ◌∷◌, [], ◌++◌}
+use Rattle.std.proofs.Common.{map, refl}
 use Rattle.std.proofs.lemmas.List.{map-append}
-use Rattle.sml_tree.specs.Content.{item_content, state_content, action_content, instr_content, block_of}
+use Rattle.sml_tree.specs.Content.{item_content}
 use Rattle.smi_core.specs.FileDomain as domain
-use Rattle.smi_core.specs.Placed.{ObjectIsPlaced}
-use Rattle.smi_core.proofs.Gathered.{gathered, all_more}
+use Rattle.smi_core.proofs.Gathered.{gathered}
 use Rattle.smi_core.proofs.rows.object_rows.Goals as goal
 
 pub loop-item-preserved : goal.loop-item-preserved

@@ -1,7 +1,7 @@
 use Rattle.std.proofs.Common.{map, All, ◌++◌}
-use Rattle.sml_tree.specs.Content.{item_content, state_content, action_content, instr_content, block_of}
+use Rattle.sml_tree.specs.Content.{instr_content, block_of}
 use Rattle.smi_core.specs.FileDomain as domain
-use Rattle.smi_core.specs.Placed.{InstrIsPlaced, ActionIsPlaced, StateIsPlaced, ClassIsPlaced, ObjectIsPlaced}
+use Rattle.smi_core.specs.Placed.{InstrIsPlaced}
 use Rattle.smi_core.proofs.Rests.{Rest}
 use Rattle.smi_core.proofs.rows.program.Given as goal
 

@@ -1,6 +1,5 @@
-use Rattle.std.proofs.Common.{map, flat_map, refl, ap, sym, ◌∙◌, ◌∷◌, [], ◌++◌}
-use Rattle.std.proofs.lemmas.List.{map-append}
-use Rattle.sml_tree.specs.Content.{item_content, state_content, action_content, instr_content, block_of}
+use Rattle.std.proofs.Common.{map, refl, ap, ◌∙◌, ◌∷◌, [], ◌++◌}
+use Rattle.sml_tree.specs.Content.{state_content}
 use Rattle.smi_core.specs.FileDomain as domain
 use Rattle.smi_core.specs.Placed.{StateIsPlaced}
 use Rattle.smi_core.proofs.Gathered.{gathered, all_more}

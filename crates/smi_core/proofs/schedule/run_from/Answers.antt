@@ -2,7 +2,7 @@ use Rattle.smi_core.specs.Output.{LineWrites}
 use Rattle.std.proofs.Common.{◌++◌, ◌≤◌, arith, length, take}
 use Rattle.std.proofs.lemmas.Grind.{common_steps}
 use Rattle.std.proofs.Common.{length-append, length-take-le}
-use Rattle.smi_core.proofs.Io.{on_err, on_ok, consumes_more, consumes_kept, consumes_empty}
+use Rattle.smi_core.proofs.Io.{consumes_more, consumes_kept, consumes_empty}
 use Rattle.smi_core.proofs.Parts.{went_more, halted_more, halted_here, halted_now, first_lines, whole, torn}
 use Rattle.smi_core.proofs.schedule.run_from.Goals as goal
 
