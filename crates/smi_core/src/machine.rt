@@ -480,6 +480,7 @@ impl Core {
             Step::Start(object) => self.start(object),
             Step::Go(object) => self.go(object),
         };
+        // One place behind the three ways, where the contract is shown once.
         let _ = &self.capacity;
         answer
     }

@@ -265,7 +265,8 @@ fn run_from<S: Source, W: Write>(
     ensures ok { OnOk result ((text : List ℕ) × Consumes (S.remaining source.old) (S.remaining source.new) text × IsAtEnd (S.remaining source.new) × (length text ≤ 16777216)
         × ((out : List ℕ) × Appends (W.contents writer.old) (W.contents writer.new) out × Outputs LineWrites core.old (lines_of text) out core.new)) }
     ensures err { OnErr result ((text : List ℕ) × Consumes (S.remaining source.old) (S.remaining source.new) text
-        × FirstLines LineWrites core.old text (W.contents writer.old) (W.contents writer.new) core.new) }
+        × FirstLines LineWrites core.old text (W.contents writer.old) (W.contents writer.new) core.new
+        × ((length text ≤ 16777216) ⊎ (result ≡ Err ScheduleFault.TooLong))) }
     ensures too_long { result ≡ Err ScheduleFault.TooLong → (text : List ℕ) × Consumes (S.remaining source.old) (S.remaining source.new) text × (16777216 < length text) }
     ensures read { result ≡ Err ScheduleFault.Read → S.has_failed source.new }
 {
@@ -313,7 +314,8 @@ pub fn run_schedule<R: Read, W: Write>(
     ensures ok { OnOk result ((text : List ℕ) × Consumes (R.remaining reader.old) (R.remaining reader.new) text × IsAtEnd (R.remaining reader.new) × (length text ≤ 16777216)
         × ((out : List ℕ) × Appends (W.contents writer.old) (W.contents writer.new) out × Outputs LineWrites core.old (lines_of text) out core.new)) }
     ensures err { OnErr result ((text : List ℕ) × Consumes (R.remaining reader.old) (R.remaining reader.new) text
-        × FirstLines LineWrites core.old text (W.contents writer.old) (W.contents writer.new) core.new) }
+        × FirstLines LineWrites core.old text (W.contents writer.old) (W.contents writer.new) core.new
+        × ((length text ≤ 16777216) ⊎ (result ≡ Err ScheduleFault.TooLong))) }
     ensures too_long { result ≡ Err ScheduleFault.TooLong → (text : List ℕ) × Consumes (R.remaining reader.old) (R.remaining reader.new) text × (16777216 < length text) }
 {
     run_from(alloc, core, reader, writer)

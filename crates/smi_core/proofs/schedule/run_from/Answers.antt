@@ -1,5 +1,5 @@
 use Rattle.smi_core.specs.Output.{LineWrites}
-use Rattle.std.proofs.Common.{◌++◌, ◌≤◌, arith, length, take}
+use Rattle.std.proofs.Common.{◌++◌, ◌≤◌, arith, length, take, inl, inr, refl}
 use Rattle.std.proofs.lemmas.Grind.{common_steps}
 use Rattle.std.proofs.Common.{length-append, length-take-le}
 use Rattle.smi_core.proofs.Io.{consumes_more, consumes_kept, consumes_empty}
@@ -9,17 +9,17 @@ use Rattle.smi_core.proofs.schedule.run_from.Goals as goal
 pub returns-in_default-clause-err : goal.returns-in_default-clause-err
 returns-in_default-clause-err g c =
     let s = c.reads.invariant.so_far in
-    (s.0, consumes_kept _ _ _ _ s.1 c.in_default.ensures.none.1, first_lines LineWrites _ s.0 _ _ _ (halted_now LineWrites _ _ _ _ _ _ _ _ s.3))
+    (s.0, consumes_kept _ _ _ _ s.1 c.in_default.ensures.none.1, first_lines LineWrites _ s.0 _ _ _ (halted_now LineWrites _ _ _ _ _ _ _ _ s.3), inl (omega (arith, s.2, c.reads.invariant.most)))
 
 pub returns-then-n-total-clause-err : goal.returns-then-n-total-clause-err
 returns-then-n-total-clause-err g c =
     let s = c.reads.invariant.so_far in
-    (s.0 ++ take c.in-Some.n c.fetch.new.buf, consumes_more _ _ _ _ _ s.1 c.in-Some.ensures.some.1, first_lines LineWrites _ _ _ _ _ (halted_here LineWrites _ _ _ _ _ _ _ _ _ s.3))
+    (s.0 ++ take c.in-Some.n c.fetch.new.buf, consumes_more _ _ _ _ _ s.1 c.in-Some.ensures.some.1, first_lines LineWrites _ _ _ _ _ (halted_here LineWrites _ _ _ _ _ _ _ _ _ s.3), inr refl)
 
 pub returns-in-Err-clause-err : goal.returns-in-Err-clause-err
 returns-in-Err-clause-err g c =
     let s = c.reads.invariant.so_far in
-    (s.0 ++ take c.in-Some.n c.fetch.new.buf, consumes_more _ _ _ _ _ s.1 c.in-Some.ensures.some.1, first_lines LineWrites _ _ _ _ _ (halted_more LineWrites _ _ _ _ _ _ _ _ _ _ _ s.3 c.in-Err.ensures.err))
+    (s.0 ++ take c.in-Some.n c.fetch.new.buf, consumes_more _ _ _ _ _ s.1 c.in-Some.ensures.some.1, first_lines LineWrites _ _ _ _ _ (halted_more LineWrites _ _ _ _ _ _ _ _ _ _ _ s.3 c.in-Err.ensures.err), inl (omega (arith, s.2, c.reads.invariant.most, c.if-n-total.false, length-take-le c.in-Some.n c.fetch.new.buf c.in-Some.ensures.some.0, length-append s.0 (take c.in-Some.n c.fetch.new.buf))))
 
 pub reads-preserved : goal.reads-preserved
 reads-preserved g c =
@@ -63,4 +63,5 @@ returns-clause-err g c =
       s.0,
       consumes_empty _ _ _ _ _ _ c.if-n-eq0.true s.1 c.in-Some.ensures.some.1,
       torn LineWrites _ _ _ _ _ _ _ _ _ s.3 (c.in-Err-end_line.ensures.err s.3.left s.3.pending),
+      inl (omega (arith, s.2, c.reads.invariant.most)),
     )
