@@ -32,6 +32,29 @@ object: L is_of_class LAMP
 objectset: G { L }
 ";
 
+// A domain with more forms that are read, and not executed yet.
+const SUPPLIES: &str = "\
+class: SUPPLY /associated
+  state: OFF /initial_state
+    action: SWITCH_ON
+  state: ON
+    action: SWITCH_OFF
+class: RUN_TYPE
+  state: NOT_READY /initial_state
+    action: CONFIGURE
+      do SWITCH_ON all_in HV
+      if ( all_in HV in_state ON ) then
+        move_to READY
+      endif
+      move_to ERROR
+  state: READY
+  state: ERROR
+object: HV1 is_of_class SUPPLY
+object: HV2 is_of_class SUPPLY
+object: RUN is_of_class RUN_TYPE
+objectset: HV { HV1, HV2 }
+";
+
 const STEP: &[&str] = &["smirun", "step", "domain.sml", "schedule"];
 
 // Makes a new folder for a test and enters it.
@@ -291,6 +314,8 @@ fn the_domain_comes_first(rt: HostRuntime) -> Result<(), Fail> {
     enter(&rt, "the_domain_comes_first")?;
     expect(&rt, STEP, 1, "", "domain.sml unreadable\n")?;
     fs::write(&rt, "domain.sml", WITH_A_SET.as_bytes())?;
+    expect(&rt, STEP, 1, "", "domain.sml not yet\n")?;
+    fs::write(&rt, "domain.sml", SUPPLIES.as_bytes())?;
     expect(&rt, STEP, 1, "", "domain.sml not yet\n")?;
     fs::write(&rt, "domain.sml", FIRST.as_bytes())?;
     expect(&rt, STEP, 1, "", "schedule unreadable\n")?;

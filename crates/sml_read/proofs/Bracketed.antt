@@ -3,7 +3,7 @@ use Rattle.std.proofs.Common.{◌≡◌, ℕ, refl, List, ◌∷◌}
 use Rattle.sml_tree.specs.declared.token_kind.TokenKind.TheVariants.{OpenBracket, CloseBracket, Parameters, Colon, Name}
 use Rattle.sml_tree.specs.Piece.{Piece}
 use Rattle.sml_tree.specs.Syntax.{PassedData, ActionParamData, ClassParamData}
-use Rattle.sml_tree.specs.Form.{Passed, ArgList, MorePassedArg, ActionParam, ActionParamList, MoreActionParam, ClassParam, ClassParamList, MoreClassParam, Members, MoreMember}
+use Rattle.sml_tree.specs.Form.{Passed, ArgList, MorePassedArg, ActionParam, ActionParamList, MoreActionParam, ClassParam, ClassParamList, MoreClassParam, Members, MoreMember, Names, MoreName}
 use Rattle.sml_tree.specs.Grammar.{name}
 use Rattle.sml_read.specs.Reads.{Passes, Leads}
 use Rattle.sml_read.specs.Lists.{LeadsTo}
@@ -27,3 +27,7 @@ class_params_begun t a old u v new x e kind colon passes g more k = rw (e, colon
 -- the first member of a set
 pub members_begun : (t : Piece) (old new : List Piece) (w : List ℕ) → old ≡ t ∷ new → t.kind ≡ Name → w ≡ name t → Leads Members (MoreMember 1) (λ v. w ∷ v) old new
 members_begun t old new w e kind is g more k = rw (e, kind, is) refl
+
+-- the first state of a list
+pub names_begun : (t : Piece) (old new : List Piece) (w : List ℕ) → old ≡ t ∷ new → t.kind ≡ Name → w ≡ name t → Leads Names (MoreName 1) (λ v. w ∷ v) old new
+names_begun t old new w e kind is g more k = rw (e, kind, is) refl

@@ -56,7 +56,6 @@ action_ok before old x y new w params body h a b =
 pub action_err : (before : ℕ) (old x y : List Piece) (w : List ℕ) (params : List ActionParamData) (e : Stop)
     → Head Action 32 before old x w → Read of.ActionParamList params x y → Stops (of.Block 0) y e → Stops (of.Action before) old e
 action_err before old x y w params stop.Memory h a b = tt
-action_err before old x y w params (stop.NotYet at) h a b = some_token h.first
 action_err before old x y w params (stop.Fault f) h a b =
     let kind = seen Action h.t old h.u h.first h.sees in
     λ g more k. rw (h.first, h.colon.0, h.named.0, kind, h.room) (rw (h.colon.1, h.named.1) (a.1 g _ _ ∙ b g _ _))
@@ -72,7 +71,6 @@ state_ok before old x y new w marks actions h a b =
 pub state_err : (before : ℕ) (old x y : List Piece) (w : List ℕ) (marks : Marks) (e : Stop)
     → Head State 32 before old x w → Read of.StateMark marks x y → Stops (of.Action 0) y e → Stops (of.State before) old e
 state_err before old x y w marks stop.Memory h a b = tt
-state_err before old x y w marks (stop.NotYet at) h a b = some_token h.first
 state_err before old x y w marks (stop.Fault f) h a b =
     let kind = seen State h.t old h.u h.first h.sees in
     λ g more k. rw (h.first, h.colon.0, h.named.0, kind, h.room) (rw (h.colon.1, h.named.1) (a.1 g _ _ ∙ b g _ _))
@@ -88,7 +86,6 @@ class_ok c o s old x y z new w associated params states h a b d =
 pub class_err : (c o s : ℕ) (old x y z : List Piece) (w : List ℕ) (associated : Bool) (params : List ClassParamData) (e : Stop)
     → Head Class 64 c old x w → Read of.ClassMark associated x y → Read of.ClassParamList params y z → Stops (of.State 0) z e → Stops (of.File c o s) old e
 class_err c o s old x y z w associated params stop.Memory h a b d = tt
-class_err c o s old x y z w associated params (stop.NotYet at) h a b d = some_token h.first
 class_err c o s old x y z w associated params (stop.Fault f) h a b d =
     let kind = seen Class h.t old h.u h.first h.sees in
     λ g more k. rw (h.first, h.colon.0, h.named.0, kind, h.room) (rw (h.colon.1, h.named.1) (a.1 g _ _ ∙ b.1 g _ _ ∙ d g _ _))
@@ -106,7 +103,6 @@ object_ok c o s old x y new w w' b d h is_of class is =
 pub object_err : (c o s : ℕ) (old x y new : List Piece) (w : List ℕ) (b : Piece) (e : Stop)
     → Head Object 64 o old x w → Taken IsOfClass b x y → ReadsToken Name y new (Err e) → Stops (of.File c o s) old e
 object_err c o s old x y new w b stop.Memory h is_of none = tt
-object_err c o s old x y new w b (stop.NotYet at) h is_of none = some_token h.first
 object_err c o s old x y new w b (stop.Fault f) h is_of none =
     let kind = seen Object h.t old h.u h.first h.sees in
     λ g more k. rw (h.first, h.colon.0, h.named.0, is_of.0, kind, h.room) (rw (h.colon.1, h.named.1, is_of.1) (none g _ _ _))
@@ -114,6 +110,11 @@ object_err c o s old x y new w b (stop.Fault f) h is_of none =
 pub member_ok : (before : ℕ) (old u new : List Piece) (t n : Piece) (w : List ℕ) → old ≡ t ∷ u → t.kind ≡ Comma → nat_lt before 64 ≡ true → Taken Name n u new → w ≡ name n
     → Ahead (of.MoreMember before) (of.MoreMember (before + 1)) (λ v. w ∷ v) old new
 member_ok before old u new t n w e kind room named is =
+    (omega (arith, ap length e, ap length named.0), λ g more k. rw (e, named.0, kind, is, room) (rw named.1 refl))
+
+pub name_ok : (before : ℕ) (old u new : List Piece) (t n : Piece) (w : List ℕ) → old ≡ t ∷ u → t.kind ≡ Comma → nat_lt before 32 ≡ true → Taken Name n u new → w ≡ name n
+    → Ahead (of.MoreName before) (of.MoreName (before + 1)) (λ v. w ∷ v) old new
+name_ok before old u new t n w e kind room named is =
     (omega (arith, ap length e, ap length named.0), λ g more k. rw (e, named.0, kind, is, room) (rw named.1 refl))
 
 pub set_ok : (c o s : ℕ) (old x y z new : List Piece) (w : List ℕ) (members : List (List ℕ)) (b d : Piece)
@@ -129,7 +130,6 @@ set_ok c o s old x y z new w members b d h open' a close =
 pub set_err : (c o s : ℕ) (old x y z new : List Piece) (w : List ℕ) (members : List (List ℕ)) (b : Piece) (e : Stop)
     → Head ObjectSet 32 s old x w → Taken OpenBrace b x y → Read of.Members members y z → ReadsToken CloseBrace z new (Err e) → Stops (of.File c o s) old e
 set_err c o s old x y z new w members b stop.Memory h open' a none = tt
-set_err c o s old x y z new w members b (stop.NotYet at) h open' a none = some_token h.first
 set_err c o s old x y z new w members b (stop.Fault f) h open' a none =
     let kind = seen ObjectSet h.t old h.u h.first h.sees in
     λ g more k. rw (h.first, h.colon.0, h.named.0, open'.0, kind, h.room) (rw (h.colon.1, h.named.1, open'.1) (a.1 g _ _ ∙ none g _ _ _))
@@ -137,7 +137,6 @@ set_err c o s old x y z new w members b (stop.Fault f) h open' a none =
 pub members_err : (c o s : ℕ) (old x y : List Piece) (w : List ℕ) (b : Piece) (e : Stop)
     → Head ObjectSet 32 s old x w → Taken OpenBrace b x y → Stops of.Members y e → Stops (of.File c o s) old e
 members_err c o s old x y w b stop.Memory h open' a = tt
-members_err c o s old x y w b (stop.NotYet at) h open' a = some_token h.first
 members_err c o s old x y w b (stop.Fault f) h open' a =
     let kind = seen ObjectSet h.t old h.u h.first h.sees in
     λ g more k. rw (h.first, h.colon.0, h.named.0, open'.0, kind, h.room) (rw (h.colon.1, h.named.1, open'.1) (a g _ _))

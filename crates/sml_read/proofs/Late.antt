@@ -1,5 +1,5 @@
 -- What the machine says of a text's tokens.
-use Rattle.std.proofs.Common.{◌≡◌, ℕ, List, [], ◌∷◌, Ok, Err, None, false, refl}
+use Rattle.std.proofs.Common.{◌≡◌, ℕ, List, [], ◌∷◌, length, Ok, Err, None, false, refl, inl, inr}
 use Rattle.sml_text.specs.declared.source.Source.TheVariants.{Domain}
 use Rattle.sml_text.specs.Tokens.{Token, TokensOf}
 use Rattle.sml_text.specs.Stream.{tokens_from}
@@ -33,11 +33,10 @@ pub failed : (text : List ℕ) (ts : List Token) (f : Fault) → tokens_from Dom
 failed text ts f e h = rw e at (faulty (File 0 0 0) _ (part (File 0 0 0)) (left false 0 text) f file_ready h)
 
 -- the refusal of a text that has tokens
-pub late : {X : Type 0} (view : X → List ItemData) (text : List ℕ) (ts : List Token) (s : Stop) (size : ℕ) → IsShort text → first_foreign text ≡ None → TokensOf Domain text ts
-    → tokens_from Domain 0 text ≡ ts → Gives view (Err s) (run (File 0 0 0) _ (part (File 0 0 0)) (left false 0 text)) → Cause text (error_of s size).kind (error_of s size).offset
-late view text ts stop.Memory size short ascii tokens e h = ((short, ascii, (ts, tokens)), refl)
-late view text ts (stop.NotYet at) size short ascii tokens e h = (short, ascii, (ts, tokens))
-late view text ts (stop.Fault (fault.Unexpected at)) size short ascii tokens e h = (short, ascii, (ts, tokens))
-late view text ts (stop.Fault (fault.TooDeep at)) size short ascii tokens e h = (short, ascii, (ts, tokens, failed text ts (fault.TooDeep at) e h))
-late view text ts (stop.Fault (fault.TooMany at)) size short ascii tokens e h = (short, ascii, (ts, tokens, failed text ts (fault.TooMany at) e h))
-late view text ts (stop.Fault fault.Ends) size short ascii tokens e h = (short, ascii, (ts, tokens))
+pub late : {X : Type 0} (view : X → List ItemData) (text : List ℕ) (ts : List Token) (s : Stop) → IsShort text → first_foreign text ≡ None → TokensOf Domain text ts
+    → tokens_from Domain 0 text ≡ ts → Gives view (Err s) (run (File 0 0 0) _ (part (File 0 0 0)) (left false 0 text)) → Cause text (error_of s (length text)).kind (error_of s (length text)).offset
+late view text ts stop.Memory short ascii tokens e h = ((short, ascii, (ts, tokens)), refl)
+late view text ts (stop.Fault (fault.Unexpected at)) short ascii tokens e h = inl (short, ascii, (ts, tokens, failed text ts (fault.Unexpected at) e h))
+late view text ts (stop.Fault (fault.TooDeep at)) short ascii tokens e h = (short, ascii, (ts, tokens, failed text ts (fault.TooDeep at) e h))
+late view text ts (stop.Fault (fault.TooMany at)) short ascii tokens e h = (short, ascii, (ts, tokens, failed text ts (fault.TooMany at) e h))
+late view text ts (stop.Fault fault.Ends) short ascii tokens e h = inr ((short, ascii, (ts, tokens, failed text ts fault.Ends e h)), refl)

@@ -1,4 +1,6 @@
 pub mod Bracketed
+pub mod Chains
+pub mod Choices
 pub mod Codes
 pub mod Complete
 pub mod Faulty

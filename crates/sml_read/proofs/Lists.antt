@@ -54,6 +54,5 @@ read_end_to n next close f none v old mid middle new t a b e kind is g more k =
 pub read_err_to : (n next : Part) (close : TokenKind) (f : Value next → Value n) (none : Value next) (old mid middle new : List Piece) (e : Stop)
     → LeadsTo n next close f old mid → Passes next none mid middle → ReadsToken close middle new (Err e) → Stops n old e
 read_err_to n next close f none old mid middle new stop.Memory a b h = tt
-read_err_to n next close f none old mid middle new (stop.NotYet at) a b h = absurd h
 read_err_to n next close f none old mid middle new (stop.Fault x) a b h =
     λ g more k. a g more k ∙ b g (B close ∷ more) (λ w. needs close Fine (λ _. k (f w))) ∙ h g more Fine (λ _. k (f none))

@@ -1,5 +1,7 @@
 -- Tokens are at most one file, and then have no fault.
-use Rattle.std.proofs.Common.{◌≡◌, List, [], ◌∷◌, ◌++◌, Ok, refl, ap, sym, ◌∙◌, subst, append_assoc}
+use Rattle.std.proofs.Common.{◌≡◌, ℕ, Err, length, false, List, [], ◌∷◌, ◌++◌, Ok, refl, ap, sym, ◌∙◌, subst, append_assoc}
+use Rattle.sml_text.specs.declared.source.Source.TheVariants.{Domain}
+use Rattle.sml_text.specs.Stream.{tokens_from}
 use Rattle.sml_text.specs.Tokens.{Token}
 use Rattle.sml_tree.specs.Syntax.{ItemData}
 use Rattle.sml_tree.specs.Form.{File, part, Part, Bone, Form, Value, Mark, Fine, Deep, Many}
@@ -7,6 +9,12 @@ use Rattle.sml_tree.specs.Piece.{Piece, marked_words}
 use Rattle.sml_tree.specs.Derive.{IsFile, Marked, Derives, fine, plain, marked}
 use Rattle.sml_read.specs.declared.fault.Fault.{Fault}
 use Rattle.sml_read.specs.declared.fault.Fault.TheVariants as fault
+use Rattle.sml_read.specs.declared.fault.Stop.{Stop}
+use Rattle.sml_read.specs.declared.fault.Stop.TheVariants as stop
+use Rattle.sml_read.specs.declared.error.ReadErrorKind.TheVariants.{Memory}
+use Rattle.sml_read.specs.Left.{left}
+use Rattle.sml_read.specs.Reads.{Gives}
+use Rattle.sml_read.specs.Promise.{error_of, refusal}
 use Rattle.sml_read.specs.Machine.{run, Move, Stuck, Goes, advance}
 use Rattle.sml_read.specs.Faults.{FileFault, FaultOf}
 use Rattle.sml_read.proofs.Complete.{complete, Ready, Takes, stepped}
@@ -15,6 +23,16 @@ use Rattle.sml_read.proofs.Late.{file_ready}
 -- what is derived, the machine reads
 read : (ts : List Token) (file : List ItemData) → IsFile (marked_words ts) file → run (File 0 0 0) _ (part (File 0 0 0)) (marked_words ts) ≡ Ok file
 read ts file d = complete (File 0 0 0) _ (part (File 0 0 0)) (marked_words ts) file d file_ready
+
+-- what the machine takes of a text's tokens is the file that they say
+pub said : (text : List ℕ) (ts : List Token) (file v : List ItemData) → tokens_from Domain 0 text ≡ ts → run (File 0 0 0) _ (part (File 0 0 0)) (left false 0 text) ≡ Ok v → IsFile (marked_words ts) file → v ≡ file
+said text ts file v e h d = let p = read ts file d in let r = ap (λ l. run (File 0 0 0) _ (part (File 0 0 0)) (marked_words l)) e in cc
+
+-- where a text says a file, memory alone stops the reading
+pub memory_alone : {X : Type 0} (view : X → List ItemData) (text : List ℕ) (ts : List Token) (file : List ItemData) (s : Stop) → tokens_from Domain 0 text ≡ ts
+    → Gives view (Err s) (run (File 0 0 0) _ (part (File 0 0 0)) (left false 0 text)) → IsFile (marked_words ts) file → error_of s (length text) ≡ refusal Memory 0
+memory_alone view text ts file stop.Memory e h d = refl
+memory_alone view text ts file (stop.Fault f) e h d = let p = read ts file d in let r = ap (λ l. run (File 0 0 0) _ (part (File 0 0 0)) (marked_words l)) e in absurd (cc h)
 
 pub one_file : (ts us : List Token) (file other : List ItemData) → ts ≡ us → IsFile (marked_words ts) file → IsFile (marked_words us) other → file ≡ other
 one_file ts us file other e a b = let p = read ts file a in let q = read us other b in let r = ap (λ l. run (File 0 0 0) _ (part (File 0 0 0)) (marked_words l)) e in cc

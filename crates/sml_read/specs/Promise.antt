@@ -1,5 +1,5 @@
 -- What a reading answers.
-use Rattle.std.specs.Prelude.{◌≡◌, ◌≤◌, ◌<◌, ℕ, ◌^◌, nat_lt, List, length, position, Option, Some, None}
+use Rattle.std.specs.Prelude.{◌≡◌, ◌⊎◌, ◌≤◌, ◌<◌, ℕ, ◌^◌, nat_lt, List, length, position, Option, Some, None, Result, Ok, Err}
 use Rattle.sml_text.specs.declared.source.Source.TheVariants.{Domain}
 use Rattle.sml_text.specs.Tokens.{Token, TokensOf, BadTokenOf}
 use Rattle.sml_tree.specs.Syntax.{ItemData}
@@ -43,15 +43,19 @@ abbrev pub Cause : List ℕ → ReadErrorKind → ℕ → Type 0
 Cause text TooLong at = (2 ^ 20 < length text) × (at ≡ 2 ^ 20)
 Cause text NotAscii at = IsShort text × (first_foreign text ≡ Some at)
 Cause text BadToken at = IsShort text × (first_foreign text ≡ None) × BadTokenOf Domain text at
-Cause text Unexpected at = HasTokens text
+Cause text Unexpected at = FaultOfText text (fault.Unexpected at) ⊎ (FaultOfText text fault.Ends × (at ≡ length text))
 Cause text TooDeep at = FaultOfText text (fault.TooDeep at)
 Cause text TooMany at = FaultOfText text (fault.TooMany at)
 Cause text Memory at = HasTokens text × (at ≡ 0)
 
+-- the file was read, or memory ran out
+abbrev pub ReadsFile : {X : Type 0} → (X → List ItemData) → Result X ReadError → List ItemData → Type 0
+ReadsFile content (Ok x) file = content x ≡ file
+ReadsFile content (Err e) file = e ≡ refusal Memory 0
+
 -- what a stop is to the caller, of a text of so many bytes
 abbrev pub error_of : Stop → ℕ → ReadError
 error_of stop.Memory size = refusal Memory 0
-error_of (stop.NotYet at) size = refusal Unexpected at
 error_of (stop.Fault (fault.Unexpected at)) size = refusal Unexpected at
 error_of (stop.Fault (fault.TooDeep at)) size = refusal TooDeep at
 error_of (stop.Fault (fault.TooMany at)) size = refusal TooMany at

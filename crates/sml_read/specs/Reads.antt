@@ -21,11 +21,10 @@ Passes n v old new = (g : Part) (more : List Bone) (k : Value n → Form (Value 
 abbrev pub Leads : (n next : Part) → (Value next → Value n) → List Piece → List Piece → Type 0
 Leads n next front old new = (g : Part) (more : List Bone) (k : Value n → Form (Value g) more) → run g (P (family n) ∷ more) (calls n k) old ≡ run g (P (family next) ∷ more) (calls next (λ v. k (front v))) new
 
--- a refusal is that of the tokens, a want of memory, or a form that is not read yet, which some token begins
+-- a stop is a refusal of the tokens or a want of memory
 abbrev pub Stops : Part → List Piece → Stop → Type 0
 Stops n old stop.Memory = Unit {0}
 Stops n old (stop.Fault f) = Refuses n old f
-Stops n old (stop.NotYet at) = 1 ≤ length old
 
 -- what is read of a part
 abbrev pub Reads : {X : Type 0} (n : Part) → (X → Value n) → List Piece → List Piece → Result X Stop → Type 0
@@ -36,7 +35,6 @@ Reads n view old new (Err e) = Stops n old e
 abbrev pub ReadsToken : TokenKind → List Piece → List Piece → Result Piece Stop → Type 0
 ReadsToken kind old new (Ok x) = (old ≡ x ∷ new) × (x.kind ≡ kind)
 ReadsToken kind old new (Err stop.Memory) = ⊥
-ReadsToken kind old new (Err (stop.NotYet at)) = ⊥
 ReadsToken kind old new (Err (stop.Fault f)) = (g : Part) (more : List Bone) (mark : Mark) (k : Piece → Form (Value g) more) → run g (B kind ∷ more) (needs kind mark k) old ≡ Err f
 
 -- what is read of the front of a list that is empty where no front stands
@@ -60,11 +58,10 @@ abbrev pub SeesKind : TokenKind → List Piece → Type 0
 SeesKind kind [] = ⊥
 SeesKind kind (t ∷ ts) = t.kind ≡ kind
 
--- What is returned is what the machine gives, unless memory ran out or a form is not read yet.
+-- what is returned is what the machine gives, unless memory ran out
 abbrev pub Gives : {X Y : Type 0} → (X → Y) → Result X Stop → Result Y Fault → Type 0
 Gives view (Ok x) read = read ≡ Ok (view x)
 Gives view (Err stop.Memory) read = Unit {0}
-Gives view (Err (stop.NotYet at)) read = Unit {0}
 Gives view (Err (stop.Fault f)) read = read ≡ Err f
 
 -- the fault of tokens that do not go on as they should
@@ -75,5 +72,4 @@ Refusal (t ∷ ts) f = f ≡ Unexpected t.at
 -- a stop is a fault of which something is said
 abbrev pub IfFault : Stop → (Fault → Type 0) → Type 0
 IfFault stop.Memory Q = ⊥
-IfFault (stop.NotYet at) Q = ⊥
 IfFault (stop.Fault f) Q = Q f

@@ -1,9 +1,11 @@
 //! Instructions.
 ghost use Rattle.std.specs.Prelude.{◌≡◌, ◌≤◌, ◌<◌, ◌+◌, List, [], ◌∷◌, map, Ok, IfOk, IsSome};
-ghost use Rattle.sml_tree.specs.Form.{Literal as Literal', Arg as Arg', Every, Passed as Passed', ArgList, MorePassedArg, Block as Block'};
+ghost use Rattle.sml_tree.specs.Form.{Literal as Literal', Arg as Arg', Every, Passed as Passed', ArgList, MorePassedArg, Branch, Arm, Block as Block'};
+ghost use Rattle.sml_tree.specs.Form.{Else};
 ghost use Rattle.sml_tree.specs.Content.{literal_content, arg_content, passed_content, instr_content};
 ghost use Rattle.sml_tree.specs.declared.token_kind.TokenKind.TheVariants as kinds;
 ghost use Rattle.sml_read.specs.Reads.{Reads, ReadsNext, ReadsFront, SeesKind};
+ghost use Rattle.sml_read.specs.Arms.{arms_content};
 
 use crate::fault::{Fault, Stop};
 use crate::make;
@@ -15,6 +17,16 @@ use std::alloc::Allocator;
 
 /// How many arguments a `do` may have.
 const MAX_ARGS: usize = 16;
+
+/// How many `if`s may stand round an instruction.
+const MAX_IFS: u32 = 16;
+
+/// The two blocks of an `if`.
+#[derive(Drop)]
+pub(crate) struct Arms<A: Allocator + Clone> {
+    pub yes: Block<A>,
+    pub no: Block<A>,
+}
 
 impl Reader<'_> {
     /// A value that is written out.
@@ -162,6 +174,7 @@ impl Reader<'_> {
     }
 
     /// The next instruction of a block inside so many `if`s, where one stands there.
+    #[cycle(instructions)]
     fn instr<A: Allocator + Clone>(
         &mut self,
         alloc: &A,
@@ -172,15 +185,78 @@ impl Reader<'_> {
     {
         match self.peek() {
             Some(TokenKind::Do) => Ok(Some(self.send(alloc, depth)?)),
+            Some(TokenKind::If) => Ok(Some(self.choice(alloc, depth)?)),
             Some(TokenKind::Set) => Ok(Some(self.assignment(alloc, depth)?)),
             Some(TokenKind::MoveTo) => Ok(Some(self.movement(depth)?)),
             Some(TokenKind::TerminateAction) => Ok(Some(self.termination(depth)?)),
-            Some(TokenKind::If) => Err(Stop::NotYet(self.take().at())),
             _ => Ok(None),
         }
     }
 
+    /// An `if`, whose word stands in front.
+    #[cycle(instructions)]
+    fn choice<A: Allocator + Clone>(&mut self, alloc: &A, depth: u32) -> Result<Instr<A>, Stop>
+        requires at_if { SeesKind kinds.If self.old }
+        requires depth { depth ≤ 16 }
+        ensures { ReadsFront (Block' depth) (Block' depth) (λ i v. instr_content i ∷ v) self.old self.new result }
+    {
+        let held = self.take();
+        if depth >= MAX_IFS {
+            return Err(Stop::Fault(Fault::TooDeep(held.at())));
+        }
+        self.branch(alloc, depth)
+    }
+
+    /// What follows the word of an `if` inside so many others.
+    #[cycle(instructions)]
+    fn branch<A: Allocator + Clone>(&mut self, alloc: &A, depth: u32) -> Result<Instr<A>, Stop>
+        requires { depth < 16 }
+        ensures { Reads (Branch depth) instr_content self.old self.new result }
+    {
+        if !matches!(self.peek(), Some(TokenKind::OpenBracket)) {
+            return Err(self.refusal());
+        }
+        self.take();
+        let mut tests = 0;
+        let cond = self.condition(alloc, 0, &mut tests)?;
+        self.expect(TokenKind::CloseBracket)?;
+        let arms = self.arms(alloc, depth)?;
+        Ok(make::choose(cond, arms.yes, arms.no))
+    }
+
+    /// The two blocks of an `if`.
+    #[cycle(instructions)]
+    fn arms<A: Allocator + Clone>(&mut self, alloc: &A, depth: u32) -> Result<Arms<A>, Stop>
+        requires { depth < 16 }
+        ensures { Reads (Arm depth) arms_content self.old self.new result }
+    {
+        if !matches!(self.peek(), Some(TokenKind::Then)) {
+            return Err(self.refusal());
+        }
+        self.take();
+        let yes = self.block(alloc, depth + 1)?;
+        let no = self.otherwise(alloc, depth + 1)?;
+        self.expect(TokenKind::Endif)?;
+        Ok(Arms { yes, no })
+    }
+
+    /// The second block of an `if`, which may be left out.
+    #[cycle(instructions)]
+    fn otherwise<A: Allocator + Clone>(&mut self, alloc: &A, depth: u32) -> Result<Block<A>, Stop>
+        requires { depth ≤ 16 }
+        ensures { Reads (Else depth) (λ b. map instr_content b.instrs.items) self.old self.new result }
+    {
+        if !matches!(self.peek(), Some(TokenKind::Else)) {
+            return Ok(Block {
+                instrs: Vec::new(alloc.clone()?),
+            });
+        }
+        self.take();
+        self.block(alloc, depth)
+    }
+
     /// The instructions of a block inside so many `if`s.
+    #[cycle(instructions)]
     pub fn block<A: Allocator + Clone>(&mut self, alloc: &A, depth: u32) -> Result<Block<A>, Stop>
         requires { depth ≤ 16 }
         ensures { Reads (Block' depth) (λ b. map instr_content b.instrs.items) self.old self.new result }

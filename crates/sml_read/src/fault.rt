@@ -19,8 +19,6 @@ pub(crate) enum Fault {
 pub(crate) enum Stop {
     Memory,
     Fault(Fault),
-    /// A form of the grammar that is not read yet.
-    NotYet(usize),
 }
 
 impl From<AllocError> for Stop {

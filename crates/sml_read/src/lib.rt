@@ -2,11 +2,17 @@
 #![tactic(auto)]
 
 mod block;
+mod cond_test;
+mod condition;
+#[cfg(test)]
+mod condition_tests;
 mod error;
 mod fault;
 mod held;
 mod item;
 pub mod laws;
+#[cfg(test)]
+mod limit_tests;
 mod make;
 mod param;
 mod reader;

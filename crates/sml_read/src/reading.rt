@@ -1,14 +1,15 @@
 //! The reading of a text.
-ghost use Rattle.std.specs.Prelude.{◌≡◌, ◌≤◌, ◌<◌, ◌^◌, ℕ, map, length, IfOk, IfErr, Some, None, Err, false};
+ghost use Rattle.std.specs.Prelude.{◌≡◌, ◌≤◌, ◌<◌, ◌^◌, ℕ, List, map, length, IfOk, IfErr, Some, None, Err, false};
 ghost use Rattle.sml_text.specs.declared.source.Source.TheVariants as source;
 ghost use Rattle.sml_text.specs.Tokens.{BadTokenOf};
+ghost use Rattle.sml_tree.specs.Syntax.{ItemData};
 ghost use Rattle.sml_tree.specs.Form.{File, part};
 ghost use Rattle.sml_tree.specs.Content.{item_content, file_content};
 ghost use Rattle.sml_read.specs.declared.error.ReadErrorKind.TheVariants as kinds;
 ghost use Rattle.sml_read.specs.Left.{left};
 ghost use Rattle.sml_read.specs.Machine.{run};
 ghost use Rattle.sml_read.specs.Reads.{Gives};
-ghost use Rattle.sml_read.specs.Promise.{refusal, IsShort, first_foreign, IsFileOf, Cause, error_of as told};
+ghost use Rattle.sml_read.specs.Promise.{refusal, IsShort, first_foreign, IsFileOf, ReadsFile, Cause, error_of as told};
 
 use crate::error::{ReadError, ReadErrorKind};
 use crate::fault::{Fault, Stop};
@@ -48,7 +49,6 @@ fn error_of(stop: Stop, length: usize) -> ReadError
 {
     let (kind, offset) = match stop {
         Stop::Memory => (ReadErrorKind::Memory, 0),
-        Stop::NotYet(offset) => (ReadErrorKind::Unexpected, offset),
         Stop::Fault(Fault::Unexpected(offset)) => (ReadErrorKind::Unexpected, offset),
         Stop::Fault(Fault::TooDeep(offset)) => (ReadErrorKind::TooDeep, offset),
         Stop::Fault(Fault::TooMany(offset)) => (ReadErrorKind::TooMany, offset),
@@ -57,14 +57,14 @@ fn error_of(stop: Stop, length: usize) -> ReadError
     ReadError { kind, offset }
 }
 
-/// Reads a text of a domain, by the whole grammar (docs/LANGUAGE.md, "Grammar") but for `if`, which
-/// is refused as Unexpected for now.
+/// Reads a text of a domain, by the whole grammar (docs/LANGUAGE.md, "Grammar").
 ///
 /// The kinds of refusals are looked for in the order of their numbers, TooLong, NotAscii and BadToken
 /// over the whole text; these three take no memory. Where nothing is read nothing stays allocated. The
 /// time grows with the length of the text.
 pub fn read<A: Allocator + Clone>(alloc: A, text: &[u8]) -> Result<SmlFile<A>, ReadError>
     ensures read { IfOk result (λ f. IsFileOf text.now (file_content f)) }
+    ensures complete { (file : List ItemData) → IsFileOf text.now file → ReadsFile file_content result file }
     ensures refused { IfErr result (λ e. Cause text.now e.kind e.offset) }
     ensures too_long { 2 ^ 20 < length text.now → result ≡ Err (refusal kinds.TooLong (2 ^ 20)) }
     ensures not_ascii { (k : ℕ) → IsShort text.now → first_foreign text.now ≡ Some k → result ≡ Err (refusal kinds.NotAscii k) }

@@ -24,17 +24,17 @@ object: L is_of_class LAMP
 object: B is_of_class BOSS
 ";
 
-fn is(name: &Name, text: &[u8]) -> bool {
+pub fn is(name: &Name, text: &[u8]) -> bool {
     name.as_bytes() == text
 }
 
 // How a text is refused: the number of the kind, and the offset.
-fn refused(alloc: Global, text: &[u8]) -> Option<(u8, usize)> {
+pub fn refused(alloc: Global, text: &[u8]) -> Option<(u8, usize)> {
     read(alloc, text).err().map(|e| (e.kind.number(), e.offset))
 }
 
 // So many times the same bytes.
-fn times(alloc: Global, bytes: &[u8], count: usize) -> Result<Vec<u8>, Fail> {
+pub fn times(alloc: Global, bytes: &[u8], count: usize) -> Result<Vec<u8>, Fail> {
     let mut text = Vec::new(alloc);
     for _ in 0..count {
         text.extend_from_slice(bytes)?;

@@ -1,0 +1,31 @@
+use Rattle.std.proofs.Common.{◌≤◌, ◌+◌, ◌*◌, ◌-◌, ◌++◌, length, map}
+use Rattle.sml_tree.specs.Content.{instr_content}
+use Rattle.sml_tree.specs.Form.{Block}
+use Rattle.sml_read.specs.Reads.{Leads}
+use Rattle.sml_read.proofs.reader.Reader.+instructions.Given as goal
+
+abbrev pub decreases-otherwise : goal.decreases-otherwise
+decreases-otherwise g l = 6 * (16 - l.depth) + 4
+
+abbrev pub decreases-block : goal.decreases-block
+decreases-block g l = 6 * (16 - l.depth) + 3
+
+abbrev pub decreases-instr : goal.decreases-instr
+decreases-instr g l = 6 * (16 - l.depth) + 2
+
+abbrev pub decreases-choice : goal.decreases-choice
+decreases-choice g l = 6 * (16 - l.depth) + 1
+
+abbrev pub decreases-branch : goal.decreases-branch
+decreases-branch g l = 6 * (16 - l.depth)
+
+abbrev pub decreases-arms : goal.decreases-arms
+decreases-arms g l = 6 * (15 - l.depth) + 5
+
+-- what was read stands before what is left
+abbrev pub invariant-block-loop-instrs : goal.invariant-block-loop-instrs
+invariant-block-loop-instrs g l =
+    (length l.self ≤ length l.fn.self) × Leads (Block l.depth) (Block l.depth) (λ v. map instr_content l.instrs.items ++ v) l.fn.self l.self
+
+abbrev pub decreases-block-loop-instrs : goal.decreases-block-loop-instrs
+decreases-block-loop-instrs g l = length l.self

@@ -1,0 +1,12 @@
+use Rattle.std.proofs.Common.{◌≤◌, ◌++◌, length, vec_len}
+use Rattle.sml_tree.specs.Form.{Names, MoreName}
+use Rattle.sml_read.specs.Reads.{Leads}
+use Rattle.sml_read.proofs.reader.Reader.names.Given as goal
+
+-- what was read stands before what is left
+abbrev pub invariant-loop-names : goal.invariant-loop-names
+invariant-loop-names g l =
+    (length l.self ≤ length l.fn.self) × (vec_len l.names ≤ 32) × Leads Names (MoreName (vec_len l.names)) (λ v. l.names.items ++ v) l.fn.self l.self
+
+abbrev pub decreases-loop-names : goal.decreases-loop-names
+decreases-loop-names g l = length l.self

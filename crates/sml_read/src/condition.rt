@@ -1,0 +1,167 @@
+//! Conditions.
+ghost use Rattle.std.specs.Prelude.{◌≡◌, ◌≤◌, ◌<◌, OnOk};
+ghost use Rattle.sml_tree.specs.Form.{Unit' as Operand, Conj, MoreAnd, MoreOr};
+ghost use Rattle.sml_tree.specs.Form.{Cond as Cond'};
+ghost use Rattle.sml_tree.specs.Content.{cond_content};
+ghost use Rattle.sml_tree.specs.declared.token_kind.TokenKind.TheVariants as kinds;
+ghost use Rattle.sml_read.specs.Reads.{Reads, SeesKind};
+
+use crate::fault::{Fault, Stop};
+use crate::make;
+use crate::reader::Reader;
+use sml_tree::cond::Cond;
+use sml_tree::token_kind::TokenKind;
+use std::alloc::Allocator;
+
+/// How many `not`s and brackets of a condition may be open.
+const MAX_OPEN: u32 = 16;
+
+impl Reader<'_> {
+    /// An operand inside so many open `not`s and brackets: a `not`, a bracket or a test.
+    #[cycle(conditions)]
+    fn operand<A: Allocator + Clone>(
+        &mut self,
+        alloc: &A,
+        depth: u32,
+        tests: &mut u32,
+    ) -> Result<Cond<A>, Stop>
+        requires depth { depth ≤ 16 }
+        requires tests { tests.old ≤ 64 }
+        ensures read { Reads (Operand depth tests.old) (λ c. record { formula = cond_content c; count = tests.new }) self.old self.new result }
+        ensures room { OnOk result (tests.new ≤ 64) }
+    {
+        match self.peek() {
+            Some(TokenKind::Not) => self.negation(alloc, depth, tests),
+            Some(TokenKind::OpenBracket) => self.bracket(alloc, depth, tests),
+            Some(TokenKind::Name) => self.test_of_one(alloc, depth, tests),
+            Some(TokenKind::AllIn) => self.test_of_all(alloc, depth, tests),
+            Some(TokenKind::AnyIn) => self.test_of_any(alloc, depth, tests),
+            _ => Err(self.refusal()),
+        }
+    }
+
+    /// A `not`, whose word stands in front.
+    #[cycle(conditions)]
+    fn negation<A: Allocator + Clone>(
+        &mut self,
+        alloc: &A,
+        depth: u32,
+        tests: &mut u32,
+    ) -> Result<Cond<A>, Stop>
+        requires at_not { SeesKind kinds.Not self.old }
+        requires depth { depth ≤ 16 }
+        requires tests { tests.old ≤ 64 }
+        ensures read { Reads (Operand depth tests.old) (λ c. record { formula = cond_content c; count = tests.new }) self.old self.new result }
+        ensures room { OnOk result (tests.new ≤ 64) }
+    {
+        let held = self.take();
+        if depth >= MAX_OPEN {
+            return Err(Stop::Fault(Fault::TooDeep(held.at())));
+        }
+        let operand = self.operand(alloc, depth + 1, tests)?;
+        Ok(make::neither(alloc, operand)?)
+    }
+
+    /// A condition in brackets, the first of which stands in front.
+    #[cycle(conditions)]
+    fn bracket<A: Allocator + Clone>(
+        &mut self,
+        alloc: &A,
+        depth: u32,
+        tests: &mut u32,
+    ) -> Result<Cond<A>, Stop>
+        requires at_bracket { SeesKind kinds.OpenBracket self.old }
+        requires depth { depth ≤ 16 }
+        requires tests { tests.old ≤ 64 }
+        ensures read { Reads (Operand depth tests.old) (λ c. record { formula = cond_content c; count = tests.new }) self.old self.new result }
+        ensures room { OnOk result (tests.new ≤ 64) }
+    {
+        let held = self.take();
+        if depth >= MAX_OPEN {
+            return Err(Stop::Fault(Fault::TooDeep(held.at())));
+        }
+        let inner = self.condition(alloc, depth + 1, tests)?;
+        self.expect(TokenKind::CloseBracket)?;
+        Ok(inner)
+    }
+
+    /// Operands with `and` between them.
+    #[cycle(conditions)]
+    #[tactic(auto, using(crate::proofs::Chains::conj_run))]
+    fn conjunction<A: Allocator + Clone>(
+        &mut self,
+        alloc: &A,
+        depth: u32,
+        tests: &mut u32,
+    ) -> Result<Cond<A>, Stop>
+        requires depth { depth ≤ 16 }
+        requires tests { tests.old ≤ 64 }
+        ensures read { Reads (Conj depth tests.old) (λ c. record { formula = cond_content c; count = tests.new }) self.old self.new result }
+        ensures room { OnOk result (tests.new ≤ 64) }
+    {
+        let left = self.operand(alloc, depth, tests)?;
+        self.more_ands(alloc, depth, tests, left)
+    }
+
+    /// What follows the left operand of a chain of `and`.
+    #[cycle(conditions)]
+    fn more_ands<A: Allocator + Clone>(
+        &mut self,
+        alloc: &A,
+        depth: u32,
+        tests: &mut u32,
+        mut left: Cond<A>,
+    ) -> Result<Cond<A>, Stop>
+        requires depth { depth ≤ 16 }
+        requires tests { tests.old ≤ 64 }
+        ensures read { Reads (MoreAnd depth tests.old (cond_content left)) (λ c. record { formula = cond_content c; count = tests.new }) self.old self.new result }
+        ensures room { OnOk result (tests.new ≤ 64) }
+    {
+        'ands: while matches!(self.peek(), Some(TokenKind::And)) {
+            self.take();
+            let right = self.operand(alloc, depth, tests)?;
+            left = make::both(alloc, left, right)?;
+        }
+        Ok(left)
+    }
+
+    /// A condition inside so many open `not`s and brackets.
+    #[cycle(conditions)]
+    #[tactic(auto, using(crate::proofs::Chains::cond_run))]
+    pub fn condition<A: Allocator + Clone>(
+        &mut self,
+        alloc: &A,
+        depth: u32,
+        tests: &mut u32,
+    ) -> Result<Cond<A>, Stop>
+        requires depth { depth ≤ 16 }
+        requires tests { tests.old ≤ 64 }
+        ensures read { Reads (Cond' depth tests.old) (λ c. record { formula = cond_content c; count = tests.new }) self.old self.new result }
+        ensures room { OnOk result (tests.new ≤ 64) }
+    {
+        let left = self.conjunction(alloc, depth, tests)?;
+        self.more_ors(alloc, depth, tests, left)
+    }
+
+    /// What follows the left operand of a chain of `or`.
+    #[cycle(conditions)]
+    fn more_ors<A: Allocator + Clone>(
+        &mut self,
+        alloc: &A,
+        depth: u32,
+        tests: &mut u32,
+        mut left: Cond<A>,
+    ) -> Result<Cond<A>, Stop>
+        requires depth { depth ≤ 16 }
+        requires tests { tests.old ≤ 64 }
+        ensures read { Reads (MoreOr depth tests.old (cond_content left)) (λ c. record { formula = cond_content c; count = tests.new }) self.old self.new result }
+        ensures room { OnOk result (tests.new ≤ 64) }
+    {
+        'ors: while matches!(self.peek(), Some(TokenKind::Or)) {
+            self.take();
+            let right = self.conjunction(alloc, depth, tests)?;
+            left = make::either(alloc, left, right)?;
+        }
+        Ok(left)
+    }
+}
