@@ -1,6 +1,6 @@
 //! The lines of answers to steps.
 ghost use Rattle.std.specs.Prelude.{◌≡◌, ◌∷◌, flat_map};
-ghost use Rattle.sml_text.specs.Written.{Told};
+ghost use Rattle.sml_text.specs.Written.{Told, StaysDue};
 ghost use Rattle.smi_core.specs.EntryText.{entry_text};
 ghost use Rattle.smi_core.specs.Output as text;
 
@@ -10,20 +10,20 @@ use crate::entry_text::{tell_entry, tell_number, tell_session};
 use crate::error::StepError;
 use crate::session::SessionId;
 use crate::step::{Answer, Step};
-use sml_text::writing::tell;
+use sml_text::writing::{Sink, tell};
 use sml_tree::name::Name;
-use std::io::Write;
 
 // A name with a blank before it.
-fn tell_word<W: Write>(writer: &mut W, failed: &mut bool, name: &Name)
-    ensures { Told (W.contents writer.old) failed.old (W.contents writer.new) failed.new (32 ∷ name.now) }
+fn tell_word<W: Sink>(writer: &mut W, failed: &mut bool, name: &Name)
+    ensures told { Told (W.contents writer.old) failed.old (W.contents writer.new) failed.new (32 ∷ name.now) }
+    ensures due { StaysDue (W.has_refused writer.old) failed.old (W.has_refused writer.new) failed.new }
 {
     tell(writer, failed, b" ");
     tell(writer, failed, name.as_bytes());
 }
 
 // The line of a request that was accepted under a number.
-fn tell_accepted<W: Write>(
+fn tell_accepted<W: Sink>(
     writer: &mut W,
     failed: &mut bool,
     sender: SessionId,
@@ -31,7 +31,8 @@ fn tell_accepted<W: Write>(
     number: u64,
     action: &Name,
 )
-    ensures { Told (W.contents writer.old) failed.old (W.contents writer.new) failed.new (text.accept_text sender object.now number action.now) }
+    ensures told { Told (W.contents writer.old) failed.old (W.contents writer.new) failed.new (text.accept_text sender object.now number action.now) }
+    ensures due { StaysDue (W.has_refused writer.old) failed.old (W.has_refused writer.new) failed.new }
 {
     tell(writer, failed, b"accept");
     tell_session(writer, failed, sender);
@@ -58,8 +59,9 @@ fn kind_of(error: StepError) -> &'static [u8]
 }
 
 /// The line of a refusal.
-pub fn tell_refused<W: Write>(writer: &mut W, failed: &mut bool, kind: &[u8])
-    ensures { Told (W.contents writer.old) failed.old (W.contents writer.new) failed.new (text.refused_text kind.now) }
+pub fn tell_refused<W: Sink>(writer: &mut W, failed: &mut bool, kind: &[u8])
+    ensures told { Told (W.contents writer.old) failed.old (W.contents writer.new) failed.new (text.refused_text kind.now) }
+    ensures due { StaysDue (W.has_refused writer.old) failed.old (W.has_refused writer.new) failed.new }
 {
     tell(writer, failed, b"refused ");
     tell(writer, failed, kind);
@@ -67,8 +69,9 @@ pub fn tell_refused<W: Write>(writer: &mut W, failed: &mut bool, kind: &[u8])
 }
 
 // The lines of entries.
-fn tell_entries<W: Write>(writer: &mut W, failed: &mut bool, domain: &Domain, entries: &[Entry])
-    ensures { Told (W.contents writer.old) failed.old (W.contents writer.new) failed.new (flat_map (entry_text domain.now) entries.now) }
+fn tell_entries<W: Sink>(writer: &mut W, failed: &mut bool, domain: &Domain, entries: &[Entry])
+    ensures told { Told (W.contents writer.old) failed.old (W.contents writer.new) failed.new (flat_map (entry_text domain.now) entries.now) }
+    ensures due { StaysDue (W.has_refused writer.old) failed.old (W.has_refused writer.new) failed.new }
 {
     for entry in entries {
         tell_entry(writer, failed, domain, entry);
@@ -77,7 +80,7 @@ fn tell_entries<W: Write>(writer: &mut W, failed: &mut bool, domain: &Domain, en
 
 /// The lines of the answer to a step, which added entries. (docs/FORMATS.md, "Schedules".) The cost is
 /// the length of the lines.
-pub fn tell_answer<W: Write>(
+pub fn tell_answer<W: Sink>(
     writer: &mut W,
     failed: &mut bool,
     domain: &Domain,
@@ -85,7 +88,8 @@ pub fn tell_answer<W: Write>(
     answer: &Result<Answer, StepError>,
     added: &[Entry],
 )
-    ensures { Told (W.contents writer.old) failed.old (W.contents writer.new) failed.new (text.answer_text domain.now step.now answer.now added.now) }
+    ensures told { Told (W.contents writer.old) failed.old (W.contents writer.new) failed.new (text.answer_text domain.now step.now answer.now added.now) }
+    ensures due { StaysDue (W.has_refused writer.old) failed.old (W.has_refused writer.new) failed.new }
 {
     match answer {
         Ok(Answer::Entries { .. }) => tell_entries(writer, failed, domain, added),
@@ -95,8 +99,9 @@ pub fn tell_answer<W: Write>(
 }
 
 // The line of a step that was accepted under a number, where it is a request.
-fn tell_number_given<W: Write>(writer: &mut W, failed: &mut bool, step: &Step, number: u64)
-    ensures { Told (W.contents writer.old) failed.old (W.contents writer.new) failed.new (text.accepted_text step.now number) }
+fn tell_number_given<W: Sink>(writer: &mut W, failed: &mut bool, step: &Step, number: u64)
+    ensures told { Told (W.contents writer.old) failed.old (W.contents writer.new) failed.new (text.accepted_text step.now number) }
+    ensures due { StaysDue (W.has_refused writer.old) failed.old (W.has_refused writer.new) failed.new }
 {
     match step {
         Step::Request {

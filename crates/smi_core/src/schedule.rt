@@ -1,7 +1,7 @@
 //! Schedules: lines of steps from a reader, and what they write to a writer.
 ghost use Rattle.std.specs.Prelude.{◌≡◌, ℕ, List, [], ◌++◌, ◌∷◌, ◌<◌, ◌≤◌, ◌⊎◌, length, take, drop, Option, IfSome, IfNone, OnOk, OnErr, Ok, Err, Some, codes};
 ghost use Rattle.std.specs.Io.KnownBytes.{Appends, Consumes, IsAtEnd, Keeps};
-ghost use Rattle.sml_text.specs.Written.{Told};
+ghost use Rattle.sml_text.specs.Written.{Told, StaysDue};
 ghost use Rattle.smi_core.specs.Feeds.{Outputs, IsPending, Went, Halted, FirstLines, lines_of};
 ghost use Rattle.smi_core.specs.Line.{LineReads};
 ghost use Rattle.smi_core.specs.Output.{Writes, LineWrites, refused_text};
@@ -12,6 +12,7 @@ use crate::error::StepError;
 use crate::line::{LONGEST_LINE, LineError, read_step};
 use crate::machine::Core;
 use crate::step::Step;
+use sml_text::writing::Sink;
 use std::alloc::{AllocError, Global};
 use std::io::{Read, Write};
 
@@ -38,6 +39,7 @@ impl LineFault {
     fn of_schedule(self) -> ScheduleFault
         ensures read { result ≡ ScheduleFault.Read → ⊥ }
         ensures too_long { result ≡ ScheduleFault.TooLong → ⊥ }
+        ensures write { result ≡ ScheduleFault.Write → self ≡ LineFault.Write }
     {
         match self {
             LineFault::Write => ScheduleFault::Write,
@@ -104,19 +106,20 @@ fn behind(entries: &[Entry], first: usize) -> &[Entry]
 }
 
 // Makes a step and writes its lines. Want of memory changes nothing and writes nothing.
-fn make_step<W: Write>(
+fn make_step<W: Sink>(
     core: &mut Core,
     writer: &mut W,
     failed: &mut bool,
     step: &Step,
-) -> Result<(), LineFault>
+) -> Result<(), AllocError>
     ensures ok { OnOk result ((out : List ℕ) × Writes core.old (Ok (Some step.now)) out core.new × Told (W.contents writer.old) failed.old (W.contents writer.new) failed.new out) }
     ensures err { OnErr result ((core.new ≡ core.old) × (W.contents writer.new ≡ W.contents writer.old)) }
+    ensures due { StaysDue (W.has_refused writer.old) failed.old (W.has_refused writer.new) failed.new }
 {
     let first = core.journal().len();
     let answer = core.step(step);
     if let Err(StepError::Memory) = answer {
-        return Err(LineFault::Memory);
+        return Err(AllocError);
     }
     let added = behind(core.journal().entries(), first);
     tell_answer(writer, failed, core.domain(), step, &answer, added);
@@ -124,14 +127,17 @@ fn make_step<W: Write>(
 }
 
 // Makes a step and writes its lines, or the first part of them.
-fn step_line<W: Write>(core: &mut Core, writer: &mut W, step: &Step) -> Result<(), LineFault>
+fn step_line<W: Sink>(core: &mut Core, writer: &mut W, step: &Step) -> Result<(), LineFault>
     ensures ok { OnOk result ((out : List ℕ) × Writes core.old (Ok (Some step.now)) out core.new × Appends (W.contents writer.old) (W.contents writer.new) out) }
     ensures err { OnErr result
         (((core.new ≡ core.old) × Appends (W.contents writer.old) (W.contents writer.new) [])
         ⊎ ((out : List ℕ) × (unwritten : List ℕ) × Writes core.old (Ok (Some step.now)) (out ++ unwritten) core.new × Appends (W.contents writer.old) (W.contents writer.new) out)) }
+    ensures write { result ≡ Err LineFault.Write → W.has_refused writer.new }
 {
     let mut failed = false;
-    make_step(core, writer, &mut failed, step)?;
+    let Ok(()) = make_step(core, writer, &mut failed, step) else {
+        return Err(LineFault::Memory);
+    };
     if failed {
         return Err(LineFault::Write);
     }
@@ -139,9 +145,10 @@ fn step_line<W: Write>(core: &mut Core, writer: &mut W, step: &Step) -> Result<(
 }
 
 // Writes that a line is no step, or the first part of that.
-fn bad_line<W: Write>(writer: &mut W) -> Result<(), LineFault>
+fn bad_line<W: Sink>(writer: &mut W) -> Result<(), LineFault>
     ensures ok { OnOk result (Appends (W.contents writer.old) (W.contents writer.new) (refused_text (codes "BadLine"))) }
     ensures err { OnErr result ((out : List ℕ) × (unwritten : List ℕ) × (refused_text (codes "BadLine") ≡ out ++ unwritten) × Appends (W.contents writer.old) (W.contents writer.new) out) }
+    ensures write { result ≡ Err LineFault.Write → W.has_refused writer.new }
 {
     let mut failed = false;
     tell_refused(writer, &mut failed, b"BadLine");
@@ -152,7 +159,7 @@ fn bad_line<W: Write>(writer: &mut W) -> Result<(), LineFault>
 }
 
 // Does what a line asks and writes what it writes, or the first part of that.
-fn make_line<W: Write>(
+fn make_line<W: Sink>(
     core: &mut Core,
     writer: &mut W,
     asked: Result<Option<Step>, LineError>,
@@ -161,6 +168,7 @@ fn make_line<W: Write>(
     ensures err { OnErr result
         (((core.new ≡ core.old) × Appends (W.contents writer.old) (W.contents writer.new) [])
         ⊎ ((out : List ℕ) × (unwritten : List ℕ) × Writes core.old asked (out ++ unwritten) core.new × Appends (W.contents writer.old) (W.contents writer.new) out)) }
+    ensures write { result ≡ Err LineFault.Write → W.has_refused writer.new }
 {
     match asked {
         Err(LineError::BadLine) => bad_line(writer),
@@ -171,7 +179,7 @@ fn make_line<W: Write>(
 }
 
 // Ends the line: does what it asks, writes what it writes, and begins the next line.
-fn end_line<W: Write>(
+fn end_line<W: Sink>(
     core: &mut Core,
     writer: &mut W,
     pending: &mut Pending,
@@ -181,6 +189,7 @@ fn end_line<W: Write>(
     ensures err { (line : List ℕ) → IsPending pending.old.kept.items pending.old.over line → OnErr result
         (((core.new ≡ core.old) × Appends (W.contents writer.old) (W.contents writer.new) [])
         ⊎ ((out : List ℕ) × (unwritten : List ℕ) × LineWrites core.old line (out ++ unwritten) core.new × Appends (W.contents writer.old) (W.contents writer.new) out)) }
+    ensures write { result ≡ Err LineFault.Write → W.has_refused writer.new }
 {
     let asked = pending.read();
     if let Err(fault) = make_line(core, writer, asked) {
@@ -190,7 +199,7 @@ fn end_line<W: Write>(
     Ok(())
 }
 
-fn feed_byte<W: Write>(
+fn feed_byte<W: Sink>(
     core: &mut Core,
     writer: &mut W,
     pending: &mut Pending,
@@ -200,6 +209,7 @@ fn feed_byte<W: Write>(
         (Went LineWrites core.old line (b ∷ []) (W.contents writer.old) (W.contents writer.new) core.new pending.new.kept.items pending.new.over) }
     ensures err { (line : List ℕ) → IsPending pending.old.kept.items pending.old.over line → OnErr result
         (Halted LineWrites core.old line (b ∷ []) (W.contents writer.old) (W.contents writer.new) core.new) }
+    ensures write { result ≡ Err LineFault.Write → W.has_refused writer.new }
 {
     if b == b'\n' {
         return end_line(core, writer, pending);
@@ -210,7 +220,7 @@ fn feed_byte<W: Write>(
     Ok(())
 }
 
-fn feed_chunk<W: Write>(
+fn feed_chunk<W: Sink>(
     core: &mut Core,
     writer: &mut W,
     pending: &mut Pending,
@@ -220,6 +230,7 @@ fn feed_chunk<W: Write>(
         (Went LineWrites core.old line chunk.now (W.contents writer.old) (W.contents writer.new) core.new pending.new.kept.items pending.new.over) }
     ensures err { (line : List ℕ) → IsPending pending.old.kept.items pending.old.over line → OnErr result
         (Halted LineWrites core.old line chunk.now (W.contents writer.old) (W.contents writer.new) core.new) }
+    ensures write { result ≡ Err LineFault.Write → W.has_refused writer.new }
 {
     for b in chunk {
         if let Err(fault) = feed_byte(core, writer, pending, *b) {
@@ -255,8 +266,9 @@ impl<R: Read> Source for R {
     }
 }
 
-// Runs a schedule from a source. `Read` is answered only of a source that has failed.
-fn run_from<S: Source, W: Write>(
+// Runs a schedule from a source. `Read` is answered only of a source that has failed, `Write` only of
+// a sink that has refused.
+fn run_from<S: Source, W: Sink>(
     alloc: Global,
     core: &mut Core,
     source: &mut S,
@@ -269,6 +281,7 @@ fn run_from<S: Source, W: Write>(
         × ((length text ≤ 16777216) ⊎ (result ≡ Err ScheduleFault.TooLong))) }
     ensures too_long { result ≡ Err ScheduleFault.TooLong → (text : List ℕ) × Consumes (S.remaining source.old) (S.remaining source.new) text × (16777216 < length text) }
     ensures read { result ≡ Err ScheduleFault.Read → S.has_failed source.new }
+    ensures write { result ≡ Err ScheduleFault.Write → W.has_refused writer.new }
 {
     let mut buf = [0u8; 4096];
     let mut pending = Pending {

@@ -12,7 +12,7 @@ returns-in-Err-clause-err g c line p =
     let makes = LineWrites in
     let h = halted_more makes _ line _ _ _ _ _ _ _ _ _ (c.loop-b.invariant line p) c.in-Err.ensures.err in
     let k = halted_before makes _ line _ (drop (i + 1) c.args.chunk.now) _ _ _ h in
-    subst (λ l. Halted makes c.args.core.now line l (g.W.Write.contents c.args.writer.now) (g.W.Write.contents c.feed_byte.new.writer) c.feed_byte.new.core) (take-append-drop (i + 1) c.args.chunk.now) (rw more k)
+    subst (λ l. Halted makes c.args.core.now line l (g.W.Sink.contents c.args.writer.now) (g.W.Sink.contents c.feed_byte.new.writer) c.feed_byte.new.core) (take-append-drop (i + 1) c.args.chunk.now) (rw more k)
 
 pub loop-b-preserved : goal.loop-b-preserved
 loop-b-preserved g c line p =

@@ -8,8 +8,8 @@ use Rattle.smi_core.proofs.schedule.make_line.Goals as goal
 
 pub returns-in-Ok-Some-clause-err : goal.returns-in-Ok-Some-clause-err
 returns-in-Ok-Some-clause-err g c =
-    let old = g.W.Write.contents c.args.writer.now in
-    let new = g.W.Write.contents c.step_line.new.writer in
+    let old = g.W.Sink.contents c.args.writer.now in
+    let new = g.W.Sink.contents c.step_line.new.writer in
     let P : Result (Option Step) LineError → Type 0 = λ r. OnErr c.step_line.result
     (((c.step_line.new.core ≡ c.args.core.now) × Appends old new [])
     ⊎ ((out : List ℕ) × (unwritten : List ℕ) × Writes c.args.core.now r (out ++ unwritten) c.step_line.new.core × Appends old new out)) in

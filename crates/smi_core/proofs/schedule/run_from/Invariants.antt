@@ -9,7 +9,7 @@ invariant-reads g l = record {
   most : l.total ≤ 16777216;
   room : length l.buf ≡ 4096;
   so_far : (text : List ℕ) × Consumes (g.S.Source.remaining l.fn.source) (g.S.Source.remaining l.source) text × (l.total ≡ length text)
-      × Went LineWrites l.fn.core [] text (g.W.Write.contents l.fn.writer) (g.W.Write.contents l.writer) l.core l.pending.kept.items l.pending.over;
+      × Went LineWrites l.fn.core [] text (g.W.Sink.contents l.fn.writer) (g.W.Sink.contents l.writer) l.core l.pending.kept.items l.pending.over;
 }
 
 abbrev pub decreases-reads : goal.decreases-reads

@@ -1,6 +1,6 @@
 use Rattle.std.proofs.Common.{arith}
 use Rattle.sml_text.proofs.Writes.{wrote_next}
-use Rattle.sml_text.proofs.writing.offer_all.Goals as goal
+use Rattle.sml_text.proofs.writing.put.Goals as goal
 
 pub loop-at-preserved : goal.loop-at-preserved
 loop-at-preserved g c = (
