@@ -1,7 +1,9 @@
+pub mod Condition
 pub mod Content
 pub mod Derive
 pub mod Form
 pub mod Grammar
+pub mod Laws
 pub mod Padding
 pub mod Piece
 pub mod Syntax

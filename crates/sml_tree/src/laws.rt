@@ -1,0 +1,8 @@
+//! The laws of the grammar.
+
+ghost use Rattle.sml_tree.specs.Laws.{SameConditions};
+
+/// What holds of all conditions. It does nothing when called.
+pub fn laws_of_conditions()
+    ensures same { SameConditions }
+{}
