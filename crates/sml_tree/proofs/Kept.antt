@@ -1,35 +1,19 @@
 -- What is kept by the grammar's ways to write each part, whatever the tokens.
-use Rattle.std.proofs.Common.{◌≡◌, ℕ, ◌+◌, ◌<◌, ◌≤◌, nat_lt, Bool, true, false, if◌then◌else◌, List, [], ◌∷◌, ◌++◌, refl, sym, subst, map, Option, Some, None, IfSome, inl, inr, ltb-true, lt-ltb, arith}
-use Rattle.std.specs.List.{AllByRecursion}
+use Rattle.std.proofs.Common.{◌≡◌, List, [], ◌∷◌, ◌++◌, sym, subst, map, Option, Some, None, IfSome, inl, inr}
 use Rattle.sml_tree.specs.Piece.{Piece}
-use Rattle.sml_tree.specs.Form.{Bone, B, P, Form, gives, needs, calls, part, ◌>>=◌, Mark, Fine, Part, family, Value}
-use Rattle.sml_tree.specs.Grammar.{Rule, rules, empty, begun, most}
-use Rattle.sml_tree.specs.Derive.{Marked, fine, OneOf, Derives, nothing, token, left_out, written}
+use Rattle.sml_tree.specs.Form.{Bone, B, P, Form, gives, needs, calls, part, ◌>>=◌, Mark, Part, family, Value}
+use Rattle.sml_tree.specs.Grammar.{Rule, rules, empty, begun}
+use Rattle.sml_tree.proofs.Marks.{AllMarks, all_front, all_back}
+use Rattle.sml_tree.specs.Derive.{Marked, OneOf, Derives, nothing, token, left_out, written}
 
--- each of two lists, and of the one behind the other
-pub all_append : {A : Type 0} (Q : A → Type 0) (xs ys : List A) → AllByRecursion Q xs → AllByRecursion Q ys → AllByRecursion Q (xs ++ ys)
-all_append Q [] ys h k = k
-all_append Q (x ∷ xs) ys h k = (h.0, all_append Q xs ys h.1 k)
+-- nothing is known
+abbrev pub Anything : (n : Part) → Value n → Type 0
+Anything n v = Unit {0}
 
-pub all_front : {A : Type 0} (Q : A → Type 0) (xs ys : List A) → AllByRecursion Q (xs ++ ys) → AllByRecursion Q xs
-all_front Q [] ys h = tt
-all_front Q (x ∷ xs) ys h = (h.0, all_front Q xs ys h.1)
-
-pub all_back : {A : Type 0} (Q : A → Type 0) (xs ys : List A) → AllByRecursion Q (xs ++ ys) → AllByRecursion Q ys
-all_back Q [] ys h = h
-all_back Q (x ∷ xs) ys h = all_back Q xs ys h.1
-
--- such marks stand against the tokens
-abbrev pub AllMarks : (Mark → Type 0) → List Marked → Type 0
-AllMarks Q ms = AllByRecursion (λ m. Q m.mark) ms
-
-pub fine_marks : (ts : List Piece) → AllMarks (λ m. m ≡ Fine) (fine ts)
-fine_marks [] = tt
-fine_marks (t ∷ ts) = (refl, fine_marks ts)
-
--- what is known of the parts, and what of their marks, keeps what is said of them
+-- Known is known of all parts, Stands is what the marks may be, and Kept is to be shown.
 module _ (Known : (n : Part) → Value n → Type 0) (Stands : Mark → Type 0) (Kept : (n : Part) → Value n → Type 0) where
-  -- where it is kept by the parts of a form, K holds of what the form is worth
+  -- Where Kept holds of the parts of a form, K holds of what the form is worth. A token has three arguments (itself, its
+  -- kind, its mark), and a part has three (its worth, what is known of it, what is kept by it).
   abbrev pub Keeps : {A : Type 0} (bones : List Bone) → Form A bones → (A → Type 0) → Type 0
   Keeps [] (gives v) K = K v
   Keeps (_ ∷ bones) (needs kind mark f) K = (t : Piece) → t.kind ≡ kind → Stands mark → Keeps bones (f t) K
@@ -92,14 +76,3 @@ module _ (Known : (n : Part) → Value n → Type 0) (Stands : Mark → Type 0) 
 
     pub part_kept : (n : Part) (ms : List Marked) (v : Value n) → Derives n (P (family n) ∷ []) (part n) ms v → AllMarks Stands ms → Kept n v
     part_kept n ms v d all = kept n (P (family n) ∷ []) (part n) ms v d all (Kept n) (λ w k x. x)
-
--- ---- marks of limits
-pub below : (limit count : ℕ) (mark : Mark) → (mark ≡ Fine → ⊥) → most limit count mark ≡ Fine → count + 1 ≤ limit
-below limit count mark other h = go (nat_lt count limit) refl h
-  where
-    go : (b : Bool) → nat_lt count limit ≡ b → (if b then Fine else mark) ≡ Fine → count + 1 ≤ limit
-    go true e i = let h' = ltb-true count limit e in omega (arith, h')
-    go false e i = absurd (other i)
-
-pub not_reached : (limit count : ℕ) (mark : Mark) → count + 1 ≤ limit → most limit count mark ≡ Fine
-not_reached limit count mark h = let h' : count < limit = omega (arith, h) in rw (lt-ltb count limit h') refl

@@ -4,7 +4,7 @@ use Rattle.sml_tree.specs.Piece.{Piece}
 use Rattle.sml_tree.specs.Form.{Bone, B, P, Form, gives, needs, calls, part, ◌>>=◌, Part, family, Value}
 use Rattle.sml_tree.specs.Grammar.{Rule, rules, empty, begun}
 use Rattle.sml_tree.specs.Derive.{Marked, marked, plain, OneOf, Derives, nothing, token, left_out, written}
-use Rattle.sml_tree.specs.Laws.{Writes}
+use Rattle.sml_tree.specs.Laws.{IsTextOf}
 
 pub plain_append : (ms ns : List Marked) → plain (ms ++ ns) ≡ plain ms ++ plain ns
 plain_append [] ns = refl
@@ -99,13 +99,13 @@ module _ (Good : (n : Part) → List Piece → Value n → Type 0) where
         let good = shown n (B rule.kind ∷ rule.bones) (needs rule.kind rule.mark rule.rest) us w inner (Good n) (one_way n (rules n) rule one (closed n).1) in
         subst (λ (l : List Piece). K l v) (sym (plain_append us ts)) (shown g bones' (f w) ts v d (λ l x. K (plain us ++ l) x) (s w (plain us) good))
 
-    pub holds : (n : Part) (ts : List Piece) (v : Value n) → Writes n ts v → Good n ts v
+    pub holds : (n : Part) (ts : List Piece) (v : Value n) → IsTextOf n ts v → Good n ts v
     holds n ts v w = subst (λ (l : List Piece). Good n l v) w.1
         (shown n (P (family n) ∷ []) (part n) w.0 v w.2 (Good n) (λ x us good. subst (λ (l : List Piece). Good n l x) (sym (append-nil us)) good))
 
 -- a form derives what its tokens and the texts of its parts make
 built : (g : Part) (bones : List Bone) (form : Form (Value g) bones) (K : List Piece → Value g → Type 0)
-    → ((ms : List Marked) (v : Value g) → Derives g bones form ms v → K (plain ms) v) → Shows Writes bones form K
+    → ((ms : List Marked) (v : Value g) → Derives g bones form ms v → K (plain ms) v) → Shows IsTextOf bones form K
 built g [] (gives v) K h = h [] v (nothing g v)
 built g (_ ∷ bones) (needs kind mark f) K h = λ t e. built g bones (f t) (λ ts v. K (t ∷ ts) v) (λ ms v d. h (marked mark t ∷ ms) v (token g bones kind mark f t ms v e d))
 built g (_ ∷ bones) (calls n f) K h =
@@ -113,13 +113,13 @@ built g (_ ∷ bones) (calls n f) K h =
     (λ ms v d. subst (λ (l : List Piece). K l v) (plain_append s.0 ms ∙ ap (λ l. l ++ plain ms) s.1) (h (s.0 ++ ms) v (called g n bones f w s.0 ms v s.2 d)))
 
 -- each rule makes texts of its part
-pub writes : (n : Part) (r : Rule n) → OneOf (rules n) r → Shows Writes (B r.kind ∷ r.bones) (needs r.kind r.mark r.rest) (Writes n)
+pub writes : (n : Part) (r : Rule n) → OneOf (rules n) r → Shows IsTextOf (B r.kind ∷ r.bones) (needs r.kind r.mark r.rest) (IsTextOf n)
 writes n r one =
-    built n (B r.kind ∷ r.bones) (needs r.kind r.mark r.rest) (Writes n)
+    built n (B r.kind ∷ r.bones) (needs r.kind r.mark r.rest) (IsTextOf n)
     (λ ms v d. (ms ++ [], ap plain (append-nil ms), written n n [] gives r v ms [] v one d (nothing n v)))
 
 -- what may be left out has the empty text
-pub writes_none : (n : Part) (v : Value n) → empty n ≡ Some v → Writes n [] v
+pub writes_none : (n : Part) (v : Value n) → empty n ≡ Some v → IsTextOf n [] v
 writes_none n v e = ([], refl, left_out n n [] gives v [] v e (nothing n v))
 
 one_begun : (n m : Part) (more : List Bone) (k : Value n → Form (Value m) more) (rs : List (Rule n)) (r : Rule n) → OneOf rs r → OneOf (map (begun n m k) rs) (begun n m k r)
@@ -144,18 +144,18 @@ by_rule g bones form ms v (written _ n bones' f rule w us ts _ one inner d) = in
 -- texts of a part that begins with another, where its rules are those of the other, each begun
 pub begun_writes : (n m : Part) (more : List Bone) (k : Value n → Form (Value m) more) → (IsSome (empty n) → ⊥)
     → ((r : Rule n) → OneOf (map (begun n m k) (rules n)) (begun n m k r) → OneOf (rules m) (begun n m k r))
-    → (ts : List Piece) (w : Value n) → Writes n ts w → Shows Writes more (k w) (λ us v. Writes m (ts ++ us) v)
+    → (ts : List Piece) (w : Value n) → IsTextOf n ts w → Shows IsTextOf more (k w) (λ us v. IsTextOf m (ts ++ us) v)
 begun_writes n m more k full same ts w s = elim (by_rule n (P (family n) ∷ []) (part n) s.0 w s.2) [
-      | inl e ↦ absurd (full e)
-      | inr i ↦ (
-        let rest = by_rule n [] (gives i.1) i.3 w i.6 in
-        let tokens : s.0 ≡ i.2 = i.7 ∙ ap (λ l. i.2 ++ l) rest.1 ∙ append-nil i.2 in
-        let inner : Derives n (B (i.0).kind ∷ (i.0).bones) (needs (i.0).kind (i.0).mark (i.0).rest) i.2 w = subst (λ (x : Value n). Derives n (B (i.0).kind ∷ (i.0).bones) (needs (i.0).kind (i.0).mark (i.0).rest) i.2 x) rest.0 i.5 in
-        built m more (k w) (λ us v. Writes m (ts ++ us) v) (λ ms v d. (
-          (i.2 ++ ms) ++ [],
-          ap plain (append-nil (i.2 ++ ms)) ∙ plain_append i.2 ms ∙ ap (λ l. l ++ plain ms) (ap plain (sym tokens) ∙ s.1),
-          written m m [] gives (begun n m k i.0) v (i.2 ++ ms) [] v (same i.0 (one_begun n m more k (rules n) i.0 i.4))
-          (joined n (B (i.0).kind ∷ (i.0).bones) (needs (i.0).kind (i.0).mark (i.0).rest) i.2 w inner m more k ms v d) (nothing m v),
-        ))
+  | inl e ↦ absurd (full e)
+  | inr i ↦ (
+      let rest = by_rule n [] (gives i.1) i.3 w i.6 in
+      let tokens : s.0 ≡ i.2 = i.7 ∙ ap (λ l. i.2 ++ l) rest.1 ∙ append-nil i.2 in
+      let inner : Derives n (B (i.0).kind ∷ (i.0).bones) (needs (i.0).kind (i.0).mark (i.0).rest) i.2 w = subst (λ (x : Value n). Derives n (B (i.0).kind ∷ (i.0).bones) (needs (i.0).kind (i.0).mark (i.0).rest) i.2 x) rest.0 i.5 in
+      built m more (k w) (λ us v. IsTextOf m (ts ++ us) v) (λ ms v d. (
+        (i.2 ++ ms) ++ [],
+        ap plain (append-nil (i.2 ++ ms)) ∙ plain_append i.2 ms ∙ ap (λ l. l ++ plain ms) (ap plain (sym tokens) ∙ s.1),
+        written m m [] gives (begun n m k i.0) v (i.2 ++ ms) [] v (same i.0 (one_begun n m more k (rules n) i.0 i.4))
+            (joined n (B (i.0).kind ∷ (i.0).bones) (needs (i.0).kind (i.0).mark (i.0).rest) i.2 w inner m more k ms v d) (nothing m v),
+      ))
       )
-    ]
+]

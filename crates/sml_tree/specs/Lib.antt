@@ -6,6 +6,7 @@ pub mod Form
 pub mod Grammar
 pub mod Inside
 pub mod Laws
+pub mod Limits
 pub mod Padding
 pub mod Piece
 pub mod Syntax
