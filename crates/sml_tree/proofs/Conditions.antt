@@ -10,6 +10,7 @@ use Rattle.sml_tree.specs.Form.{Bone, B, P, Form, gives, needs, calls, part, ◌
 use Rattle.sml_tree.specs.Grammar.{empty, name, unit_rules, conj_rules}
 use Rattle.sml_tree.specs.Condition.{AreNames, last_name, more_names, AreStates, bare, braced, IsSense, in_state, not_in_state, IsScope, of_one, of_all, of_any, IsTest, asked, IsCond, conj, cond_or_conj, IsConj, unit, conj_and_unit, IsUnit, not_unit, brackets, one_test}
 use Rattle.sml_tree.specs.Laws.{IsTextOf, SameConditions}
+use Rattle.sml_tree.proofs.Marks.{◌⨾◌}
 use Rattle.sml_tree.proofs.Shows.{Closed, EachWay, begun_ways, free, holds, writes, writes_none, begun_writes}
 
 -- ---- what the table derives is in the grammar's own shape
@@ -29,22 +30,13 @@ abbrev of_scope : Scope → Piece → Bool → List (List ℕ) → TestData
 of_scope s t b ns = record { scope = s; name = name t; negated = b; states = ns }
 
 shaped_unit : (d n : ℕ) → EachWay Shaped (of.Unit' d n) (unit_rules d n)
-shaped_unit d n = (
-  λ t e w us x. not_unit t (us ++ []) w.formula e (subst (λ l. IsUnit l w.formula) (sym (append-nil us)) x),
-  (
-    λ t e w us x t' e'. brackets t t' us w.formula e x e',
-    (
-      λ t e s us x ns vs y. one_test (t ∷ (us ++ (vs ++ []))) (of_scope scope.One t s ns) (rw (append-nil vs) (asked [] us vs t scope.One s ns of_one e x y)),
-      (
-        λ a i t e s us x ns vs y. one_test (a ∷ t ∷ (us ++ (vs ++ []))) (of_scope scope.All t s ns) (rw (append-nil vs) (asked (a ∷ []) us vs t scope.All s ns (of_all a i) e x y)),
-        (
-          λ a i t e s us x ns vs y. one_test (a ∷ t ∷ (us ++ (vs ++ []))) (of_scope scope.Any t s ns) (rw (append-nil vs) (asked (a ∷ []) us vs t scope.Any s ns (of_any a i) e x y)),
-          tt,
-        ),
-      ),
-    ),
-  ),
-)
+shaped_unit d n =
+    (λ t e w us x. not_unit t (us ++ []) w.formula e (subst (λ l. IsUnit l w.formula) (sym (append-nil us)) x))
+    ⨾ (λ t e w us x t' e'. brackets t t' us w.formula e x e')
+    ⨾ (λ t e s us x ns vs y. one_test (t ∷ (us ++ (vs ++ []))) (of_scope scope.One t s ns) (rw (append-nil vs) (asked [] us vs t scope.One s ns of_one e x y)))
+    ⨾ (λ a i t e s us x ns vs y. one_test (a ∷ t ∷ (us ++ (vs ++ []))) (of_scope scope.All t s ns) (rw (append-nil vs) (asked (a ∷ []) us vs t scope.All s ns (of_all a i) e x y)))
+    ⨾ (λ a i t e s us x ns vs y. one_test (a ∷ t ∷ (us ++ (vs ++ []))) (of_scope scope.Any t s ns) (rw (append-nil vs) (asked (a ∷ []) us vs t scope.Any s ns (of_any a i) e x y)))
+    ⨾ tt
 
 shaped_conj : (d n : ℕ) → EachWay Shaped (of.Conj d n) (conj_rules d n)
 shaped_conj d n =

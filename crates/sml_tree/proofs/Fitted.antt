@@ -12,7 +12,7 @@ use Rattle.sml_tree.specs.declared.token_kind.TokenKind.TheVariants.{Name, Equal
 use Rattle.sml_tree.specs.Inside.{tests, instr_conditions, block_conditions, instr_sends, block_sends}
 use Rattle.sml_tree.specs.Limits.{TestFits, CondFits, SendFits, ActionFits, StateFits, ItemFits, is_class, is_object, is_set, IsWithinLimits}
 use Rattle.sml_tree.proofs.Kept.{Keeping, EachKeeps, free_keeping, begun_keeping, part_kept}
-use Rattle.sml_tree.proofs.Marks.{IsFine, all_append, fine_marks, below_deep, below_many}
+use Rattle.sml_tree.proofs.Marks.{◌⨾◌, IsFine, all_append, fine_marks, below_deep, below_many}
 use Rattle.sml_tree.proofs.Tallied.{Tallied, part_tallied}
 
 -- a block in which `if`s may nest so deep
@@ -65,22 +65,13 @@ fitted_sort : (n : ℕ) → EachKeeps Tallied IsFine Fitted (of.Sort n) (kind_ru
 fitted_sort n = (λ _ _ m. below_many 16 n m, (λ _ _ m. below_many 16 n m, tt))
 
 fitted_unit : (d n : ℕ) → EachKeeps Tallied IsFine Fitted (of.Unit' d n) (unit_rules d n)
-fitted_unit d n = (
-  λ _ _ m w k x. x,
-  (
-    λ _ _ m w k x _ _ _. x,
-    (
-      λ _ _ m s _ _ l _ y. (below_many 64 n m, (y, tt)),
-      (
-        λ _ _ m _ _ _ s _ _ l _ y. (below_many 64 n m, (y, tt)),
-        (
-          λ _ _ m _ _ _ s _ _ l _ y. (below_many 64 n m, (y, tt)),
-          tt,
-        ),
-      ),
-    ),
-  ),
-)
+fitted_unit d n =
+    (λ _ _ m w k x. x)
+    ⨾ (λ _ _ m w k x _ _ _. x)
+    ⨾ (λ _ _ m s _ _ l _ y. (below_many 64 n m, (y, tt)))
+    ⨾ (λ _ _ m _ _ _ s _ _ l _ y. (below_many 64 n m, (y, tt)))
+    ⨾ (λ _ _ m _ _ _ s _ _ l _ y. (below_many 64 n m, (y, tt)))
+    ⨾ tt
 
 fitted_conj : (d n : ℕ) → EachKeeps Tallied IsFine Fitted (of.Conj d n) (conj_rules d n)
 fitted_conj d n =
@@ -90,16 +81,10 @@ fitted_conj d n =
 fitted : (n : Part) → Keeping Tallied IsFine Fitted n
 fitted (of.File classes objects sets) = (
   (omega arith, omega arith, omega arith, tt),
-  (
-    λ _ _ m _ _ _ _ _ _ a _ _ ps _ p ss _ x file _ y. let few = below_many 64 classes m in let f = y.0 in (omega (arith, few, f), y.1, y.2, ((p, x.0, x.1), y.3)),
-    (
-      λ _ _ m _ _ _ _ _ _ _ _ _ _ _ _ file _ y. let few = below_many 64 objects m in let f = y.1 in (y.0, omega (arith, few, f), y.2, (tt, y.3)),
-      (
-        λ _ _ m _ _ _ _ _ _ _ _ _ ms _ x _ _ _ file _ y. let few = below_many 32 sets m in let f = y.2 in (y.0, y.1, omega (arith, few, f), (x, y.3)),
-        tt,
-      ),
-    ),
-  ),
+  (λ _ _ m _ _ _ _ _ _ a _ _ ps _ p ss _ x file _ y. let few = below_many 64 classes m in let f = y.0 in (omega (arith, few, f), y.1, y.2, ((p, x.0, x.1), y.3)))
+      ⨾ (λ _ _ m _ _ _ _ _ _ _ _ _ _ _ _ file _ y. let few = below_many 64 objects m in let f = y.1 in (y.0, omega (arith, few, f), y.2, (tt, y.3)))
+      ⨾ (λ _ _ m _ _ _ _ _ _ _ _ _ ms _ x _ _ _ file _ y. let few = below_many 32 sets m in let f = y.2 in (y.0, y.1, omega (arith, few, f), (x, y.3)))
+      ⨾ tt,
 )
 fitted of.ClassParamList = (omega arith, (λ _ _ _ _ _ _ first _ x others _ y. omega (arith, x, y), tt))
 fitted (of.Sort n) = (tt, fitted_sort n)
@@ -118,26 +103,12 @@ fitted (of.ActionParam n) = (tt, begun_keeping Tallied IsFine Fitted (of.Sort n)
 fitted (of.MoreActionParam n) = (omega arith, (λ _ _ _ first _ x others _ y. omega (arith, x, y), tt))
 fitted (of.Block d) = (
   (omega arith, tt, tt),
-  (
-    λ _ _ _ _ _ _ args _ x every _ _ _ _ _ block _ y. let f = y.0 in (omega (arith, f), (x, y.1), y.2),
-    (
-      λ _ _ m branch _ x block _ y. let few = below_deep 16 d m in let f = x.0 in let g = y.0 in (
-        omega (arith, few, f, g),
-        all_append SendFits (instr_sends branch) (block_sends (block_of block)) x.1 y.1,
-        all_append CondFits (instr_conditions branch) (block_conditions (block_of block)) x.2 y.2,
-      ),
-      (
-        λ _ _ _ _ _ _ _ _ _ value _ _ block _ y. let f = y.0 in (omega (arith, f), y.1, y.2),
-        (
-          λ _ _ _ _ _ _ block _ y. let f = y.0 in (omega (arith, f), y.1, y.2),
-          (
-            λ _ _ _ _ _ _ _ _ _ _ _ _ _ _ _ block _ y. let f = y.0 in (omega (arith, f), y.1, y.2),
-            tt,
-          ),
-        ),
-      ),
-    ),
-  ),
+  (λ _ _ _ _ _ _ args _ x every _ _ _ _ _ block _ y. let f = y.0 in (omega (arith, f), (x, y.1), y.2))
+      ⨾ (λ _ _ m branch _ x block _ y. let few = below_deep 16 d m in let f = x.0 in let g = y.0 in (omega (arith, few, f, g), all_append SendFits (instr_sends branch) (block_sends (block_of block)) x.1 y.1, all_append CondFits (instr_conditions branch) (block_conditions (block_of block)) x.2 y.2))
+      ⨾ (λ _ _ _ _ _ _ _ _ _ value _ _ block _ y. let f = y.0 in (omega (arith, f), y.1, y.2))
+      ⨾ (λ _ _ _ _ _ _ block _ y. let f = y.0 in (omega (arith, f), y.1, y.2))
+      ⨾ (λ _ _ _ _ _ _ _ _ _ _ _ _ _ _ _ block _ y. let f = y.0 in (omega (arith, f), y.1, y.2))
+      ⨾ tt,
 )
 fitted of.ArgList = (omega arith, (λ _ _ _ first _ x others _ y _ _ _. omega (arith, x, y), tt))
 fitted (of.Passed n) = (tt, (λ _ _ m _ _ _ value _ _. below_many 16 n m, tt))

@@ -7,6 +7,11 @@ use Rattle.sml_tree.specs.Grammar.{most}
 use Rattle.sml_tree.specs.Derive.{Marked, marked, fine, plain}
 use Rattle.sml_tree.specs.Laws.{IsNotTooDeep}
 
+-- one thing and the others
+infixr 5 ◌⨾◌
+abbrev pub ◌⨾◌ : {A C : Type 0} → A → C → A × C
+a ⨾ c = (a, c)
+
 -- ---- each of two lists, and of the one behind the other
 pub all_append : {A : Type 0} (Q : A → Type 0) (xs ys : List A) → AllByRecursion Q xs → AllByRecursion Q ys → AllByRecursion Q (xs ++ ys)
 all_append Q [] ys h k = k

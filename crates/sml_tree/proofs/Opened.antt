@@ -11,7 +11,7 @@ use Rattle.sml_tree.specs.Inside.{instr_conditions, block_conditions, action_con
 use Rattle.sml_tree.specs.Laws.{FewBrackets}
 use Rattle.sml_tree.specs.Brackets.{is_or, is_chain, in_brackets, open_depth}
 use Rattle.sml_tree.proofs.Kept.{Anything, Keeping, EachKeeps, free_keeping, begun_keeping, part_kept}
-use Rattle.sml_tree.proofs.Marks.{IsFine, all_append, fine_marks, below_deep}
+use Rattle.sml_tree.proofs.Marks.{◌⨾◌, IsFine, all_append, fine_marks, below_deep}
 
 -- ---- brackets of one condition
 less_bracketed : (b : Bool) (n : ℕ) → n ≤ in_brackets b n
@@ -45,22 +45,13 @@ Opened (of.MoreOr depth tests left) v = depth + open_depth left ≤ 16 → depth
 Opened _ v = Unit {0}
 
 opened_unit : (d n : ℕ) → EachKeeps Anything IsFine Opened (of.Unit' d n) (unit_rules d n)
-opened_unit d n = (
-  λ t e m w k x h. let y = x (below_deep 16 d m) in omega (arith, y),
-  (
-    λ t e m w k x t' e' m' h. let y = x (below_deep 16 d m) in let z = bracketed_less (is_chain w.formula) (open_depth w.formula) in omega (arith, y, z),
-    (
-      λ t e m s k x ns l y h. omega (arith, h),
-      (
-        λ a i j t e m s k x ns l y h. omega (arith, h),
-        (
-          λ a i j t e m s k x ns l y h. omega (arith, h),
-          tt,
-        ),
-      ),
-    ),
-  ),
-)
+opened_unit d n =
+    (λ t e m w k x h. let y = x (below_deep 16 d m) in omega (arith, y))
+    ⨾ (λ t e m w k x t' e' m' h. let y = x (below_deep 16 d m) in let z = bracketed_less (is_chain w.formula) (open_depth w.formula) in omega (arith, y, z))
+    ⨾ (λ t e m s k x ns l y h. omega (arith, h))
+    ⨾ (λ a i j t e m s k x ns l y h. omega (arith, h))
+    ⨾ (λ a i j t e m s k x ns l y h. omega (arith, h))
+    ⨾ tt
 
 opened_conj : (d n : ℕ) → EachKeeps Anything IsFine Opened (of.Conj d n) (conj_rules d n)
 opened_conj d n =
@@ -70,16 +61,10 @@ opened_conj d n =
 opened : (n : Part) → Keeping Anything IsFine Opened n
 opened (of.File classes objects sets) = (
   tt,
-  (
-    λ _ _ _ _ _ _ _ _ _ a _ _ ps _ _ ss _ x file _ y. all_append (λ c. open_depth c ≤ 16) (flat_map state_conditions ss) (conditions file) x y,
-    (
-      λ _ _ _ _ _ _ _ _ _ _ _ _ _ _ _ file _ y. y,
-      (
-        λ _ _ _ _ _ _ _ _ _ _ _ _ _ _ _ _ _ _ file _ y. y,
-        tt,
-      ),
-    ),
-  ),
+  (λ _ _ _ _ _ _ _ _ _ a _ _ ps _ _ ss _ x file _ y. all_append (λ c. open_depth c ≤ 16) (flat_map state_conditions ss) (conditions file) x y)
+      ⨾ (λ _ _ _ _ _ _ _ _ _ _ _ _ _ _ _ file _ y. y)
+      ⨾ (λ _ _ _ _ _ _ _ _ _ _ _ _ _ _ _ _ _ _ file _ y. y)
+      ⨾ tt,
 )
 opened (of.State n) = (
   tt,
@@ -91,22 +76,12 @@ opened (of.Action n) = (
 )
 opened (of.Block d) = (
   tt,
-  (
-    λ _ _ _ _ _ _ args _ _ every _ _ _ _ _ block _ y. y,
-    (
-      λ _ _ _ branch _ x block _ y. all_append (λ c. open_depth c ≤ 16) (instr_conditions branch) (block_conditions (block_of block)) x y,
-      (
-        λ _ _ _ _ _ _ _ _ _ value _ _ block _ y. y,
-        (
-          λ _ _ _ _ _ _ block _ y. y,
-          (
-            λ _ _ _ _ _ _ _ _ _ _ _ _ _ _ _ block _ y. y,
-            tt,
-          ),
-        ),
-      ),
-    ),
-  ),
+  (λ _ _ _ _ _ _ args _ _ every _ _ _ _ _ block _ y. y)
+      ⨾ (λ _ _ _ branch _ x block _ y. all_append (λ c. open_depth c ≤ 16) (instr_conditions branch) (block_conditions (block_of block)) x y)
+      ⨾ (λ _ _ _ _ _ _ _ _ _ value _ _ block _ y. y)
+      ⨾ (λ _ _ _ _ _ _ block _ y. y)
+      ⨾ (λ _ _ _ _ _ _ _ _ _ _ _ _ _ _ _ block _ y. y)
+      ⨾ tt,
 )
 opened (of.Branch d) = (tt, (λ _ _ _ c _ x _ _ _ arms _ y. (let z = x (omega arith) in omega (arith, z), y), tt))
 opened (of.Arm d) = (tt, (λ _ _ _ first _ x second _ y _ _ _. all_append (λ c. open_depth c ≤ 16) (block_conditions (block_of first)) (block_conditions (block_of second)) x y, tt))

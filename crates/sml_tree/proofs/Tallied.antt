@@ -8,7 +8,7 @@ use Rattle.sml_tree.specs.Grammar.{unit_rules, conj_rules}
 use Rattle.sml_tree.specs.Derive.{Marked, Derives}
 use Rattle.sml_tree.specs.Inside.{tests}
 use Rattle.sml_tree.proofs.Kept.{Anything, Keeping, EachKeeps, free_keeping, begun_keeping, part_kept}
-use Rattle.sml_tree.proofs.Marks.{AnyMark, any_marks}
+use Rattle.sml_tree.proofs.Marks.{◌⨾◌, AnyMark, any_marks}
 
 -- the tests behind those of the left operand, and their count
 abbrev pub Added : ℕ → List TestData → of.Counted → Type 0
@@ -37,22 +37,13 @@ none_added : (n : ℕ) (left : of.Counted) → left.count ≡ n → Added n (tes
 none_added n left e = ([], sym (append-nil (tests left.formula)), omega (arith, e))
 
 tallied_unit : (d n : ℕ) → EachKeeps Anything AnyMark Tallied (of.Unit' d n) (unit_rules d n)
-tallied_unit d n = (
-  λ t e m w k x. x,
-  (
-    λ t e m w k x t' e' m'. x,
-    (
-      λ t e m s k x ns l y. omega arith,
-      (
-        λ a i j t e m s k x ns l y. omega arith,
-        (
-          λ a i j t e m s k x ns l y. omega arith,
-          tt,
-        ),
-      ),
-    ),
-  ),
-)
+tallied_unit d n =
+    (λ t e m w k x. x)
+    ⨾ (λ t e m w k x t' e' m'. x)
+    ⨾ (λ t e m s k x ns l y. omega arith)
+    ⨾ (λ a i j t e m s k x ns l y. omega arith)
+    ⨾ (λ a i j t e m s k x ns l y. omega arith)
+    ⨾ tt
 
 tallied_conj : (d n : ℕ) → EachKeeps Anything AnyMark Tallied (of.Conj d n) (conj_rules d n)
 tallied_conj d n =

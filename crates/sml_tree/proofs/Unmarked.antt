@@ -1,8 +1,8 @@
 -- What is within the limits is derived without any mark.
-use Rattle.std.proofs.Common.{◌≡◌, ℕ, ◌+◌, List, [], ◌∷◌, ◌++◌, refl, ap, ◌∙◌, subst, length, inl, inr, arith}
+use Rattle.std.proofs.Common.{◌≡◌, ℕ, ◌+◌, ◌≤◌, List, [], ◌∷◌, ◌++◌, refl, ap, ◌∙◌, subst, length, inl, inr, arith}
 use Rattle.std.specs.List.{AllByRecursion}
 use Rattle.sml_tree.specs.declared.token_kind.TokenKind.TheVariants.{Name, Equals}
-use Rattle.sml_tree.specs.Syntax.{CondData}
+use Rattle.sml_tree.specs.Syntax.{CondData, SendData}
 use Rattle.sml_tree.specs.Content.{block_of}
 use Rattle.sml_tree.specs.Form as of
 use Rattle.sml_tree.specs.Form.{B, P, part, Part, family, Value, Mark, Fine, Deep, Many, Counted}
@@ -11,7 +11,7 @@ use Rattle.sml_tree.specs.Derive.{fine, Derives}
 use Rattle.sml_tree.specs.Inside.{tests, instr_conditions, block_conditions, instr_sends, block_sends}
 use Rattle.sml_tree.specs.Limits.{TestFits, CondFits, SendFits}
 use Rattle.sml_tree.specs.Laws.{WithinLimits}
-use Rattle.sml_tree.proofs.Marks.{all_front, all_back, not_reached, not_deep, unmarked, plain_fine, fine_not_deep}
+use Rattle.sml_tree.proofs.Marks.{◌⨾◌, all_front, all_back, not_reached, not_deep, unmarked, plain_fine, fine_not_deep}
 use Rattle.sml_tree.proofs.Tallied.{Tallied, part_tallied}
 use Rattle.sml_tree.proofs.Fitted.{Fits, CountFits, file_fits}
 use Rattle.sml_tree.proofs.Owed.{EachOwes, begun_owes, part_paid}
@@ -20,22 +20,13 @@ owing_sort : (n : ℕ) → EachOwes Tallied Fits (of.Sort n) (kind_rules n)
 owing_sort n = (λ _ _ _ x. (tt, not_reached 16 n Many x), (λ _ _ _ x. (tt, not_reached 16 n Many x), tt))
 
 owing_unit : (d n : ℕ) → EachOwes Tallied Fits (of.Unit' d n) (unit_rules d n)
-owing_unit d n = (
-  λ t e s w _ x. ((tt, not_deep 16 d (λ m. s m (inl e))), x),
-  (
-    λ t e s w _ _ _ _ x. (((tt, not_deep 16 d (λ m. s m (inr e))), x), refl),
-    (
-      λ _ _ _ sense _ states _ x. (((tt, not_reached 64 n Many x.0), tt), (x.1).0),
-      (
-        λ _ _ _ _ _ _ sense _ states _ x. ((((tt, not_reached 64 n Many x.0), refl), tt), (x.1).0),
-        (
-          λ _ _ _ _ _ _ sense _ states _ x. ((((tt, not_reached 64 n Many x.0), refl), tt), (x.1).0),
-          tt,
-        ),
-      ),
-    ),
-  ),
-)
+owing_unit d n =
+    (λ t e s w _ x. ((tt, not_deep 16 d (λ m. s m (inl e))), x))
+    ⨾ (λ t e s w _ _ _ _ x. (((tt, not_deep 16 d (λ m. s m (inr e))), x), refl))
+    ⨾ (λ _ _ _ sense _ states _ x. (((tt, not_reached 64 n Many x.0), tt), (x.1).0))
+    ⨾ (λ _ _ _ _ _ _ sense _ states _ x. ((((tt, not_reached 64 n Many x.0), refl), tt), (x.1).0))
+    ⨾ (λ _ _ _ _ _ _ sense _ states _ x. ((((tt, not_reached 64 n Many x.0), refl), tt), (x.1).0))
+    ⨾ tt
 
 -- the front of a chain fits where the whole does
 front_fits : (w v : Counted) → (a : List _) × (tests v.formula ≡ tests w.formula ++ a) × (v.count ≡ w.count + length a) → CountFits v → CountFits w
@@ -54,20 +45,21 @@ owing_conj d n =
     begun_owes Tallied Fits (of.Unit' d n) (of.Conj d n) (P of.MoreAnds ∷ []) (λ u. part (of.MoreAnd d u.count u.formula)) (unit_rules d n) (owing_unit d n)
     (λ w before h v a x. (h (front_fits w v a x), x))
 
+-- what stands in the first of two blocks fits where what stands in both does, and what stands in the second
+first_of_two : {k l : ℕ} (ss us : List SendData) (cs ds : List CondData) → k ≤ l → AllByRecursion SendFits (ss ++ us) → AllByRecursion CondFits (cs ++ ds)
+    → (k ≤ l) × AllByRecursion SendFits ss × AllByRecursion CondFits cs
+first_of_two ss us cs ds nests x y = (nests, all_front SendFits ss us x, all_front CondFits cs ds y)
+
+second_of_two : {k l : ℕ} (ss us : List SendData) (cs ds : List CondData) → k ≤ l → AllByRecursion SendFits (ss ++ us) → AllByRecursion CondFits (cs ++ ds)
+    → (k ≤ l) × AllByRecursion SendFits us × AllByRecursion CondFits ds
+second_of_two ss us cs ds nests x y = (nests, all_back SendFits ss us x, all_back CondFits cs ds y)
+
 owing : (n : Part) → EachOwes Tallied Fits n (rules n)
-owing (of.File classes objects sets) = (
-  λ _ _ _ _ _ _ _ _ _ a _ ps _ ss _ file _ x. let f = x.0 in
-      (((((((tt, not_reached 64 classes Many (omega (arith, f))), refl), refl), tt), ((x.3).0).0), (((x.3).0).1, ((x.3).0).2)), (omega (arith, f), x.1, x.2, (x.3).1)),
-  (
-    λ _ _ _ _ _ _ _ _ _ _ _ _ _ _ _ file _ x. let f = x.1 in
-        ((((((tt, not_reached 64 objects Many (omega (arith, f))), refl), refl), refl), refl), (x.0, omega (arith, f), x.2, (x.3).1)),
-    (
-      λ _ _ _ _ _ _ _ _ _ _ _ _ ms _ _ _ _ file _ x. let f = x.2 in
-          (((((((tt, not_reached 32 sets Many (omega (arith, f))), refl), refl), refl), (x.3).0), refl), (x.0, x.1, omega (arith, f), (x.3).1)),
-      tt,
-    ),
-  ),
-)
+owing (of.File classes objects sets) =
+    (λ _ _ _ _ _ _ _ _ _ a _ ps _ ss _ file _ x. let f = x.0 in (((((((tt, not_reached 64 classes Many (omega (arith, f))), refl), refl), tt), ((x.3).0).0), (((x.3).0).1, ((x.3).0).2)), (omega (arith, f), x.1, x.2, (x.3).1)))
+    ⨾ (λ _ _ _ _ _ _ _ _ _ _ _ _ _ _ _ file _ x. let f = x.1 in ((((((tt, not_reached 64 objects Many (omega (arith, f))), refl), refl), refl), refl), (x.0, omega (arith, f), x.2, (x.3).1)))
+    ⨾ (λ _ _ _ _ _ _ _ _ _ _ _ _ ms _ _ _ _ file _ x. let f = x.2 in (((((((tt, not_reached 32 sets Many (omega (arith, f))), refl), refl), refl), (x.3).0), refl), (x.0, x.1, omega (arith, f), (x.3).1)))
+    ⨾ tt
 owing of.ClassMark = (λ _ _ _ _ _ _ x. ((tt, refl), refl), tt)
 owing of.ClassParamList = (λ _ _ _ _ _ _ first _ others _ x. ((((tt, refl), refl), omega arith), omega (arith, x)), tt)
 owing (of.Sort n) = owing_sort n
@@ -90,36 +82,16 @@ owing of.ActionParamList = (λ _ _ _ first _ others _ _ _ _ x. ((((tt, refl), om
 owing (of.ActionParam n) = begun_owes Tallied Fits (of.Sort n) (of.ActionParam n) (B Name ∷ P of.Defaults ∷ []) action_param (kind_rules n) (owing_sort n) (λ w before h _ _ _ l _ x. ((h x, refl), tt))
 owing (of.MoreActionParam n) = (λ _ _ _ first _ others _ x. (((tt, refl), omega (arith, x)), omega (arith, x)), tt)
 owing of.Default = (λ _ _ _ l _ x. ((tt, refl), tt), tt)
-owing (of.Block d) = (
-  λ _ _ _ _ _ _ args _ every _ _ _ _ block _ x. let f = x.0 in ((((((tt, refl), refl), (x.1).0), tt), refl), (omega (arith, f), (x.1).1, x.2)),
-  (
-    λ _ _ _ branch k block _ x. let f = x.0 in (
-      (
-        (tt, not_reached 16 d Deep (omega (arith, f, k))),
-        (
-          omega (arith, f),
-          all_front SendFits (instr_sends branch) (block_sends (block_of block)) x.1,
-          all_front CondFits (instr_conditions branch) (block_conditions (block_of block)) x.2,
-        ),
-      ),
-      (
-        omega (arith, f),
-        all_back SendFits (instr_sends branch) (block_sends (block_of block)) x.1,
-        all_back CondFits (instr_conditions branch) (block_conditions (block_of block)) x.2,
-      ),
-    ),
-    (
-      λ _ _ _ _ _ _ _ _ _ value _ block _ x. let f = x.0 in (((((tt, refl), refl), refl), tt), (omega (arith, f), x.1, x.2)),
-      (
-        λ _ _ _ _ _ _ block _ x. let f = x.0 in (((tt, refl), refl), (omega (arith, f), x.1, x.2)),
-        (
-          λ _ _ _ _ _ _ _ _ _ _ _ _ _ _ _ block _ x. let f = x.0 in ((((((tt, refl), refl), refl), refl), refl), (omega (arith, f), x.1, x.2)),
-          tt,
-        ),
-      ),
-    ),
-  ),
-)
+owing (of.Block d) =
+    (λ _ _ _ _ _ _ args _ every _ _ _ _ block _ x. let f = x.0 in ((((((tt, refl), refl), (x.1).0), tt), refl), (omega (arith, f), (x.1).1, x.2)))
+    ⨾ (λ _ _ _ branch k block _ x. let f = x.0 in (
+      ((tt, not_reached 16 d Deep (omega (arith, f, k))), first_of_two (instr_sends branch) (block_sends (block_of block)) (instr_conditions branch) (block_conditions (block_of block)) (omega (arith, f)) x.1 x.2),
+      second_of_two (instr_sends branch) (block_sends (block_of block)) (instr_conditions branch) (block_conditions (block_of block)) (omega (arith, f)) x.1 x.2,
+    ))
+    ⨾ (λ _ _ _ _ _ _ _ _ _ value _ block _ x. let f = x.0 in (((((tt, refl), refl), refl), tt), (omega (arith, f), x.1, x.2)))
+    ⨾ (λ _ _ _ _ _ _ block _ x. let f = x.0 in (((tt, refl), refl), (omega (arith, f), x.1, x.2)))
+    ⨾ (λ _ _ _ _ _ _ _ _ _ _ _ _ _ _ _ block _ x. let f = x.0 in ((((((tt, refl), refl), refl), refl), refl), (omega (arith, f), x.1, x.2)))
+    ⨾ tt
 owing of.ArgList = (λ _ _ _ first _ others _ _ _ _ x. ((((tt, refl), omega arith), omega (arith, x)), refl), tt)
 owing (of.Passed n) = (λ _ _ _ _ _ _ value _ x. (((tt, not_reached 16 n Many x), refl), tt), tt)
 owing (of.MorePassedArg n) = (λ _ _ _ first _ others _ x. (((tt, refl), omega (arith, x)), omega (arith, x)), tt)
@@ -129,16 +101,8 @@ owing (of.Branch d) = (
   λ _ _ _ c k _ _ _ arms _ x. let f = x.0 in let g = ((x.2).0).0 in (
     (((tt, refl), (omega (arith, k, g), ((x.2).0).1)), refl),
     (
-      (
-        omega (arith, f),
-        all_front SendFits (block_sends (block_of arms.yes_part)) (block_sends (block_of arms.no_part)) x.1,
-        all_front CondFits (block_conditions (block_of arms.yes_part)) (block_conditions (block_of arms.no_part)) (x.2).1,
-      ),
-      (
-        omega (arith, f),
-        all_back SendFits (block_sends (block_of arms.yes_part)) (block_sends (block_of arms.no_part)) x.1,
-        all_back CondFits (block_conditions (block_of arms.yes_part)) (block_conditions (block_of arms.no_part)) (x.2).1,
-      ),
+      first_of_two (block_sends (block_of arms.yes_part)) (block_sends (block_of arms.no_part)) (block_conditions (block_of arms.yes_part)) (block_conditions (block_of arms.no_part)) (omega (arith, f)) x.1 (x.2).1,
+      second_of_two (block_sends (block_of arms.yes_part)) (block_sends (block_of arms.no_part)) (block_conditions (block_of arms.yes_part)) (block_conditions (block_of arms.no_part)) (omega (arith, f)) x.1 (x.2).1,
     ),
   ),
   tt,
