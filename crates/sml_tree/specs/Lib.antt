@@ -1,7 +1,12 @@
+pub mod Brackets
+pub mod Condition
 pub mod Content
 pub mod Derive
 pub mod Form
 pub mod Grammar
+pub mod Inside
+pub mod Laws
+pub mod Limits
 pub mod Padding
 pub mod Piece
 pub mod Syntax

@@ -4,6 +4,7 @@
 pub mod block;
 pub mod cond;
 pub mod file;
+pub mod laws;
 pub mod literal;
 pub mod name;
 #[cfg(test)]

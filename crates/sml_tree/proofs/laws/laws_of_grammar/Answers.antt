@@ -1,0 +1,7 @@
+use Rattle.sml_tree.proofs.Conditions.{same_conditions}
+use Rattle.sml_tree.proofs.Opened.{few_brackets}
+use Rattle.sml_tree.proofs.Unmarked.{within_limits}
+use Rattle.sml_tree.proofs.laws.laws_of_grammar.Goals as goal
+
+pub returns : goal.returns
+returns c = record { conditions = same_conditions; limits = within_limits; brackets = few_brackets }

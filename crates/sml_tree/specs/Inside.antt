@@ -1,0 +1,56 @@
+-- What stands in a block, in a condition and in a file.
+use Rattle.std.specs.Prelude.{List, [], ◌∷◌, ◌++◌}
+use Rattle.std.specs.List.{flat_map}
+use Rattle.sml_tree.specs.Syntax.{TestData, CondData, both, either, neither, test, SendData, InstrData, BlockData, send, choose, assign, move_to, terminate, done, step, ActionData, StateData, ItemData, class, object, group}
+
+-- the tests of a condition
+abbrev pub tests : CondData → List TestData
+tests (both l r) = tests l ++ tests r
+tests (either l r) = tests l ++ tests r
+tests (neither c) = tests c
+tests (test x) = x ∷ []
+
+abbrev mutual
+  -- the conditions of its `if`s
+  pub instr_conditions : InstrData → List CondData
+  instr_conditions (send s) = []
+  instr_conditions (choose c first second) = c ∷ (block_conditions first ++ block_conditions second)
+  instr_conditions (assign name value) = []
+  instr_conditions (move_to state) = []
+  instr_conditions (terminate state) = []
+
+  pub block_conditions : BlockData → List CondData
+  block_conditions done = []
+  block_conditions (step instr rest) = instr_conditions instr ++ block_conditions rest
+
+abbrev mutual
+  -- what it sends
+  pub instr_sends : InstrData → List SendData
+  instr_sends (send s) = s ∷ []
+  instr_sends (choose c first second) = block_sends first ++ block_sends second
+  instr_sends (assign name value) = []
+  instr_sends (move_to state) = []
+  instr_sends (terminate state) = []
+
+  pub block_sends : BlockData → List SendData
+  block_sends done = []
+  block_sends (step instr rest) = instr_sends instr ++ block_sends rest
+
+-- the states of the classes
+abbrev pub item_states : ItemData → List StateData
+item_states (class c) = c.states
+item_states (object o) = []
+item_states (group g) = []
+
+-- the conditions of a file
+abbrev pub action_conditions : ActionData → List CondData
+action_conditions a = block_conditions a.body
+
+abbrev pub state_conditions : StateData → List CondData
+state_conditions s = flat_map action_conditions s.actions
+
+abbrev pub item_conditions : ItemData → List CondData
+item_conditions item = flat_map state_conditions (item_states item)
+
+abbrev pub conditions : List ItemData → List CondData
+conditions file = flat_map item_conditions file

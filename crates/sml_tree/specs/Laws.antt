@@ -1,0 +1,34 @@
+-- The laws of the grammar.
+use Rattle.std.specs.Prelude.{◌≡◌, ◌↔◌, ◌≤◌, ◌⊎◌, ℕ, List}
+use Rattle.std.specs.List.{AllByRecursion}
+use Rattle.sml_tree.specs.declared.token_kind.TokenKind.TheVariants.{Not, OpenBracket}
+use Rattle.sml_tree.specs.Syntax.{CondData, ItemData}
+use Rattle.sml_tree.specs.Piece.{Piece}
+use Rattle.sml_tree.specs.Form.{Part, Value, part, File, Cond, Deep}
+use Rattle.sml_tree.specs.Derive.{Marked, Derives, plain, IsFile}
+use Rattle.sml_tree.specs.Condition.{IsCond}
+use Rattle.sml_tree.specs.Inside.{conditions}
+use Rattle.sml_tree.specs.Brackets.{open_depth}
+use Rattle.sml_tree.specs.Limits.{IsWithinLimits}
+
+-- the tokens are a text of the part, under some marks, and it is then worth v
+abbrev pub IsTextOf : (n : Part) → List Piece → Value n → Type 0
+IsTextOf n ts v = (ms : List Marked) × (plain ms ≡ ts) × Derives n _ (part n) ms v
+
+-- the table derives the conditions of the grammar's own shape and no others, whatever stands before
+abbrev pub SameConditions : Type 0
+SameConditions = (depth tests : ℕ) (ts : List Piece) (c : CondData) → ((count : ℕ) × IsTextOf (Cond depth tests) ts (record { formula = c; count = count })) ↔ IsCond ts c
+
+-- the canonical text of each condition of a file has at most sixteen open brackets and `not`s
+abbrev pub FewBrackets : Type 0
+FewBrackets = (ts : List Piece) (file : List ItemData) → IsFile ts file → AllByRecursion (λ c. open_depth c ≤ 16) (conditions file)
+
+-- a token that is no `not` or bracket too deep
+abbrev pub IsNotTooDeep : Marked → Type 0
+IsNotTooDeep m = m.mark ≡ Deep → (m.token.kind ≡ Not) ⊎ (m.token.kind ≡ OpenBracket) → ⊥
+
+-- What is derived without any mark is what is derived at all and is within the limits. That no `not` and no bracket is
+-- too deep is said of the tokens, since brackets leave no trace in the tree.
+abbrev pub WithinLimits : Type 0
+WithinLimits = (ts : List Piece) (file : List ItemData) → IsFile ts file
+    ↔ ((ms : List Marked) × (plain ms ≡ ts) × Derives (File 0 0 0) _ (part (File 0 0 0)) ms file × AllByRecursion IsNotTooDeep ms × IsWithinLimits file)
