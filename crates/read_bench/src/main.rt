@@ -1,0 +1,81 @@
+//! The program `read_bench`: how fast texts of domains are read.
+#![tactic(auto)]
+
+mod made_text;
+mod task;
+#[cfg(test)]
+mod tests;
+mod timing;
+
+use anyhow::{Context, Result, bail};
+use std::fs::Files;
+use std::time::Clock;
+use std::{env, fs};
+
+const USAGE: &str = "\
+Times the reading of texts of domains.
+
+usage: read_bench time ROUNDS [FILE]   prints the least time of so many rounds, over a made text of 1 MiB
+                                       and over sixteen of 64 KiB, or over the text of FILE
+       read_bench write FILE CLASSES   writes a made text with so many classes, 3 to 51, for other readers:
+                                       it has 4 KiB, and 20 KiB more for each class
+
+A made text has comments and every form of the language, and breaks none of its rules.";
+
+fn main(rt: HostRuntime) -> Result<()> {
+    let words: Vec<String> = env::args(&rt)?.collect(rt.alloc())?;
+    let mut texts = Vec::new(rt.alloc());
+    for word in &words {
+        texts.push(word.as_str())?;
+    }
+    drive(&rt, &texts)
+}
+
+// Does what the words ask for, the program's name first.
+fn drive<R: Files + Clock + Print + AllocGlobal>(rt: &R, words: &[&str]) -> Result<()> {
+    match words {
+        [] | [_] | [_, "--help"] => {
+            rt.println(USAGE)?;
+            Ok(())
+        }
+        [_, "time", rounds] => time_made_texts(rt, rounds_of(rounds)?),
+        [_, "time", rounds, file] => time_file(rt, rounds_of(rounds)?, file),
+        [_, "write", file, classes] => write_made_text(rt, file, classes),
+        _ => bail!("see `read_bench --help` for what may be asked"),
+    }
+}
+
+fn rounds_of(word: &str) -> Result<u32> {
+    let rounds = word.parse::<u32>().context("ROUNDS is no number")?;
+    Ok(rounds)
+}
+
+fn time_made_texts<R: Clock + Print + AllocGlobal>(rt: &R, rounds: u32) -> Result<()> {
+    let mut large = Vec::new(rt.alloc());
+    large.push(made_text::of_classes(rt.alloc(), made_text::MOST_CLASSES)?)?;
+    timing::report(rt, rounds, &large)?;
+    let mut small = Vec::new(rt.alloc());
+    for _ in 0..16u32 {
+        small.push(made_text::of_classes(rt.alloc(), made_text::LEAST_CLASSES)?)?;
+    }
+    timing::report(rt, rounds, &small)
+}
+
+fn time_file<R: Files + Clock + Print + AllocGlobal>(
+    rt: &R,
+    rounds: u32,
+    file: &str,
+) -> Result<()> {
+    let mut texts = Vec::new(rt.alloc());
+    texts.push(fs::read(rt, file)?)?;
+    timing::report(rt, rounds, &texts)
+}
+
+fn write_made_text<R: Files + AllocGlobal>(rt: &R, file: &str, classes: &str) -> Result<()> {
+    let classes = classes.parse::<usize>().context("CLASSES is no number")?;
+    if classes < made_text::LEAST_CLASSES || classes > made_text::MOST_CLASSES {
+        bail!("CLASSES is not 3 to 51");
+    }
+    fs::write(rt, file, made_text::of_classes(rt.alloc(), classes)?)?;
+    Ok(())
+}
