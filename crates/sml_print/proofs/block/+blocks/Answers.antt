@@ -1,0 +1,56 @@
+use Rattle.std.proofs.Common.{◌≡◌, map, vec_len, ap, sym, ◌∙◌}
+use Rattle.sml_text.proofs.Writes.{told_as}
+use Rattle.sml_tree.specs.Content.{arg_content, instr_content, block_content, block_of}
+use Rattle.sml_tree.specs.Syntax.{assign, move_to, terminate}
+use Rattle.sml_tree.proofs.Blocks.{instr_content-If}
+use Rattle.sml_print.proofs.Instrs.{says_Set, says_MoveTo, says_Terminate}
+use Rattle.sml_print.specs.Blocks.{instr_text, block_text}
+use Rattle.sml_print.proofs.Tolds.{flat_more, flat_all, block_flat, else_some, else_none, told_nothing}
+use Rattle.sml_print.proofs.Tolds.{then_told}
+use Rattle.sml_print.proofs.block.+blocks.Goals as goal
+
+pub tell_block-loop-instr-preserved : goal.tell_block-loop-instr-preserved
+tell_block-loop-instr-preserved g t c = (
+  told_as _ _ _ _ _ _ (then_told c.loop-instr.invariant.0 c.tell_instr.ensures.told)
+  (flat_more (λ x. instr_text c.args.level (instr_content x)) c.deref-instr-items.result.now c.loop-instr.instr-index c.instr-item.result c.loop-instr-test.true c.instr-item.is),
+  λ h. c.tell_instr.ensures.due (c.loop-instr.invariant.1 h),
+)
+
+pub tell_block-returns-clause-told : goal.tell_block-returns-clause-told
+tell_block-returns-clause-told g t c =
+    told_as _ _ _ _ _ _ c.loop-instr.invariant.0
+    (flat_all (instr_text c.args.level) instr_content c.deref-instr-items.result.now c.loop-instr.instr-index c.loop-instr-test.false
+    ∙ block_flat c.args.level (map instr_content c.deref-instr-items.result.now) ∙ ap (λ is. block_text c.args.level (block_of (map instr_content is))) c.deref-instr-items.ensures.value)
+
+pub tell_instr-returns-in-If-clause-told : goal.tell_instr-returns-in-If-clause-told
+tell_instr-returns-in-If-clause-told g t c =
+    told_as _ _ _ _ _ _
+    (then_told c.tell_indent.ensures.told (then_told c.tell.ensures.told (then_told c.tell_cond.ensures.told (then_told c.tell-in-If.ensures.told (then_told (told_as _ _ _ _ _ _ c.tell_block.ensures.told (ap (λ n. block_text n (block_content c.in-If.yes)) c.deeper.ensures))
+    (then_told c.tell_else.ensures.told (then_told c.tell_indent-in-If.ensures.told c.tell-in-If-2.ensures.told)))))))
+    (ap (instr_text c.args.level) (sym (instr_content-If c.in-If.cond c.in-If.yes c.in-If.no)) ∙ ap (λ i. instr_text c.args.level (instr_content i)) (sym c.in-If.is))
+
+pub tell_instr-returns-in-Set-clause-told : goal.tell_instr-returns-in-Set-clause-told
+tell_instr-returns-in-Set-clause-told g t c =
+    let says : instr_content c.args.instr.now ≡ assign c.in-Set.param (arg_content c.in-Set.value) = ap instr_content c.in-Set.is ∙ says_Set c.in-Set.param c.in-Set.value in
+    told_as _ _ _ _ _ _ (then_told c.tell_indent.ensures.told c.tell_assignment.ensures.told) (ap (instr_text c.args.level) (sym says))
+
+pub tell_instr-returns-in-MoveTo-clause-told : goal.tell_instr-returns-in-MoveTo-clause-told
+tell_instr-returns-in-MoveTo-clause-told g t c =
+    let says : instr_content c.args.instr.now ≡ move_to c.in-MoveTo.state = ap instr_content c.in-MoveTo.is ∙ says_MoveTo _ c.in-MoveTo.state in
+    told_as _ _ _ _ _ _ (then_told c.tell_indent.ensures.told c.tell_towards.ensures.told) (ap (instr_text c.args.level) (sym says))
+
+pub tell_instr-returns-in-Terminate-clause-told : goal.tell_instr-returns-in-Terminate-clause-told
+tell_instr-returns-in-Terminate-clause-told g t c =
+    let says : instr_content c.args.instr.now ≡ terminate c.in-Terminate.state = ap instr_content c.in-Terminate.is ∙ says_Terminate _ c.in-Terminate.state in
+    told_as _ _ _ _ _ _ (then_told c.tell_indent.ensures.told c.tell_towards-in-Terminate.ensures.told) (ap (instr_text c.args.level) (sym says))
+
+pub tell_else-returns-clause-told : goal.tell_else-returns-clause-told
+tell_else-returns-clause-told g t c =
+    let inner = told_as _ _ _ _ _ _ c.tell_block.ensures.told (ap (λ n. block_text n (block_content c.args.block.now)) c.deeper.ensures) in
+    told_as _ _ _ _ _ _ (then_told c.tell_indent.ensures.told (then_told c.tell.ensures.told inner))
+    (else_some c.args.level instr_content c.args.block.now.instrs.items _ (vec_len c.args.block.now.instrs) c.args.block.now.instrs.ok.0 c.if-is_empty.ensures)
+
+pub tell_else-returns-then-is_empty-clause-told : goal.tell_else-returns-then-is_empty-clause-told
+tell_else-returns-then-is_empty-clause-told g t c =
+    told_as _ _ _ _ _ _ (told_nothing _ _)
+    (else_none c.args.level instr_content c.args.block.now.instrs.items _ (vec_len c.args.block.now.instrs) c.args.block.now.instrs.ok.0 c.if-is_empty.ensures)

@@ -1,0 +1,5 @@
+use Rattle.sml_print.proofs.Tolds.{then_told}
+use Rattle.sml_print.proofs.word.tell_action_param.Goals as goal
+
+pub returns-clause-told : goal.returns-clause-told
+returns-clause-told g c = then_told c.tell_kind.ensures.told (then_told c.tell_name.ensures.told c.tell_default.ensures.told)

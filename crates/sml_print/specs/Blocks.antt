@@ -1,0 +1,43 @@
+-- The canonical text of instructions.
+use Rattle.std.specs.Prelude.{ℕ, Bool, true, false, List, [], ◌++◌, codes}
+use Rattle.sml_tree.specs.Syntax.{ArgData, SendData, InstrData, BlockData, send, choose, assign, move_to, terminate, done, step}
+use Rattle.sml_print.specs.Words.{indent, deeper, bracket_list, passed_text, arg_text}
+use Rattle.sml_print.specs.Conditions.{cond_text}
+
+-- whether a `do` is to all of a set
+abbrev pub every_text : Bool → List ℕ
+every_text false = []
+every_text true = codes "all_in "
+
+-- a `do`
+abbrev pub send_text : SendData → List ℕ
+send_text s = codes "do " ++ (s.action ++ (bracket_list passed_text s.args ++ (codes " " ++ (every_text s.all ++ (s.target ++ codes "\n")))))
+
+-- a `set`
+abbrev pub assign_text : List ℕ → ArgData → List ℕ
+assign_text param value = codes "set " ++ (param ++ (codes " = " ++ (arg_text value ++ codes "\n")))
+
+-- an instruction that names a state
+abbrev pub towards_text : List ℕ → List ℕ → List ℕ
+towards_text word state = word ++ (state ++ codes "\n")
+
+-- the second block of an `if`, which is left out where it is empty
+abbrev pub else_text : ℕ → BlockData → List ℕ → List ℕ
+else_text level done text = []
+else_text level (step i b) text = indent level ++ (codes "else\n" ++ text)
+
+abbrev mutual
+  -- an instruction, so many levels in
+  pub instr_text : ℕ → InstrData → List ℕ
+  instr_text level (send s) = indent level ++ send_text s
+  instr_text level (choose cond first second) =
+      indent level ++ (codes "if ( " ++ (cond_text cond ++ (codes " ) then\n"
+      ++ (block_text (deeper level) first ++ (else_text level second (block_text (deeper level) second) ++ (indent level ++ codes "endif\n"))))))
+  instr_text level (assign param value) = indent level ++ assign_text param value
+  instr_text level (move_to state) = indent level ++ towards_text (codes "move_to ") state
+  instr_text level (terminate state) = indent level ++ towards_text (codes "terminate_action /state=") state
+
+  -- instructions, so many levels in
+  pub block_text : ℕ → BlockData → List ℕ
+  block_text level done = []
+  block_text level (step i b) = instr_text level i ++ block_text level b

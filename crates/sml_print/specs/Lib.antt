@@ -1,0 +1,4 @@
+pub mod Blocks
+pub mod Conditions
+pub mod Items
+pub mod Words

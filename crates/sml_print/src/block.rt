@@ -1,0 +1,150 @@
+//! The text of instructions.
+ghost use Rattle.std.specs.Prelude.{◌≡◌, map};
+ghost use Rattle.sml_text.specs.Written.{Told, StaysDue};
+ghost use Rattle.sml_tree.specs.Content.{passed_content, arg_content, cond_content, instr_content, block_content};
+ghost use Rattle.sml_print.specs.Words.{deeper as deeper'};
+ghost use Rattle.sml_print.specs.Blocks as text;
+
+use crate::condition::tell_cond;
+use crate::word::{tell_arg, tell_args, tell_indent, tell_name};
+use sml_text::writing::{Sink, tell};
+use sml_tree::block::{Block, Instr};
+use sml_tree::literal::{Arg, Passed};
+use sml_tree::name::Name;
+use std::alloc::Allocator;
+
+// A level further in.
+fn deeper(level: u32) -> u32
+    ensures { result ≡ deeper' level }
+{
+    level.saturating_add(1)
+}
+
+// A `do`.
+fn tell_send<S: Sink, A: Allocator + Clone>(
+    sink: &mut S,
+    failed: &mut bool,
+    action: &Name,
+    args: &Vec<Passed<A>, A>,
+    all: bool,
+    target: &Name,
+)
+    ensures told { Told (S.contents sink.old) failed.old (S.contents sink.new) failed.new (text.send_text (record { action = action.now; args = map passed_content args.now.items; all = all; target = target.now })) }
+    ensures due { StaysDue (S.has_refused sink.old) failed.old (S.has_refused sink.new) failed.new }
+{
+    tell(sink, failed, b"do ");
+    tell_name(sink, failed, action);
+    tell_args(sink, failed, args);
+    tell(sink, failed, b" ");
+    tell_every(sink, failed, all);
+    tell_name(sink, failed, target);
+    tell(sink, failed, b"\n");
+}
+
+// Whether a `do` is to all of a set.
+fn tell_every<S: Sink>(sink: &mut S, failed: &mut bool, all: bool)
+    ensures told { Told (S.contents sink.old) failed.old (S.contents sink.new) failed.new (text.every_text all) }
+    ensures due { StaysDue (S.has_refused sink.old) failed.old (S.has_refused sink.new) failed.new }
+{
+    if all {
+        tell(sink, failed, b"all_in ");
+    }
+}
+
+// A `set`.
+fn tell_assignment<S: Sink, A: Allocator + Clone>(
+    sink: &mut S,
+    failed: &mut bool,
+    param: &Name,
+    value: &Arg<A>,
+)
+    ensures told { Told (S.contents sink.old) failed.old (S.contents sink.new) failed.new (text.assign_text param.now (arg_content value.now)) }
+    ensures due { StaysDue (S.has_refused sink.old) failed.old (S.has_refused sink.new) failed.new }
+{
+    tell(sink, failed, b"set ");
+    tell_name(sink, failed, param);
+    tell(sink, failed, b" = ");
+    tell_arg(sink, failed, value);
+    tell(sink, failed, b"\n");
+}
+
+// An instruction that names a state.
+fn tell_towards<S: Sink>(sink: &mut S, failed: &mut bool, word: &[u8], state: &Name)
+    ensures told { Told (S.contents sink.old) failed.old (S.contents sink.new) failed.new (text.towards_text word.now state.now) }
+    ensures due { StaysDue (S.has_refused sink.old) failed.old (S.has_refused sink.new) failed.new }
+{
+    tell(sink, failed, word);
+    tell_name(sink, failed, state);
+    tell(sink, failed, b"\n");
+}
+
+// An instruction, so many levels in.
+#[cycle(blocks)]
+fn tell_instr<S: Sink, A: Allocator + Clone>(
+    sink: &mut S,
+    failed: &mut bool,
+    instr: &Instr<A>,
+    level: u32,
+)
+    ensures told { Told (S.contents sink.old) failed.old (S.contents sink.new) failed.new (text.instr_text level (instr_content instr.now)) }
+    ensures due { StaysDue (S.has_refused sink.old) failed.old (S.has_refused sink.new) failed.new }
+{
+    tell_indent(sink, failed, level);
+    match instr {
+        Instr::Do {
+            action,
+            args,
+            all,
+            target,
+        } => tell_send(sink, failed, action, args, *all, target),
+        Instr::If { cond, yes, no } => {
+            tell(sink, failed, b"if ( ");
+            tell_cond(sink, failed, cond);
+            tell(sink, failed, b" ) then\n");
+            tell_block(sink, failed, yes, deeper(level));
+            tell_else(sink, failed, no, level);
+            tell_indent(sink, failed, level);
+            tell(sink, failed, b"endif\n");
+        }
+        Instr::Set { param, value } => tell_assignment(sink, failed, param, value),
+        Instr::MoveTo(state) => tell_towards(sink, failed, b"move_to ", state),
+        Instr::Terminate(state) => {
+            tell_towards(sink, failed, b"terminate_action /state=", state)
+        }
+    }
+}
+
+// The second block of an `if`, where it has instructions.
+#[cycle(blocks)]
+fn tell_else<S: Sink, A: Allocator + Clone>(
+    sink: &mut S,
+    failed: &mut bool,
+    block: &Block<A>,
+    level: u32,
+)
+    ensures told { Told (S.contents sink.old) failed.old (S.contents sink.new) failed.new (text.else_text level (block_content block.now) (text.block_text (deeper' level) (block_content block.now))) }
+    ensures due { StaysDue (S.has_refused sink.old) failed.old (S.has_refused sink.new) failed.new }
+{
+    if block.instrs.is_empty() {
+        return;
+    }
+    tell_indent(sink, failed, level);
+    tell(sink, failed, b"else\n");
+    tell_block(sink, failed, block, deeper(level));
+}
+
+// Instructions, so many levels in.
+#[cycle(blocks)]
+pub(crate) fn tell_block<S: Sink, A: Allocator + Clone>(
+    sink: &mut S,
+    failed: &mut bool,
+    block: &Block<A>,
+    level: u32,
+)
+    ensures told { Told (S.contents sink.old) failed.old (S.contents sink.new) failed.new (text.block_text level (block_content block.now)) }
+    ensures due { StaysDue (S.has_refused sink.old) failed.old (S.has_refused sink.new) failed.new }
+{
+    for instr in &block.instrs {
+        tell_instr(sink, failed, instr, level);
+    }
+}

@@ -1,0 +1,60 @@
+//! The canonical text of a file.
+ghost use Rattle.std.specs.Prelude.{◌≡◌, IfOk, OnOk, OnErr};
+ghost use Rattle.sml_text.specs.Written.{Wrote, WroteFront};
+ghost use Rattle.sml_tree.specs.Content.{file_content};
+ghost use Rattle.sml_print.specs.Items.{file_text};
+
+use crate::item::tell_items;
+use sml_text::writing::Sink;
+use sml_tree::file::SmlFile;
+use std::alloc::{AllocError, Allocator, Global};
+use std::io::Write;
+
+/// The writer failed, or took no byte of some.
+#[derive(Clone, Copy, Debug, PartialEq, Eq)]
+pub struct PrintFault;
+
+// Writes the text. A fault is answered only of a sink that has refused.
+fn write_into<S: Sink, A: Allocator + Clone>(
+    file: &SmlFile<A>,
+    sink: &mut S,
+) -> Result<(), PrintFault>
+    ensures ok { OnOk result (Wrote (S.contents sink.old) (S.contents sink.new) (file_text (file_content file.now))) }
+    ensures err { OnErr result (WroteFront (S.contents sink.old) (S.contents sink.new) (file_text (file_content file.now))) }
+    ensures refused { OnErr result (S.has_refused sink.new) }
+{
+    let mut failed = false;
+    tell_items(sink, &mut failed, &file.items);
+    if failed { Err(PrintFault) } else { Ok(()) }
+}
+
+/// Writes the canonical text of a file (docs/FORMATS.md, "Canonical text").
+///
+/// After a fault a front of the text is written. The text goes out in many small parts, a word or a
+/// sign at a time, so that a writer to a file should be buffered. No memory is taken; the time grows
+/// with the length of the text.
+pub fn write_to<A: Allocator + Clone, W: Write>(
+    file: &SmlFile<A>,
+    writer: &mut W,
+) -> Result<(), PrintFault>
+    ensures ok { OnOk result (Wrote (W.contents writer.old) (W.contents writer.new) (file_text (file_content file.now))) }
+    ensures err { OnErr result (WroteFront (W.contents writer.old) (W.contents writer.new) (file_text (file_content file.now))) }
+{
+    write_into(file, writer)
+}
+
+/// The canonical text of a file (docs/FORMATS.md, "Canonical text").
+///
+/// The error is want of memory for the text. The time grows with the length of the text.
+pub fn print<A: Allocator + Clone>(
+    alloc: Global,
+    file: &SmlFile<A>,
+) -> Result<Vec<u8>, AllocError>
+    ensures { IfOk result (λ text. text.items ≡ file_text (file_content file.now)) }
+{
+    let mut text = Vec::new(alloc);
+    match write_to(file, &mut text) {
+        Ok(()) => Ok(text),
+        Err(PrintFault) => Err(AllocError),
+    }
+}
