@@ -5,6 +5,15 @@ use clap::error::ErrorKind;
 use clap::{Arg, ArgMatches, Command, Error, value_parser};
 use std::alloc::Global;
 
+/// What the program is asked to do.
+#[derive(Drop)]
+pub enum Asked<'a> {
+    /// To run a schedule on a domain.
+    Step(StepOptions<'a>),
+    /// To print the canonical text of the domain file of this path.
+    Print(&'a str),
+}
+
 /// What `step` is asked to do. The texts are words of the command line.
 #[derive(Drop)]
 pub struct StepOptions<'a> {
@@ -20,17 +29,21 @@ pub struct StepOptions<'a> {
 
 /// Reads the words of a command line, the program's name first. A request for help is an `Err` too,
 /// and the error tells the two apart.
-pub fn parse<'a>(alloc: Global, words: &'a [String]) -> Result<StepOptions<'a>, Error> {
+pub fn parse<'a>(alloc: Global, words: &'a [String]) -> Result<Asked<'a>, Error> {
     let mut command = smirun_command(alloc)?;
     let matches = command.try_get_matches_from_mut(words)?;
-    let options = match matches.subcommand_matches("step") {
-        Some(step) => step_options(step),
-        None => None,
-    };
-    match options {
-        Some(options) => Ok(options),
+    match command_of(&matches) {
+        Some(asked) => Ok(asked),
         None => Err(command.error(ErrorKind::MissingSubcommand, "no command is given")?),
     }
+}
+
+fn command_of<'a>(matches: &ArgMatches<'a>) -> Option<Asked<'a>> {
+    if let Some(step) = matches.subcommand_matches("step") {
+        return Some(Asked::Step(step_options(step)?));
+    }
+    let print = matches.subcommand_matches("print")?;
+    Some(Asked::Print(print.get_str("FILE")?))
 }
 
 fn step_options<'a>(step: &ArgMatches<'a>) -> Option<StepOptions<'a>> {
@@ -47,7 +60,17 @@ fn smirun_command<'a>(alloc: Global) -> Result<Command<'a>, Error> {
         .about(help::ABOUT)
         .after_help(help::STATUSES)
         .subcommand_required(true)
+        .subcommand(print_command(alloc)?)?
         .subcommand(step_command(alloc)?)?;
+    Ok(command)
+}
+
+fn print_command<'a>(alloc: Global) -> Result<Command<'a>, Error> {
+    let file = Arg::new(alloc, "FILE").required(true).help(help::FILE);
+    let command = Command::new(alloc, "print")
+        .about(help::PRINT)
+        .after_help(help::PRINT_MORE)
+        .arg(file)?;
     Ok(command)
 }
 

@@ -4,8 +4,9 @@ ghost use Rattle.std.specs.IoError.{error_kind};
 ghost use Rattle.clap.specs.Values.{kind_of};
 ghost use Rattle.smirun.specs.Status.{fault_status};
 
+use crate::command_line::Asked;
 use crate::fault::Fault;
-use crate::{command_line, step};
+use crate::{command_line, print, step};
 use clap::error::ErrorKind as LineKind;
 use std::fs::Files;
 use std::io;
@@ -32,7 +33,8 @@ pub fn drive<R: Files + AllocGlobal, W: Write, E: Write>(
     ensures { result ≤ 3 }
 {
     let outcome = match command_line::parse(rt.alloc(), words) {
-        Ok(asked) => step::run_step(rt, &asked, output),
+        Ok(Asked::Step(options)) => step::run_step(rt, &options, output),
+        Ok(Asked::Print(file)) => print::run_print(rt, file, output),
         Err(error) => return answer(&error, output, errors),
     };
     match outcome {

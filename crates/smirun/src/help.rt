@@ -9,10 +9,36 @@ or a move to another state. Objects belong to classes. Every object keeps the re
 sent in a mailbox, and performs them one after the other, in the order in which they came.";
 
 pub const STATUSES: &str = "\
-`smirun step --help` has the forms of both files and an example.
+`smirun print --help` and `smirun step --help` have the forms of the files and examples.
 
 Exit status: 0 done, also where single steps were refused; 1 an input was refused, or a file could
 not be read or the output not be written; 2 a wrong command line; 3 not enough memory.";
+
+pub const PRINT: &str = "\
+Prints the canonical text of a domain: the one spelling that every domain has.";
+
+pub const PRINT_MORE: &str = "\
+FILE, the domain file, has at most 1048576 bytes of ASCII. It is read and not checked, so that names
+need not be declared. The text that is printed says the same file: reserved words in lower case and
+names in capitals, one item or instruction a line, two blanks a level, no comments, brackets in a
+condition only where they are needed. It is written to standard output. For example:
+
+  class:lamp state:off action:light move_to on state:on   ! a lamp
+
+is printed as
+
+  class: LAMP
+    state: OFF
+      action: LIGHT
+        move_to ON
+    state: ON
+
+A file that is refused is told on standard error, by FILE and one of: `read NO KIND at OFFSET` (no
+text of the language; OFFSET counts bytes from 0), `unreadable`. `output fault` says that the output
+cannot be written, `memory` that there is not enough memory.
+
+Exit status: 0 done; 1 the file was refused, could not be read or the output not be written; 2 a
+wrong command line; 3 not enough memory.";
 
 pub const STEP: &str = "\
 Runs a schedule on a domain, and writes one line for each thing that is done.";

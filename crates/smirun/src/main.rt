@@ -5,9 +5,13 @@ mod command_line;
 mod drive;
 mod fault;
 mod help;
+mod print;
+#[cfg(test)]
+mod print_tests;
 mod step;
 #[cfg(test)]
 mod tests;
+mod text;
 
 use std::env::Env;
 use std::process::ExitCode;

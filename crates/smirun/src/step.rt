@@ -2,15 +2,12 @@
 
 use crate::command_line::StepOptions;
 use crate::fault::Fault;
+use crate::text::load_text;
 use smi_core::{Core, Domain, plain_domain, run_schedule};
+use std::fs;
 use std::fs::Files;
-use std::io::{BufWriter, Read, Write};
+use std::io::{BufWriter, Write};
 use std::sync::Arc;
-use std::{fs, io};
-
-// One byte more than a domain text may have, so that a text which is too long is seen to be so, and
-// no more of it is read.
-const MOST_READ: u64 = 1_048_577;
 
 /// Runs the schedule on the domain. The domain is read and checked before the schedule is opened,
 /// and the schedule is read as it runs, so at a fault a front of the output is written.
@@ -64,12 +61,4 @@ fn load_domain<'a, R: Files + AllocGlobal>(
         Ok(domain) => Ok(domain),
         Err(_) => Err(Fault::Memory),
     }
-}
-
-// The text of a domain file, or the front of one that is too long.
-fn load_text<R: Files + AllocGlobal>(rt: &R, file: &str) -> io::Result<Vec<u8>> {
-    let mut text = Vec::new(rt.alloc());
-    let mut reader = fs::open(rt, file)?.take(MOST_READ);
-    reader.read_to_end(&mut text)?;
-    Ok(text)
 }

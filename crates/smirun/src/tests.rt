@@ -58,7 +58,7 @@ objectset: HV { HV1, HV2 }
 const STEP: &[&str] = &["smirun", "step", "domain.sml", "schedule"];
 
 // Makes a new folder for a test and enters it.
-fn enter(rt: &HostRuntime, test: &str) -> Result<(), Fail> {
+pub fn enter(rt: &HostRuntime, test: &str) -> Result<(), Fail> {
     let alloc = rt.alloc();
     let place = env::temp_dir(rt)?;
     let id = process::id(rt.process());
@@ -72,7 +72,7 @@ fn enter(rt: &HostRuntime, test: &str) -> Result<(), Fail> {
 }
 
 // Removes the folder that was entered.
-fn leave(rt: &HostRuntime) -> Result<(), Fail> {
+pub fn leave(rt: &HostRuntime) -> Result<(), Fail> {
     let folder = env::current_dir(rt)?;
     fs::remove_dir_all(rt, folder.as_str())?;
     Ok(())
@@ -112,7 +112,7 @@ fn call<R: Files + AllocGlobal>(rt: &R, words: &[&str]) -> Result<Outcome, Fail>
     })
 }
 
-fn expect<R: Files + AllocGlobal + Abort>(
+pub fn expect<R: Files + AllocGlobal + Abort>(
     rt: &R,
     words: &[&str],
     status: u8,
@@ -394,7 +394,11 @@ fn expect_output_fault<R: Files + AllocGlobal + Abort, W: Write>(
 fn output_faults(rt: HostRuntime) -> Result<(), Fail> {
     enter(&rt, "output_faults")?;
     write_inputs(&rt, FIRST, "start L\n")?;
-    for words in [STEP, &["smirun", "--help"]] {
+    for words in [
+        STEP,
+        &["smirun", "--help"],
+        &["smirun", "print", "domain.sml"],
+    ] {
         expect_output_fault(&rt, words, &mut Fails)?;
         expect_output_fault(&rt, words, &mut TakesNothing)?;
         expect_output_fault(&rt, words, &mut FailsLate)?;
@@ -414,9 +418,11 @@ fn expect_wrong_words<R: Files + AllocGlobal + Abort>(rt: &R, words: &[&str]) ->
 #[test]
 fn wrong_command_lines(rt: HostRuntime) -> Result<(), Fail> {
     let step_lines: [&[&str]; 4] = [&[], &["a"], &["a", "b", "c"], &["a", "b", "--workers", "2"]];
-    let other_lines: [&[&str]; 4] = [
+    let other_lines: [&[&str]; 6] = [
         &[],
         &["smirun"],
+        &["smirun", "print"],
+        &["smirun", "print", "a", "b"],
         &["smirun", "check", "a"],
         &["smirun", "--x"],
     ];
@@ -464,12 +470,13 @@ fn options_in_and_out_of_range(rt: HostRuntime) -> Result<(), Fail> {
 
 #[test]
 fn help_is_given(rt: HostRuntime) -> Result<(), Fail> {
-    let lines: [(&[&str], &str); 5] = [
+    let lines: [(&[&str], &str); 6] = [
         (&["smirun", "--help"], "smirun step --help"),
         (&["smirun", "-h"], "Exit status: 0 done"),
         (&["smirun", "help"], "Usage: smirun <COMMAND>"),
         (&["smirun", "step", "--help"], "request @S OBJECT ACTION"),
         (&["smirun", "help", "step"], "[default: 1000000]"),
+        (&["smirun", "print", "--help"], "class:lamp state:off"),
     ];
     for (words, part) in lines {
         let outcome = call(&rt, words)?;

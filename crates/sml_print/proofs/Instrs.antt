@@ -1,10 +1,10 @@
 -- What instructions say.
-use Rattle.std.proofs.Common.{◌≡◌, ◌∙◌, sym, ap, List, ℕ}
+use Rattle.std.proofs.Common.{◌≡◌, ◌∙◌, sym, ap}
 use Rattle.sml_tree.specs.Syntax.{InstrData, BlockData, assign, move_to, terminate}
 use Rattle.sml_tree.specs.Content.{instr_content, arg_content, instr_step, block_step}
 use Rattle.sml_tree.specs.declared.literal.Arg.{Arg}
 use Rattle.sml_tree.specs.declared.name.Name.{Name}
-use Rattle.sml_tree.specs.declared.block.Instr.{Instr, Set, MoveTo, Terminate}
+use Rattle.sml_tree.specs.declared.block.Instr.{Set, MoveTo, Terminate}
 use Rattle.sml_tree.specs.declared.block.Instr.TheOpen.{Instr-F}
 use Rattle.sml_tree.specs.declared.block.Instr.TheViews.{rolls-Set, rolls-MoveTo, rolls-Terminate}
 use Rattle.sml_tree.specs.declared.block.Instr.TheFolds.{fold-roll-Instr}

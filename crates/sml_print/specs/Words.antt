@@ -1,5 +1,5 @@
 -- The canonical text of values, parameters and lists.
-use Rattle.std.specs.Prelude.{ℕ, zero, suc, ◌+◌, ◌^◌, ◌-◌, min, List, [], ◌∷◌, ◌++◌, Bool, true, false, Option, Some, None, codes, flat_map}
+use Rattle.std.specs.Prelude.{ℕ, zero, suc, ◌+◌, ◌^◌, ◌-◌, min, List, [], ◌∷◌, ◌++◌, Option, Some, None, codes, flat_map}
 use Rattle.sml_text.specs.Decimal.{int_text}
 use Rattle.sml_tree.specs.Syntax.{LiteralData, int, str, ArgData, lit, param, PassedData, ClassParamData, ActionParamData}
 use Rattle.sml_tree.specs.declared.file.Kind.{Kind}

@@ -46,10 +46,7 @@ pub fn write_to<A: Allocator + Clone, W: Write>(
 /// The canonical text of a file (docs/FORMATS.md, "Canonical text").
 ///
 /// The error is want of memory for the text. The time grows with the length of the text.
-pub fn print<A: Allocator + Clone>(
-    alloc: Global,
-    file: &SmlFile<A>,
-) -> Result<Vec<u8>, AllocError>
+pub fn print<A: Allocator + Clone>(alloc: Global, file: &SmlFile<A>) -> Result<Vec<u8>, AllocError>
     ensures { IfOk result (λ text. text.items ≡ file_text (file_content file.now)) }
 {
     let mut text = Vec::new(alloc);

@@ -21,11 +21,7 @@ fn tell_mark<S: Sink>(sink: &mut S, failed: &mut bool, stands: bool, mark: &[u8]
 }
 
 // An action.
-fn tell_action<S: Sink, A: Allocator + Clone>(
-    sink: &mut S,
-    failed: &mut bool,
-    action: &Action<A>,
-)
+fn tell_action<S: Sink, A: Allocator + Clone>(sink: &mut S, failed: &mut bool, action: &Action<A>)
     ensures told { Told (S.contents sink.old) failed.old (S.contents sink.new) failed.new (text.action_text (action_content action.now)) }
     ensures due { StaysDue (S.has_refused sink.old) failed.old (S.has_refused sink.new) failed.new }
 {

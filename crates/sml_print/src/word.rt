@@ -83,11 +83,7 @@ fn tell_literal<S: Sink, A: Allocator + Clone>(
 }
 
 // A value or the name of a parameter.
-pub(crate) fn tell_arg<S: Sink, A: Allocator + Clone>(
-    sink: &mut S,
-    failed: &mut bool,
-    arg: &Arg<A>,
-)
+pub(crate) fn tell_arg<S: Sink, A: Allocator + Clone>(sink: &mut S, failed: &mut bool, arg: &Arg<A>)
     ensures told { Told (S.contents sink.old) failed.old (S.contents sink.new) failed.new (text.arg_text (arg_content arg.now)) }
     ensures due { StaysDue (S.has_refused sink.old) failed.old (S.has_refused sink.new) failed.new }
 {
@@ -98,11 +94,7 @@ pub(crate) fn tell_arg<S: Sink, A: Allocator + Clone>(
 }
 
 // An argument.
-fn tell_passed<S: Sink, A: Allocator + Clone>(
-    sink: &mut S,
-    failed: &mut bool,
-    passed: &Passed<A>,
-)
+fn tell_passed<S: Sink, A: Allocator + Clone>(sink: &mut S, failed: &mut bool, passed: &Passed<A>)
     ensures told { Told (S.contents sink.old) failed.old (S.contents sink.new) failed.new (text.passed_text (passed_content passed.now)) }
     ensures due { StaysDue (S.has_refused sink.old) failed.old (S.has_refused sink.new) failed.new }
 {

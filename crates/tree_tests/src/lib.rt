@@ -2,6 +2,9 @@
 #![tactic(auto)]
 
 #[cfg(test)]
+mod print_tests;
+
+#[cfg(test)]
 mod tests {
     use bumpalo::Bump;
     use linked_list_allocator::LocalHeap;
@@ -37,7 +40,8 @@ object: RUN is_of_class RUN_TYPE
 objectset: HV { HV1, HV2 }
 ";
 
-    const ONE_LINE: &[u8] = b"class:rt state:a/dead_state/initial_state action:go(int t=-07)if(not(x in_state{on})or y in_state off and z not_in_state{on,off})then set n=t else endif move_to A";
+    const ONE_LINE: &[u8] =
+        b"class:rt state:a/dead_state/initial_state action:go(int t=-07)if(not(x in_state{on})or y in_state off and z not_in_state{on,off})then set n=t else endif move_to A";
 
     fn is(error: Option<ReadError>, kind: ReadErrorKind, offset: usize) -> bool {
         error == Some(ReadError { kind, offset })

@@ -12,7 +12,7 @@ use Rattle.sml_print.proofs.block.+blocks.Goals as goal
 pub tell_block-loop-instr-preserved : goal.tell_block-loop-instr-preserved
 tell_block-loop-instr-preserved g t c = (
   told_as _ _ _ _ _ _ (then_told c.loop-instr.invariant.0 c.tell_instr.ensures.told)
-  (flat_more (λ x. instr_text c.args.level (instr_content x)) c.deref-instr-items.result.now c.loop-instr.instr-index c.instr-item.result c.loop-instr-test.true c.instr-item.is),
+      (flat_more (λ x. instr_text c.args.level (instr_content x)) c.deref-instr-items.result.now c.loop-instr.instr-index c.instr-item.result c.loop-instr-test.true c.instr-item.is),
   λ h. c.tell_instr.ensures.due (c.loop-instr.invariant.1 h),
 )
 

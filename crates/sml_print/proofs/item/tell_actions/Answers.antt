@@ -8,7 +8,7 @@ use Rattle.sml_print.proofs.item.tell_actions.Goals as goal
 pub loop-action-preserved : goal.loop-action-preserved
 loop-action-preserved g c = (
   told_as _ _ _ _ _ _ (then_told c.loop-action.invariant.0 c.tell_action.ensures.told)
-  (flat_more (λ x. action_text (action_content x)) c.args.actions.now.items c.loop-action.action-index c.action-item.result (rw c.deref-action-items.ensures.value at c.loop-action-test.true) (rw c.deref-action-items.ensures.value at c.action-item.is)),
+      (flat_more (λ x. action_text (action_content x)) c.args.actions.now.items c.loop-action.action-index c.action-item.result (rw c.deref-action-items.ensures.value at c.loop-action-test.true) (rw c.deref-action-items.ensures.value at c.action-item.is)),
   λ h. c.tell_action.ensures.due (c.loop-action.invariant.1 h),
 )
 

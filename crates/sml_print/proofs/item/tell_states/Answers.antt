@@ -8,7 +8,7 @@ use Rattle.sml_print.proofs.item.tell_states.Goals as goal
 pub loop-state-preserved : goal.loop-state-preserved
 loop-state-preserved g c = (
   told_as _ _ _ _ _ _ (then_told c.loop-state.invariant.0 c.tell_state.ensures.told)
-  (flat_more (λ x. state_text (state_content x)) c.args.states.now.items c.loop-state.state-index c.state-item.result (rw c.deref-state-items.ensures.value at c.loop-state-test.true) (rw c.deref-state-items.ensures.value at c.state-item.is)),
+      (flat_more (λ x. state_text (state_content x)) c.args.states.now.items c.loop-state.state-index c.state-item.result (rw c.deref-state-items.ensures.value at c.loop-state-test.true) (rw c.deref-state-items.ensures.value at c.state-item.is)),
   λ h. c.tell_state.ensures.due (c.loop-state.invariant.1 h),
 )
 

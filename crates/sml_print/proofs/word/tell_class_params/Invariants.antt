@@ -1,4 +1,4 @@
-use Rattle.std.proofs.Common.{take, flat_map}
+use Rattle.std.proofs.Common.{take}
 use Rattle.sml_text.specs.Written.{Told, StaysDue}
 use Rattle.sml_tree.specs.Content.{class_param_content}
 use Rattle.sml_print.specs.Words.{listed, class_param_text}

@@ -1,4 +1,3 @@
-use Rattle.std.proofs.Common.{take, flat_map}
 use Rattle.sml_text.specs.Written.{Told, StaysDue}
 use Rattle.sml_print.specs.Words.{indent}
 use Rattle.sml_print.proofs.word.tell_indent.Given as goal

@@ -9,7 +9,7 @@ use Rattle.sml_print.proofs.word.tell_names.Goals as goal
 pub loop-i-preserved : goal.loop-i-preserved
 loop-i-preserved g c = (
   told_as _ _ _ _ _ _ (then_told c.loop-i.invariant.0 (then_told c.tell_comma.ensures.told c.tell_name.ensures.told))
-  (listed_more name_text c.args.names.now c.loop-i.i c.index-names-i.result c.loop-i-test.true c.index-names-i.is),
+      (listed_more name_text c.args.names.now c.loop-i.i c.index-names-i.result c.loop-i-test.true c.index-names-i.is),
   λ h. c.tell_name.ensures.due (c.tell_comma.ensures.due (c.loop-i.invariant.1 h)),
 )
 

@@ -1,4 +1,4 @@
-use Rattle.std.proofs.Common.{take, flat_map}
+use Rattle.std.proofs.Common.{take}
 use Rattle.sml_text.specs.Written.{Told, StaysDue}
 use Rattle.sml_print.specs.Words.{listed, name_text}
 use Rattle.sml_print.proofs.word.tell_names.Given as goal
