@@ -28,9 +28,6 @@ const MOST_ACTIONS: usize = 32;
 // How many sets a text may have.
 const MOST_SETS: usize = 32;
 
-// Whether actions have an `if`, which is not read yet.
-const CONDITIONS: bool = false;
-
 // A class, and two others, whose objects its actions test and send to. All go by number.
 #[derive(Clone, Copy)]
 struct Place {
@@ -135,35 +132,20 @@ fn action_text(
 ) -> Result<String, AllocError>
     requires { state < STATES }
 {
-    let near = place.near;
+    let Place { near, far, .. } = place;
     let sent = action / 2;
     let next = (state + 1) % STATES;
-    let test = if CONDITIONS {
-        condition(alloc, place, state)?
-    } else {
-        String::new(alloc)
-    };
-    let (otherwise, end) = if CONDITIONS {
-        ("      else\n", "      endif\n")
-    } else {
-        ("", "")
-    };
     format!(in alloc;
         "    action: ACTION_{action} (int T = {action}, string M)
       do ACTION_{sent} (M = M, T = LIMIT) OBJECT_{near}
-{test}        set LIMIT = T ! keep it
+      if ( OBJECT_{near} in_state {{ STATE_1, STATE_2 }} and not ( all_in GROUP_{near} in_state STATE_{state}
+           or any_in GROUP_{far} not_in_state STATE_3 ) ) then
+        set LIMIT = T ! keep it
         move_to STATE_{next}
-{otherwise}        do ACTION_{sent} (M = \"a text of some length\", T = -{action}) all_in GROUP_{near}
-{end}      terminate_action /state=STATE_{next}
-"
-    )
-}
-
-fn condition(alloc: Global, place: Place, state: usize) -> Result<String, AllocError> {
-    let Place { near, far, .. } = place;
-    format!(in alloc;
-        "      if ( OBJECT_{near} in_state {{ STATE_1, STATE_2 }}
-           and not ( all_in GROUP_{near} in_state STATE_{state} or any_in GROUP_{far} not_in_state STATE_3 ) ) then
+      else
+        do ACTION_{sent} (M = \"a text of some length\", T = -{action}) all_in GROUP_{near}
+      endif
+      terminate_action /state=STATE_{next}
 "
     )
 }

@@ -13,14 +13,16 @@ use std::time::Clock;
 use std::{env, fs};
 
 const USAGE: &str = "\
-Times the reading of texts of domains.
+Times the reading of domain texts, with the dropping of what was read, and the printing of files.
+Nothing is timed without words.
 
-usage: read_bench time ROUNDS [FILE]   prints the least time of so many rounds, over a made text of 1 MiB
-                                       and over sixteen of 64 KiB, or over the text of FILE
-       read_bench write FILE CLASSES   writes a made text with so many classes, 3 to 51, for other readers:
-                                       it has 4 KiB, and 20 KiB more for each class
+usage: read_bench time ROUNDS         over made texts: one of 1 MiB, and sixteen of 64 KiB
+       read_bench time ROUNDS FILE    over the text of FILE
+       read_bench write FILE CLASSES  writes a made text, for other readers
 
-A made text has comments and every form of the language, and breaks none of its rules.";
+The least time of so many rounds is printed, of reading into memory of Global and into an arena, and
+of printing, with the speed in MB/s (a million bytes a second, of the texts that were read). A made
+text is legal. It has 4 KiB, and 20 KiB more for each class, and CLASSES is 3 to 51.";
 
 fn main(rt: HostRuntime) -> Result<()> {
     let words: Vec<String> = env::args(&rt)?.collect(rt.alloc())?;

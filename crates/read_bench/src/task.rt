@@ -2,58 +2,78 @@
 
 use anyhow::{Result, anyhow};
 use bumpalo::Bump;
+use sml_print::write_to;
 use sml_read::read;
 use sml_tree::file::SmlFile;
-use std::alloc::Allocator;
+use std::alloc::{AllocError, Allocator};
 use std::time::{Clock, Duration, Instant};
 
-/// What is done with a text.
+/// What is done with texts.
 #[derive(Clone, Copy)]
 pub enum Task {
-    /// It is read into memory of `Global`, and the file is dropped.
+    /// They are read into memory of `Global`, and the files are dropped.
     Read,
     /// The same in an arena, which is reset.
     ReadInArena,
+    /// Files that were read before are printed, into one text.
+    Print,
 }
 
 /// All that is timed.
-pub const TASKS: [Task; 2] = [Task::Read, Task::ReadInArena];
+pub const TASKS: [Task; 3] = [Task::Read, Task::ReadInArena, Task::Print];
 
 impl Task {
     pub fn name(self) -> &'static str {
         match self {
             Task::Read => "read, Global",
             Task::ReadInArena => "read, arena",
+            Task::Print => "print",
         }
     }
 
-    /// How long it takes with this text.
+    /// How long it takes with these texts. All of the files are there before the first is dropped.
     pub fn time<R: Clock + AllocGlobal>(
         self,
         rt: &R,
         arena: &mut Bump,
-        text: &[u8],
+        texts: &[Vec<u8>],
     ) -> Result<Duration> {
         match self {
-            Task::Read => time_read(rt, text),
-            Task::ReadInArena => time_read_in_arena(rt, arena, text),
+            Task::Read => time_read(rt, texts),
+            Task::ReadInArena => time_read_in_arena(rt, arena, texts),
+            Task::Print => time_printing(rt, texts),
         }
     }
 }
 
-fn time_read<R: Clock + AllocGlobal>(rt: &R, text: &[u8]) -> Result<Duration> {
+fn time_read<R: Clock + AllocGlobal>(rt: &R, texts: &[Vec<u8>]) -> Result<Duration> {
     let start = Instant::now(rt)?;
-    drop(file_of(rt.alloc(), text)?);
+    drop(files_of(rt.alloc(), texts)?);
     Ok(start.elapsed(rt)?)
 }
 
-fn time_read_in_arena<R: Clock>(rt: &R, arena: &mut Bump, text: &[u8]) -> Result<Duration> {
+fn time_read_in_arena<R: Clock>(rt: &R, arena: &mut Bump, texts: &[Vec<u8>]) -> Result<Duration> {
     let start = Instant::now(rt)?;
-    drop(file_of(&*arena, text)?);
+    drop(files_of(&*arena, texts)?);
     arena.reset()?;
     Ok(start.elapsed(rt)?)
 }
 
-fn file_of<A: Allocator + Clone>(alloc: A, text: &[u8]) -> Result<SmlFile<A>> {
-    read(alloc, text).map_err(|error| anyhow!("the text is refused: {error}"))
+fn time_printing<R: Clock + AllocGlobal>(rt: &R, texts: &[Vec<u8>]) -> Result<Duration> {
+    let files = files_of(rt.alloc(), texts)?;
+    let mut printed = Vec::new(rt.alloc());
+    let start = Instant::now(rt)?;
+    for file in &files {
+        write_to(file, &mut printed).map_err(|_| anyhow!("no memory for the text"))?;
+    }
+    Ok(start.elapsed(rt)?)
+}
+
+fn files_of<A: Allocator + Copy + Drop>(alloc: A, texts: &[Vec<u8>]) -> Result<Vec<SmlFile<A>, A>> {
+    let mut files = Vec::new(alloc);
+    for text in texts {
+        let file = read(alloc, text).map_err(|error| anyhow!("a text is refused: {error}"))?;
+        files.push(file).map_err(AllocError::from)?;
+    }
+    Ok(files)
 }

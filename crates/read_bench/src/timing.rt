@@ -35,24 +35,11 @@ fn least_time<R: Clock + AllocGlobal>(
     rounds: u32,
     texts: &[Vec<u8>],
 ) -> Result<Duration> {
-    let mut least = round_time(rt, task, arena, texts)?;
+    let mut least = task.time(rt, arena, texts)?;
     for _ in 1..rounds {
-        least = least.min(round_time(rt, task, arena, texts)?);
+        least = least.min(task.time(rt, arena, texts)?);
     }
     Ok(least)
-}
-
-fn round_time<R: Clock + AllocGlobal>(
-    rt: &R,
-    task: Task,
-    arena: &mut Bump,
-    texts: &[Vec<u8>],
-) -> Result<Duration> {
-    let mut sum = Duration::ZERO;
-    for text in texts {
-        sum = sum.saturating_add(task.time(rt, arena, text)?);
-    }
-    Ok(sum)
 }
 
 // Megabytes in a second.

@@ -116,7 +116,7 @@ fn kind_of(slash: bool, lexeme: Lexeme) -> TokenKind
     ensures { result ≡ kind' slash (lexeme_of lexeme.entry) }
 {
     match lexeme {
-        Lexeme::Word(word) => word_kind(slash, Name::from_word(word).as_bytes()),
+        Lexeme::Word(word) => word_kind(slash, word),
         Lexeme::Int(_) => TokenKind::Int,
         Lexeme::Str(_) => TokenKind::Str,
         Lexeme::Sign(sign) => sign_kind(sign),

@@ -36,10 +36,18 @@ fn read_items<A: Allocator + Clone>(alloc: &A, text: &[u8]) -> Result<Vec<Item<A
     }
 }
 
-// The place of the first byte above 0x7F.
+// The place of the first byte above 0x7F. The loop has no way out, so that many bytes are looked at at
+// once; most texts have no such byte.
 fn foreign_at(text: &[u8]) -> Option<usize>
     ensures { result ≡ first_foreign text.now }
 {
+    let mut most: u8 = 0;
+    for b in text {
+        most = most.max(*b);
+    }
+    if most <= 127 {
+        return None;
+    }
     text.iter().position(|b| *b > 127)
 }
 

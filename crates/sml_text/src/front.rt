@@ -217,7 +217,8 @@ fn sign_at(c: u8) -> Front
     }
 }
 
-// What stands in front, by the first byte.
+// What stands in front, by the first byte. Inlined, since its callers take the answer apart at once.
+#[inline(always)]
 fn scan(source: Source, text: &[u8]) -> Front
     ensures { result ≡ front source text.now }
 {
@@ -239,6 +240,7 @@ fn scan(source: Source, text: &[u8]) -> Front
 ///
 /// The time grows with what stands there: with the length of a comment, a word or an int; of a
 /// string no more than 256 bytes are looked at. No memory is taken.
+#[inline(always)]
 pub fn front_at(source: Source, text: &[u8]) -> Front
     ensures { IsFront source text.now result }
 {

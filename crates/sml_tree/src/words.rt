@@ -1,7 +1,9 @@
 //! The words that are no names.
-ghost use Rattle.std.specs.Prelude.{◌≡◌, map};
-ghost use Rattle.sml_tree.specs.Piece.{kind_in as kind', word_kind as word', is_row, is_reserved as reserved'};
-ghost use Rattle.sml_tree.specs.Rows.{row_of};
+ghost use Rattle.std.specs.Prelude.{◌≡◌, map, nat_eq};
+ghost use Rattle.std.specs.Cmp.Lexicographic.{pointwise};
+ghost use Rattle.sml_tree.specs.Word.{upper};
+ghost use Rattle.sml_tree.specs.Piece.{kind_in as kind', word_kind as word', is_row, reserved, is_reserved as reserved'};
+ghost use Rattle.sml_tree.specs.Rows.{row_of, of_length};
 ghost use Rattle.std.specs.List.{list_any as any_of};
 
 use crate::token_kind::TokenKind;
@@ -12,11 +14,8 @@ struct Row {
     kind: TokenKind,
 }
 
-// How many rows stand for words that count only behind a slash.
-const MARKS: usize = 3;
-
-// Those, and the reserved words.
-const WORDS: [Row; 32] = [
+// The words that count only behind a slash.
+const MARKS: [Row; 3] = [
     Row {
         word: b"ASSOCIATED",
         kind: TokenKind::Associated,
@@ -29,42 +28,10 @@ const WORDS: [Row; 32] = [
         word: b"DEAD_STATE",
         kind: TokenKind::DeadState,
     },
-    Row {
-        word: b"CLASS",
-        kind: TokenKind::Class,
-    },
-    Row {
-        word: b"OBJECT",
-        kind: TokenKind::Object,
-    },
-    Row {
-        word: b"OBJECTSET",
-        kind: TokenKind::ObjectSet,
-    },
-    Row {
-        word: b"IS_OF_CLASS",
-        kind: TokenKind::IsOfClass,
-    },
-    Row {
-        word: b"STATE",
-        kind: TokenKind::State,
-    },
-    Row {
-        word: b"ACTION",
-        kind: TokenKind::Action,
-    },
-    Row {
-        word: b"PARAMETERS",
-        kind: TokenKind::Parameters,
-    },
-    Row {
-        word: b"INT",
-        kind: TokenKind::IntKind,
-    },
-    Row {
-        word: b"STRING",
-        kind: TokenKind::StringKind,
-    },
+];
+
+// The reserved words, by how many bytes they have.
+const WORDS: [Row; 29] = [
     Row {
         word: b"DO",
         kind: TokenKind::Do,
@@ -72,6 +39,30 @@ const WORDS: [Row; 32] = [
     Row {
         word: b"IF",
         kind: TokenKind::If,
+    },
+    Row {
+        word: b"OR",
+        kind: TokenKind::Or,
+    },
+    Row {
+        word: b"IN",
+        kind: TokenKind::In,
+    },
+    Row {
+        word: b"INT",
+        kind: TokenKind::IntKind,
+    },
+    Row {
+        word: b"SET",
+        kind: TokenKind::Set,
+    },
+    Row {
+        word: b"AND",
+        kind: TokenKind::And,
+    },
+    Row {
+        word: b"NOT",
+        kind: TokenKind::Not,
     },
     Row {
         word: b"THEN",
@@ -82,28 +73,36 @@ const WORDS: [Row; 32] = [
         kind: TokenKind::Else,
     },
     Row {
+        word: b"WAIT",
+        kind: TokenKind::Wait,
+    },
+    Row {
+        word: b"FROM",
+        kind: TokenKind::From,
+    },
+    Row {
+        word: b"CLASS",
+        kind: TokenKind::Class,
+    },
+    Row {
+        word: b"STATE",
+        kind: TokenKind::State,
+    },
+    Row {
         word: b"ENDIF",
         kind: TokenKind::Endif,
     },
     Row {
-        word: b"SET",
-        kind: TokenKind::Set,
+        word: b"OBJECT",
+        kind: TokenKind::Object,
     },
     Row {
-        word: b"MOVE_TO",
-        kind: TokenKind::MoveTo,
+        word: b"ACTION",
+        kind: TokenKind::Action,
     },
     Row {
-        word: b"TERMINATE_ACTION",
-        kind: TokenKind::TerminateAction,
-    },
-    Row {
-        word: b"IN_STATE",
-        kind: TokenKind::InState,
-    },
-    Row {
-        word: b"NOT_IN_STATE",
-        kind: TokenKind::NotInState,
+        word: b"STRING",
+        kind: TokenKind::StringKind,
     },
     Row {
         word: b"ALL_IN",
@@ -114,22 +113,6 @@ const WORDS: [Row; 32] = [
         kind: TokenKind::AnyIn,
     },
     Row {
-        word: b"AND",
-        kind: TokenKind::And,
-    },
-    Row {
-        word: b"OR",
-        kind: TokenKind::Or,
-    },
-    Row {
-        word: b"NOT",
-        kind: TokenKind::Not,
-    },
-    Row {
-        word: b"WAIT",
-        kind: TokenKind::Wait,
-    },
-    Row {
         word: b"INSERT",
         kind: TokenKind::Insert,
     },
@@ -138,21 +121,77 @@ const WORDS: [Row; 32] = [
         kind: TokenKind::Remove,
     },
     Row {
-        word: b"IN",
-        kind: TokenKind::In,
+        word: b"MOVE_TO",
+        kind: TokenKind::MoveTo,
     },
     Row {
-        word: b"FROM",
-        kind: TokenKind::From,
+        word: b"IN_STATE",
+        kind: TokenKind::InState,
+    },
+    Row {
+        word: b"OBJECTSET",
+        kind: TokenKind::ObjectSet,
+    },
+    Row {
+        word: b"PARAMETERS",
+        kind: TokenKind::Parameters,
+    },
+    Row {
+        word: b"IS_OF_CLASS",
+        kind: TokenKind::IsOfClass,
+    },
+    Row {
+        word: b"NOT_IN_STATE",
+        kind: TokenKind::NotInState,
+    },
+    Row {
+        word: b"TERMINATE_ACTION",
+        kind: TokenKind::TerminateAction,
     },
 ];
 
+// The reserved words of so many bytes.
+fn words_of(length: usize) -> &'static [Row]
+    ensures { map row_of result.now ≡ of_length length reserved }
+{
+    match length {
+        2 => &WORDS[0..4],
+        3 => &WORDS[4..8],
+        4 => &WORDS[8..12],
+        5 => &WORDS[12..15],
+        6 => &WORDS[15..22],
+        7 => &WORDS[22..23],
+        8 => &WORDS[23..24],
+        9 => &WORDS[24..25],
+        10 => &WORDS[25..26],
+        11 => &WORDS[26..27],
+        12 => &WORDS[27..28],
+        16 => &WORDS[28..29],
+        _ => &[],
+    }
+}
+
+// Whether a word is this one in upper case.
+fn spells(word: &[u8], upper_word: &[u8]) -> bool
+    ensures { result ≡ pointwise nat_eq (upper word.now) upper_word.now }
+{
+    if word.len() != upper_word.len() {
+        return false;
+    }
+    for (i, b) in word.iter().enumerate() {
+        if b.to_ascii_uppercase() != upper_word[i] {
+            return false;
+        }
+    }
+    true
+}
+
 // The kind of a word by these rows, where a word of no row is a name.
 fn kind_in(rows: &[Row], word: &[u8]) -> TokenKind
-    ensures { result ≡ kind' (map row_of rows.now) word.now }
+    ensures { result ≡ kind' (map row_of rows.now) (upper word.now) }
 {
     for row in rows {
-        if word == row.word {
+        if spells(word, row.word) {
             return row.kind;
         }
     }
@@ -171,22 +210,31 @@ fn is_in(rows: &[Row], word: &[u8]) -> bool
     false
 }
 
-/// The kind of a word in upper case, behind a slash or not. (docs/LANGUAGE.md, "Tokens".) The cost is
-/// the count of the reserved words.
-pub fn word_kind(slash: bool, word: &[u8]) -> TokenKind
-    ensures { result ≡ word' slash word.now }
+// The kind of a word that stands behind no slash.
+fn plain_kind(word: &[u8]) -> TokenKind
+    ensures { result ≡ kind' reserved (upper word.now) }
 {
-    if slash {
-        kind_in(&WORDS, word)
-    } else {
-        kind_in(&WORDS[MARKS..], word)
+    kind_in(words_of(word.len()), word)
+}
+
+/// The kind of a word, behind a slash or not. (docs/LANGUAGE.md, "Tokens".) The cost is the count of the
+/// reserved words that are as long.
+pub fn word_kind(slash: bool, word: &[u8]) -> TokenKind
+    ensures { result ≡ word' slash (upper word.now) }
+{
+    if !slash {
+        return plain_kind(word);
+    }
+    match kind_in(&MARKS, word) {
+        TokenKind::Name => plain_kind(word),
+        mark => mark,
     }
 }
 
 /// Whether a word in upper case is reserved, and so is no name. (docs/LANGUAGE.md, "Tokens".) The cost
-/// is the count of the reserved words.
+/// is the count of the reserved words that are as long.
 pub fn is_reserved(word: &[u8]) -> bool
     ensures { result ≡ reserved' word.now }
 {
-    is_in(&WORDS[MARKS..], word)
+    is_in(words_of(word.len()), word)
 }
