@@ -1,0 +1,4 @@
+pub mod Lexed
+pub mod Says
+pub mod Words
+pub mod Values
