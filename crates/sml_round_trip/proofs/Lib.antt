@@ -2,3 +2,5 @@ pub mod Lexed
 pub mod Says
 pub mod Words
 pub mod Values
+pub mod Conditions
+pub mod Blocks

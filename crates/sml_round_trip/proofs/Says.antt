@@ -1,5 +1,5 @@
 -- A text whose tokens a form derives, built from its end to its front.
-use Rattle.std.proofs.Common.{◌≡◌, ◌≤◌, ℕ, Bool, true, false, List, [], ◌∷◌, ◌++◌, refl, ap, sym, ◌∙◌, subst, append_assoc, append-nil, Option, Some, None, ◌⊎◌, inl, inr}
+use Rattle.std.proofs.Common.{◌≡◌, ◌≤◌, ℕ, Bool, true, false, List, [], ◌∷◌, ◌++◌, refl, ap, sym, ◌∙◌, subst, append_assoc, append-nil, map, Option, Some, None, ◌⊎◌, inl, inr}
 use Rattle.std.specs.List.{AllByRecursion}
 use Rattle.sml_text.specs.Bytes.{is_blank, is_ascii, is_word_byte}
 use Rattle.sml_text.specs.Tokens.{Lexeme, Each, Over, Stands}
@@ -170,3 +170,52 @@ none {E} {n} {v} e = record { tokens = []; spelt = spelt_none E; formed = formed
 pub alone : {slash : Bool} {E : List ℕ → Type 0} {g : Part} {bones : List Bone} {form : Form (Value g) bones} {v : Value g} (a : List ℕ)
     → Say slash E g bones form (a ++ []) v → Say slash E g bones form a v
 alone {slash} {E} {g} {bones} {form} {v} a h = subst (λ t. Say slash E g bones form t v) (append-nil a) h
+
+-- a text spelled otherwise
+pub straight : {slash : Bool} {E : List ℕ → Type 0} {g : Part} {bones : List Bone} {form : Form (Value g) bones} {v : Value g} (s t : List ℕ)
+    → s ≡ t → Say slash E g bones form t v → Say slash E g bones form s v
+straight {slash} {E} {g} {bones} {form} {v} s t e h = subst (λ l. Say slash E g bones form l v) (sym e) h
+
+-- ---- parts that begin with other parts
+one_begun : (n m : Part) (more : List Bone) (k : Value n → Form (Value m) more) (rs : List (Rule n)) (r : Rule n) → OneOf rs r → OneOf (map (begun n m k) rs) (begun n m k r)
+one_begun n m more k [] r one = absurd one
+one_begun n m more k (x ∷ rs) r (inl e) = inl (ap (begun n m k) e)
+one_begun n m more k (x ∷ rs) r (inr one) = inr (one_begun n m more k rs r one)
+
+formed_behind : (n m : Part) (bones more : List Bone) (form : Form (Value n) bones) (k : Value n → Form (Value m) more) (w : Value n) (ms ns : List Mould) (v : Value m)
+    → Formed n bones form ms w → Formed m more (k w) ns v → Formed m (bones ++ more) (form >>= k) (ms ++ ns) v
+formed_behind n m bones more form k w ms ns v h l ts e =
+    let c = cut ms ns ts e in
+    let x = h c.0 c.3 in
+    let y = l c.1 c.4 in (
+      x.0 ++ y.0,
+      plain_append x.0 y.0 ∙ ap (λ l'. l' ++ plain y.0) x.1 ∙ ap (λ l'. c.0 ++ l') y.1 ∙ sym c.2,
+      joined n bones form x.0 w x.2 m more k y.0 v y.2,
+      all_append IsNotTooDeep x.0 y.0 x.3 y.3,
+    )
+
+-- the text is written in this way
+pub record Chosen (slash : Bool) (E : List ℕ → Type 0) (n : Part) (text : List ℕ) (v : Value n) : Type 0 where
+  pub rule : Rule n
+  pub one : OneOf (rules n) rule
+  pub say : Say slash E n (B rule.kind ∷ rule.bones) (needs rule.kind rule.mark rule.rest) text v
+
+pub chosen : {slash : Bool} {E : List ℕ → Type 0} {n : Part} {text : List ℕ} {v : Value n} (r : Rule n) → OneOf (rules n) r → Say slash E n (B r.kind ∷ r.bones) (needs r.kind r.mark r.rest) text v → Chosen slash E n text v
+chosen r one h = record { rule = r; one = one; say = h }
+
+pub chosen_wrote : {slash : Bool} {E : List ℕ → Type 0} {n : Part} {text : List ℕ} {v : Value n} → Chosen slash E n text v → Wrote slash E n text v
+chosen_wrote c = by_rule c.rule c.one c.say
+
+-- a part whose rules are those of another, each begun, with what stands behind that
+pub begin : {slash : Bool} {E F : List ℕ → Type 0} {a b : List ℕ} (n m : Part) (more : List Bone) (k : Value n → Form (Value m) more) (w : Value n) (v : Value m)
+    → ((r : Rule n) → OneOf (map (begun n m k) (rules n)) (begun n m k r) → OneOf (rules m) (begun n m k r))
+    → Chosen slash E n a w → ((rest : List ℕ) → F rest → E (b ++ rest)) → Say false F m more (k w) b v → Chosen slash F m (a ++ b) v
+begin {slash} {E} {F} {a} {b} n m more k w v same c clear y = record {
+  rule = begun n m k c.rule;
+  one = same c.rule (one_begun n m more k (rules n) c.rule c.one);
+  say = record {
+    tokens = c.say.tokens ++ y.tokens;
+    spelt = spelt_both slash E F a b c.say.tokens y.tokens c.say.spelt y.spelt clear;
+    formed = formed_behind n m (B c.rule.kind ∷ c.rule.bones) more (needs c.rule.kind c.rule.mark c.rule.rest) k w c.say.tokens y.tokens v c.say.formed y.formed;
+  };
+}
