@@ -4,3 +4,4 @@ pub mod Words
 pub mod Values
 pub mod Conditions
 pub mod Blocks
+pub mod Items
