@@ -5,3 +5,7 @@ pub mod Values
 pub mod Conditions
 pub mod Blocks
 pub mod Items
+pub mod Real
+pub mod Held
+pub mod Contents
+pub mod Said
