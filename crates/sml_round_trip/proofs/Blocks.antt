@@ -1,5 +1,5 @@
 -- Instructions are written as the table reads them.
-use Rattle.std.proofs.Common.{◌≡◌, ◌≤◌, ℕ, zero, suc, ◌+◌, Bool, true, false, List, [], ◌∷◌, ◌++◌, refl, ap, sym, ◌∙◌, codes, append_assoc, inl, inr, arith}
+use Rattle.std.proofs.Common.{◌≡◌, ◌≤◌, ℕ, zero, suc, ◌+◌, Bool, true, false, List, [], ◌∷◌, ◌++◌, refl, ap, ◌∙◌, codes, append_assoc, inl, inr}
 use Rattle.std.specs.List.{AllByRecursion}
 use Rattle.sml_text.specs.declared.source.Sign.TheVariants as sign
 use Rattle.sml_tree.specs.declared.token_kind.TokenKind.TheVariants as kind
@@ -8,14 +8,14 @@ use Rattle.sml_tree.specs.Content.{block_of}
 use Rattle.sml_tree.specs.Form as of
 use Rattle.sml_tree.specs.Form.{Bone, Form, gives, Part, Value, Two}
 use Rattle.sml_tree.specs.Brackets.{open_depth}
-use Rattle.sml_tree.specs.Inside.{instr_conditions, block_conditions}
+use Rattle.sml_tree.specs.Inside.{block_conditions}
 use Rattle.sml_tree.proofs.Marks.{all_front, all_back}
 use Rattle.sml_print.specs.Words.{indent, deeper, bracket_list, passed_text, arg_text}
 use Rattle.sml_print.specs.Conditions.{cond_text}
 use Rattle.sml_print.specs.Blocks.{every_text, send_text, assign_text, towards_text, else_text, instr_text, block_text}
-use Rattle.sml_round_trip.specs.Writable.{IsName, IsArg, IsPassed, IsWritableCond, IsWritableSend, IsWritableInstr, IsWritableBlock}
-use Rattle.sml_round_trip.proofs.Says.{Edge, Anywhere, Say, Wrote, done, gap, call, ending, regroup, by_rule, none, straight}
-use Rattle.sml_round_trip.proofs.Words.{key, named, mark_of}
+use Rattle.sml_round_trip.specs.Writable.{IsName, IsArg, IsWritableCond, IsWritableSend, IsWritableBlock}
+use Rattle.sml_round_trip.proofs.Says.{Anywhere, Say, Wrote, say_end, say_blank, say_part, say_last, say_grouped, wrote_by, wrote_none, say_spelled}
+use Rattle.sml_round_trip.proofs.Words.{say_word, say_name, say_sign}
 use Rattle.sml_round_trip.proofs.Values.{arg_wrote, args_wrote, bracket_edge}
 use Rattle.sml_round_trip.proofs.Conditions.{cond_wrote}
 
@@ -36,11 +36,11 @@ Few cs = AllByRecursion (λ c. open_depth c ≤ 16) cs
 pub indented : {slash : Bool} {E : List ℕ → Type 0} {g : Part} {bones : List Bone} {form : Form (Value g) bones} {text : List ℕ} {v : Value g} (level : ℕ)
     → Say slash E g bones form text v → Say slash E g bones form (indent level ++ text) v
 indented zero h = h
-indented (suc level) h = gap refl refl (gap refl refl (indented level h))
+indented (suc level) h = say_blank refl refl (say_blank refl refl (indented level h))
 
 every_wrote : (all : Bool) → Wrote false Anywhere of.Every (every_text all) all
-every_wrote false = none refl
-every_wrote true = by_rule _ (inl refl) (key (codes "all_in") kind.AllIn refl refl tt (λ rest e. refl) (λ at. refl) (gap refl refl done))
+every_wrote false = wrote_none refl
+every_wrote true = wrote_by _ (inl refl) (say_word (codes "all_in") kind.AllIn refl refl tt (λ rest e. refl) (λ at. refl) (say_blank refl refl say_end))
 
 -- ---- each instruction in front of a block
 abbrev BlockWrote : ℕ → List ℕ → List InstrData → Type 0
@@ -48,54 +48,54 @@ BlockWrote d text is = Wrote false Anywhere (of.Block d) text is
 
 send_wrote : (d level : ℕ) (s : SendData) (text : List ℕ) (is : List InstrData) → IsWritableSend s → BlockWrote d text is → BlockWrote d (instr_text level (send s) ++ text) (send s ∷ is)
 send_wrote d level s text is h b =
-    by_rule _ (inl refl)
-    (regroup (indent level) (send_text s) text
+    wrote_by _ (inl refl)
+    (say_grouped (indent level) (send_text s) text
     (indented level
-    (key (codes "do") kind.Do refl refl tt (λ rest e. refl) (λ at. refl)
-    (gap refl refl
-    (straight _ (s.action ++ (bracket_list passed_text s.args ++ (codes " " ++ (every_text s.all ++ (s.target ++ (codes "\n" ++ text)))))) (simp append_assoc)
-    (named s.action h.0 (λ more e. bracket_edge passed_text s.args _ more refl) (λ at. refl)
-    (call (args_wrote s.args h.1) (λ more e. tt)
-    (gap refl refl
-    (call (every_wrote s.all) (λ more e. tt) (named s.target h.2 (λ more e. refl) (λ at. refl) (gap refl refl (ending b refl))))))))))))
+    (say_word (codes "do") kind.Do refl refl tt (λ rest e. refl) (λ at. refl)
+    (say_blank refl refl
+    (say_spelled _ (s.action ++ (bracket_list passed_text s.args ++ (codes " " ++ (every_text s.all ++ (s.target ++ (codes "\n" ++ text)))))) (simp append_assoc)
+    (say_name s.action h.0 (λ more e. bracket_edge passed_text s.args _ more refl) (λ at. refl)
+    (say_part (args_wrote s.args h.1) (λ more e. tt)
+    (say_blank refl refl
+    (say_part (every_wrote s.all) (λ more e. tt) (say_name s.target h.2 (λ more e. refl) (λ at. refl) (say_blank refl refl (say_last b refl))))))))))))
 
 assign_wrote : (d level : ℕ) (name : List ℕ) (value : ArgData) (text : List ℕ) (is : List InstrData) → IsName name → IsArg value → BlockWrote d text is
     → BlockWrote d (instr_text level (assign name value) ++ text) (assign name value ∷ is)
 assign_wrote d level name value text is h k b =
-    by_rule _ (inr (inr (inl refl)))
-    (regroup (indent level) (assign_text name value) text
+    wrote_by _ (inr (inr (inl refl)))
+    (say_grouped (indent level) (assign_text name value) text
     (indented level
-    (key (codes "set") kind.Set refl refl tt (λ rest e. refl) (λ at. refl)
-    (gap refl refl
-    (straight _ (name ++ (codes " = " ++ (arg_text value ++ (codes "\n" ++ text)))) (simp append_assoc)
-    (named name h (λ more e. refl) (λ at. refl)
-    (gap refl refl
-    (mark_of sign.Equals tt (λ at. refl) (gap refl refl (call (arg_wrote value k) (λ more e. refl) (gap refl refl (ending b refl))))))))))))
+    (say_word (codes "set") kind.Set refl refl tt (λ rest e. refl) (λ at. refl)
+    (say_blank refl refl
+    (say_spelled _ (name ++ (codes " = " ++ (arg_text value ++ (codes "\n" ++ text)))) (simp append_assoc)
+    (say_name name h (λ more e. refl) (λ at. refl)
+    (say_blank refl refl
+    (say_sign sign.Equals tt (λ at. refl) (say_blank refl refl (say_part (arg_wrote value k) (λ more e. refl) (say_blank refl refl (say_last b refl))))))))))))
 
 move_wrote : (d level : ℕ) (state text : List ℕ) (is : List InstrData) → IsName state → BlockWrote d text is → BlockWrote d (instr_text level (move_to state) ++ text) (move_to state ∷ is)
 move_wrote d level state text is h b =
-    by_rule _ (inr (inr (inr (inl refl))))
-    (regroup (indent level) (towards_text (codes "move_to ") state) text
+    wrote_by _ (inr (inr (inr (inl refl))))
+    (say_grouped (indent level) (towards_text (codes "move_to ") state) text
     (indented level
-    (key (codes "move_to") kind.MoveTo refl refl tt (λ rest e. refl) (λ at. refl)
-    (gap refl refl
-    (straight _ (state ++ (codes "\n" ++ text)) (simp append_assoc) (named state h (λ more e. refl) (λ at. refl) (gap refl refl (ending b refl))))))))
+    (say_word (codes "move_to") kind.MoveTo refl refl tt (λ rest e. refl) (λ at. refl)
+    (say_blank refl refl
+    (say_spelled _ (state ++ (codes "\n" ++ text)) (simp append_assoc) (say_name state h (λ more e. refl) (λ at. refl) (say_blank refl refl (say_last b refl))))))))
 
 terminate_wrote : (d level : ℕ) (state text : List ℕ) (is : List InstrData) → IsName state → BlockWrote d text is → BlockWrote d (instr_text level (terminate state) ++ text) (terminate state ∷ is)
 terminate_wrote d level state text is h b =
-    by_rule _ (inr (inr (inr (inr (inl refl)))))
-    (regroup (indent level) (towards_text (codes "terminate_action /state=") state) text
+    wrote_by _ (inr (inr (inr (inr (inl refl)))))
+    (say_grouped (indent level) (towards_text (codes "terminate_action /state=") state) text
     (indented level
-    (key (codes "terminate_action") kind.TerminateAction refl refl tt (λ rest e. refl) (λ at. refl)
-    (gap refl refl
-    (mark_of sign.Slash tt (λ at. refl)
-    (key (codes "state") kind.State refl refl tt (λ rest e. refl) (λ at. refl)
-    (mark_of sign.Equals tt (λ at. refl)
-    (straight _ (state ++ (codes "\n" ++ text)) (simp append_assoc) (named state h (λ more e. refl) (λ at. refl) (gap refl refl (ending b refl)))))))))))
+    (say_word (codes "terminate_action") kind.TerminateAction refl refl tt (λ rest e. refl) (λ at. refl)
+    (say_blank refl refl
+    (say_sign sign.Slash tt (λ at. refl)
+    (say_word (codes "state") kind.State refl refl tt (λ rest e. refl) (λ at. refl)
+    (say_sign sign.Equals tt (λ at. refl)
+    (say_spelled _ (state ++ (codes "\n" ++ text)) (simp append_assoc) (say_name state h (λ more e. refl) (λ at. refl) (say_blank refl refl (say_last b refl)))))))))))
 
 else_wrote : (d level : ℕ) (b : BlockData) (text : List ℕ) → BlockWrote d text (instrs_of b) → Wrote false Anywhere (of.Else d) (else_text level b text) (instrs_of b)
-else_wrote d level no_more text h = none refl
-else_wrote d level (step i b) text h = by_rule _ (inl refl) (indented level (key (codes "else") kind.Else refl refl tt (λ rest e. refl) (λ at. refl) (gap refl refl (ending h refl))))
+else_wrote d level no_more text h = wrote_none refl
+else_wrote d level (step i b) text h = wrote_by _ (inl refl) (indented level (say_word (codes "else") kind.Else refl refl tt (λ rest e. refl) (λ at. refl) (say_blank refl refl (say_last h refl))))
 
 -- the two blocks of an `if`, and what stands before them
 abbrev arms_text : ℕ → BlockData → BlockData → List ℕ
@@ -107,39 +107,39 @@ branch_text level c first second = codes "( " ++ (cond_text c ++ (codes " ) " ++
 arms_wrote : (d level : ℕ) (first second : BlockData) → BlockWrote (d + 1) (block_text (deeper level) first) (instrs_of first) → BlockWrote (d + 1) (block_text (deeper level) second) (instrs_of second)
     → Wrote false Anywhere (of.Arm d) (arms_text level first second) (record { yes_part = instrs_of first; no_part = instrs_of second })
 arms_wrote d level first second x y =
-    by_rule _ (inl refl)
-    (key (codes "then") kind.Then refl refl tt (λ rest e. refl) (λ at. refl)
-    (gap refl refl
-    (call x (λ more e. tt)
-    (call (else_wrote (d + 1) level second (block_text (deeper level) second) y) (λ more e. tt)
-    (indented level (key (codes "endif") kind.Endif refl refl tt (λ rest e. refl) (λ at. refl) (gap refl refl done)))))))
+    wrote_by _ (inl refl)
+    (say_word (codes "then") kind.Then refl refl tt (λ rest e. refl) (λ at. refl)
+    (say_blank refl refl
+    (say_part x (λ more e. tt)
+    (say_part (else_wrote (d + 1) level second (block_text (deeper level) second) y) (λ more e. tt)
+    (indented level (say_word (codes "endif") kind.Endif refl refl tt (λ rest e. refl) (λ at. refl) (say_blank refl refl say_end)))))))
 
 branch_wrote : (d level : ℕ) (c : CondData) (first second : BlockData) → IsWritableCond c → open_depth c ≤ 16
     → BlockWrote (d + 1) (block_text (deeper level) first) (instrs_of first) → BlockWrote (d + 1) (block_text (deeper level) second) (instrs_of second)
     → Wrote false Anywhere (of.Branch d) (branch_text level c first second) (choose c first second)
 branch_wrote d level c first second h few x y =
     let condition = cond_wrote c h few in
-    by_rule _ (inl refl)
-    (mark_of sign.OpenBracket refl (λ at. refl)
-    (gap refl refl
-    (call condition.1 (λ more e. refl)
-    (gap refl refl
-    (mark_of sign.CloseBracket tt (λ at. refl)
-    (gap refl refl (ending (arms_wrote d level first second x y) (ap (λ b. gives (choose c b (block_of (instrs_of second)))) (block_again first) ∙ ap (λ b. gives (choose c first b)) (block_again second)))))))))
+    wrote_by _ (inl refl)
+    (say_sign sign.OpenBracket refl (λ at. refl)
+    (say_blank refl refl
+    (say_part condition.1 (λ more e. refl)
+    (say_blank refl refl
+    (say_sign sign.CloseBracket tt (λ at. refl)
+    (say_blank refl refl (say_last (arms_wrote d level first second x y) (ap (λ b. gives (choose c b (block_of (instrs_of second)))) (block_again first) ∙ ap (λ b. gives (choose c first b)) (block_again second)))))))))
 
 choose_wrote : (d level : ℕ) (c : CondData) (first second : BlockData) (text : List ℕ) (is : List InstrData) → IsWritableCond c → open_depth c ≤ 16
     → BlockWrote (d + 1) (block_text (deeper level) first) (instrs_of first) → BlockWrote (d + 1) (block_text (deeper level) second) (instrs_of second) → BlockWrote d text is
     → BlockWrote d (instr_text level (choose c first second) ++ text) (choose c first second ∷ is)
 choose_wrote d level c first second text is h few x y b =
-    by_rule _ (inr (inl refl))
-    (regroup (indent level) (codes "if " ++ branch_text level c first second) text
+    wrote_by _ (inr (inl refl))
+    (say_grouped (indent level) (codes "if " ++ branch_text level c first second) text
     (indented level
-    (key (codes "if") kind.If refl refl tt (λ rest e. refl) (λ at. refl)
-    (gap refl refl (call {a = branch_text level c first second} (branch_wrote d level c first second h few x y) (λ more e. tt) (ending b refl))))))
+    (say_word (codes "if") kind.If refl refl tt (λ rest e. refl) (λ at. refl)
+    (say_blank refl refl (say_part {a = branch_text level c first second} (branch_wrote d level c first second h few x y) (λ more e. tt) (say_last b refl))))))
 
 -- a block
 pub block_wrote : (d level : ℕ) (b : BlockData) → IsWritableBlock b → Few (block_conditions b) → BlockWrote d (block_text level b) (instrs_of b)
-block_wrote d level no_more h few = none refl
+block_wrote d level no_more h few = wrote_none refl
 block_wrote d level (step (send s) b) h few = send_wrote d level s _ _ h.0 (block_wrote d level b h.1 few)
 block_wrote d level (step (choose c first second) b) h few =
     let Q : CondData → Type 0 = λ x. open_depth x ≤ 16 in

@@ -1,5 +1,5 @@
 -- What the grammar derives from the tokens of a text can be written again.
-use Rattle.std.proofs.Common.{◌≡◌, ℕ, List, [], ◌∷◌, ◌++◌, IfSome, arith, true}
+use Rattle.std.proofs.Common.{ℕ, List, [], ◌∷◌, IfSome, arith}
 use Rattle.std.specs.List.{AllByRecursion}
 use Rattle.sml_tree.specs.declared.token_kind.TokenKind.TheVariants.{Name, Equals}
 use Rattle.sml_tree.specs.Content.{block_of}

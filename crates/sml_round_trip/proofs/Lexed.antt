@@ -1,5 +1,5 @@
 -- What a text reads as, token by token, from its end to its front.
-use Rattle.std.proofs.Common.{◌≡◌, ◌≤◌, ℕ, ◌+◌, Bool, true, false, List, [], ◌∷◌, ◌++◌, length, refl, ap, sym, ◌∙◌, subst, append_assoc, Option, Some, None}
+use Rattle.std.proofs.Common.{◌≡◌, ℕ, ◌+◌, Bool, true, false, List, [], ◌∷◌, ◌++◌, length, refl, ap, sym, subst, append_assoc, Some, None}
 use Rattle.sml_text.specs.declared.source.Source.TheVariants.{Domain}
 use Rattle.sml_text.specs.Bytes.{is_ascii, is_blank}
 use Rattle.sml_text.specs.Tokens.{Lexeme, Token, told, Each, Stands, blank, TokensAt, ends, goes_on}

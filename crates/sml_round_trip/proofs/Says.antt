@@ -1,5 +1,5 @@
 -- A text whose tokens a form derives, built from its end to its front.
-use Rattle.std.proofs.Common.{◌≡◌, ◌≤◌, ℕ, Bool, true, false, List, [], ◌∷◌, ◌++◌, refl, ap, sym, ◌∙◌, subst, append_assoc, append-nil, map, Option, Some, None, ◌⊎◌, inl, inr}
+use Rattle.std.proofs.Common.{◌≡◌, ℕ, Bool, true, false, List, [], ◌∷◌, ◌++◌, refl, ap, sym, ◌∙◌, subst, append_assoc, append-nil, map, Some, inl, inr}
 use Rattle.std.specs.List.{AllByRecursion}
 use Rattle.sml_text.specs.Bytes.{is_blank, is_ascii, is_word_byte}
 use Rattle.sml_text.specs.Tokens.{Lexeme, Each, Over, Stands}
@@ -16,8 +16,8 @@ use Rattle.sml_tree.proofs.Shows.{plain_append, joined, called}
 use Rattle.sml_round_trip.proofs.Lexed.{Mould, mould, moulds, Lexes, lexes_token, lexes_blank, Spelt, spelt_none, spelt_both}
 
 -- a piece of this kind at a place
-abbrev pub piece : TokenKind → Lexeme → ℕ → Piece
-piece k l at = record { kind = k; lexeme = l; at = at }
+abbrev pub piece_at : TokenKind → Lexeme → ℕ → Piece
+piece_at k l at = record { kind = k; lexeme = l; at = at }
 
 -- what stands in no text that goes on: a word ends there
 abbrev pub Edge : List ℕ → Type 0
@@ -43,31 +43,30 @@ Free _ mark = Unit {0}
 fine_deep : Fine ≡ Deep → ⊥
 fine_deep e = absurd (cc e)
 
-free_deep : (k : TokenKind) (mark : Mark) (l : Lexeme) (at : ℕ) → Free k mark → IsNotTooDeep (marked mark (piece k l at))
+free_deep : (k : TokenKind) (mark : Mark) (l : Lexeme) (at : ℕ) → Free k mark → IsNotTooDeep (marked mark (piece_at k l at))
 free_deep Not mark l at h = λ e k. fine_deep (sym h ∙ e)
 free_deep OpenBracket mark l at h = λ e k. fine_deep (sym h ∙ e)
-free_deep k mark l at h = λ e w. elim w [ | inl x ↦ absurd (cc x) | inr x ↦ absurd (cc x) ]
+free_deep k mark l at h = λ e w. elim w [ inl x ↦ absurd (cc x) | inr x ↦ absurd (cc x) ]
 
 formed_none : (g : Part) (v : Value g) → Formed g [] (gives v) [] v
 formed_none g v [] e = ([], refl, nothing g v, tt)
 formed_none g v (t ∷ ts) e = absurd (cc e)
 
 formed_token : (g : Part) (bones : List Bone) (k : TokenKind) (mark : Mark) (f : Piece → Form (Value g) bones) (l : Lexeme) (ms : List Mould) (v : Value g)
-    → Free k mark → ((at : ℕ) → f (piece k l at) ≡ f (piece k l 0)) → Formed g bones (f (piece k l 0)) ms v → Formed g (B k ∷ bones) (needs k mark f) (mould k l ∷ ms) v
+    → Free k mark → ((at : ℕ) → f (piece_at k l at) ≡ f (piece_at k l 0)) → Formed g bones (f (piece_at k l 0)) ms v → Formed g (B k ∷ bones) (needs k mark f) (mould k l ∷ ms) v
 formed_token g bones k mark f l ms v free blind h [] e = absurd (cc e)
 formed_token g bones k mark f l ms v free blind h (t ∷ ts) e =
     let first : mould t.kind t.lexeme ≡ mould k l = cc in
     let kind : t.kind ≡ k = ap (λ (m : Mould). m.kind) first in
     let lexeme : t.lexeme ≡ l = ap (λ (m : Mould). m.lexeme) first in
-    let same : t ≡ piece k l t.at = ap (λ k'. piece k' t.lexeme t.at) kind ∙ ap (λ l'. piece k l' t.at) lexeme in
+    let same : t ≡ piece_at k l t.at = ap (λ k'. piece_at k' t.lexeme t.at) kind ∙ ap (λ l'. piece_at k l' t.at) lexeme in
     let x = h ts (cc) in
-    subst (λ (u : Piece). DerivedFrom g (B k ∷ bones) (needs k mark f) (u ∷ ts) v) (sym same)
-        (
-          marked mark (piece k l t.at) ∷ x.0,
-          ap (λ (us : List Piece). piece k l t.at ∷ us) x.1,
-          token g bones k mark f (piece k l t.at) x.0 v refl (subst (λ (form : Form (Value g) bones). Derives g bones form x.0 v) (sym (blind t.at)) x.2),
-          (free_deep k mark l t.at free, x.3),
-        )
+    subst (λ (u : Piece). DerivedFrom g (B k ∷ bones) (needs k mark f) (u ∷ ts) v) (sym same) (
+      marked mark (piece_at k l t.at) ∷ x.0,
+      ap (λ (us : List Piece). piece_at k l t.at ∷ us) x.1,
+      token g bones k mark f (piece_at k l t.at) x.0 v refl (subst (λ (form : Form (Value g) bones). Derives g bones form x.0 v) (sym (blind t.at)) x.2),
+      (free_deep k mark l t.at free, x.3),
+    )
 
 -- tokens in two parts
 cut : (ms ns : List Mould) (ts : List Piece) → moulds ts ≡ ms ++ ns → (us : List Piece) × (vs : List Piece) × (ts ≡ us ++ vs) × (moulds us ≡ ms) × (moulds vs ≡ ns)
@@ -110,13 +109,13 @@ pub record Wrote (slash : Bool) (E : List ℕ → Type 0) (n : Part) (text : Lis
   pub formed : Formed n (P (family n) ∷ []) (part n) tokens v
 
 -- the end
-pub done : {E : List ℕ → Type 0} {g : Part} {v : Value g} → Say false E g [] (gives v) [] v
-done {E} {g} {v} = record { tokens = []; spelt = spelt_none E; formed = formed_none g v }
+pub say_end : {E : List ℕ → Type 0} {g : Part} {v : Value g} → Say false E g [] (gives v) [] v
+say_end {E} {g} {v} = record { tokens = []; spelt = spelt_none E; formed = formed_none g v }
 
 -- a blank
-pub gap : {slash : Bool} {E : List ℕ → Type 0} {g : Part} {bones : List Bone} {form : Form (Value g) bones} {text : List ℕ} {v : Value g} {c : ℕ}
+pub say_blank : {slash : Bool} {E : List ℕ → Type 0} {g : Part} {bones : List Bone} {form : Form (Value g) bones} {text : List ℕ} {v : Value g} {c : ℕ}
     → is_blank c ≡ true → is_ascii c ≡ true → Say slash E g bones form text v → Say slash E g bones form (c ∷ text) v
-gap {slash} {E} {g} {bones} {form} {text} {v} {c} e a h = record {
+say_blank {slash} {E} {g} {bones} {form} {text} {v} {c} e a h = record {
   tokens = h.tokens;
   spelt = record { whole = λ more ns x y. lexes_blank slash c (text ++ more) (h.tokens ++ ns) e a (h.spelt.whole more ns x y) };
   formed = h.formed;
@@ -125,7 +124,7 @@ gap {slash} {E} {g} {bones} {form} {text} {v} {c} e a h = record {
 -- a token
 pub say_token : {slash : Bool} {E : List ℕ → Type 0} {g : Part} {bones : List Bone} {mark : Mark} {f : Piece → Form (Value g) bones} {text : List ℕ} {v : Value g}
     (bytes : List ℕ) (l : Lexeme) (k : TokenKind) → ((rest : List ℕ) → E rest → Stands Domain bytes (text ++ rest) (Some l)) → Each is_ascii bytes → kind_of slash l ≡ k → Free k mark
-    → ((at : ℕ) → f (piece k l at) ≡ f (piece k l 0)) → Say (is_slash l) E g bones (f (piece k l 0)) text v → Say slash E g (B k ∷ bones) (needs k mark f) (bytes ++ text) v
+    → ((at : ℕ) → f (piece_at k l at) ≡ f (piece_at k l 0)) → Say (is_slash l) E g bones (f (piece_at k l 0)) text v → Say slash E g (B k ∷ bones) (needs k mark f) (bytes ++ text) v
 say_token {slash} {E} {g} {bones} {mark} {f} {text} {v} bytes l k s a is free blind h = record {
   tokens = mould k l ∷ h.tokens;
   spelt = record {
@@ -138,43 +137,43 @@ say_token {slash} {E} {g} {bones} {mark} {f} {text} {v} bytes l k s a is free bl
 }
 
 -- a part, and what stands behind it
-pub call : {slash : Bool} {E F : List ℕ → Type 0} {g n : Part} {bones : List Bone} {f : Value n → Form (Value g) bones} {a b : List ℕ} {w : Value n} {v : Value g}
+pub say_part : {slash : Bool} {E F : List ℕ → Type 0} {g n : Part} {bones : List Bone} {f : Value n → Form (Value g) bones} {a b : List ℕ} {w : Value n} {v : Value g}
     → Wrote slash E n a w → ((more : List ℕ) → F more → E (b ++ more)) → Say false F g bones (f w) b v → Say slash F g (P (family n) ∷ bones) (calls n f) (a ++ b) v
-call {slash} {E} {F} {g} {n} {bones} {f} {a} {b} {w} {v} x clear y = record {
+say_part {slash} {E} {F} {g} {n} {bones} {f} {a} {b} {w} {v} x clear y = record {
   tokens = x.tokens ++ y.tokens;
   spelt = spelt_both slash E F a b x.tokens y.tokens x.spelt y.spelt clear;
   formed = formed_call g n bones f w x.tokens y.tokens v x.formed y.formed;
 }
 
 -- a part at the end
-pub ending : {slash : Bool} {E : List ℕ → Type 0} {g n : Part} {f : Value n → Form (Value g) []} {a : List ℕ} {w : Value n} {v : Value g}
+pub say_last : {slash : Bool} {E : List ℕ → Type 0} {g n : Part} {f : Value n → Form (Value g) []} {a : List ℕ} {w : Value n} {v : Value g}
     → Wrote slash E n a w → f w ≡ gives v → Say slash E g (P (family n) ∷ []) (calls n f) a v
-ending {slash} {E} {g} {n} {f} {a} {w} {v} x e =
-    let last : Say false E g [] (f w) [] v = subst (λ (form : Form (Value g) []). Say false E g [] form [] v) (sym e) done in
-    subst (λ t. Say slash E g (P (family n) ∷ []) (calls n f) t v) (append-nil a) (call x (λ more h. h) last)
+say_last {slash} {E} {g} {n} {f} {a} {w} {v} x e =
+    let last : Say false E g [] (f w) [] v = subst (λ (form : Form (Value g) []). Say false E g [] form [] v) (sym e) say_end in
+    subst (λ t. Say slash E g (P (family n) ∷ []) (calls n f) t v) (append-nil a) (say_part x (λ more h. h) last)
 
 -- in brackets of another shape
-pub regroup : {slash : Bool} {E : List ℕ → Type 0} {g : Part} {bones : List Bone} {form : Form (Value g) bones} {v : Value g} (a b c : List ℕ)
+pub say_grouped : {slash : Bool} {E : List ℕ → Type 0} {g : Part} {bones : List Bone} {form : Form (Value g) bones} {v : Value g} (a b c : List ℕ)
     → Say slash E g bones form (a ++ (b ++ c)) v → Say slash E g bones form ((a ++ b) ++ c) v
-regroup {slash} {E} {g} {bones} {form} {v} a b c h = subst (λ t. Say slash E g bones form t v) (sym (append_assoc a b c)) h
+say_grouped {slash} {E} {g} {bones} {form} {v} a b c h = subst (λ t. Say slash E g bones form t v) (sym (append_assoc a b c)) h
 
 -- a part that is written in one of its ways
-pub by_rule : {slash : Bool} {E : List ℕ → Type 0} {n : Part} {text : List ℕ} {v : Value n} (r : Rule n) → OneOf (rules n) r → Say slash E n (B r.kind ∷ r.bones) (needs r.kind r.mark r.rest) text v → Wrote slash E n text v
-by_rule {slash} {E} {n} {text} {v} r one h = record { tokens = h.tokens; spelt = h.spelt; formed = formed_rule n r h.tokens v one h.formed }
+pub wrote_by : {slash : Bool} {E : List ℕ → Type 0} {n : Part} {text : List ℕ} {v : Value n} (r : Rule n) → OneOf (rules n) r → Say slash E n (B r.kind ∷ r.bones) (needs r.kind r.mark r.rest) text v → Wrote slash E n text v
+wrote_by {slash} {E} {n} {text} {v} r one h = record { tokens = h.tokens; spelt = h.spelt; formed = formed_rule n r h.tokens v one h.formed }
 
 -- a part that is left out
-pub none : {E : List ℕ → Type 0} {n : Part} {v : Value n} → empty n ≡ Some v → Wrote false E n [] v
-none {E} {n} {v} e = record { tokens = []; spelt = spelt_none E; formed = formed_left_out n v e }
+pub wrote_none : {E : List ℕ → Type 0} {n : Part} {v : Value n} → empty n ≡ Some v → Wrote false E n [] v
+wrote_none {E} {n} {v} e = record { tokens = []; spelt = spelt_none E; formed = formed_left_out n v e }
 
 -- a text with nothing behind it
-pub alone : {slash : Bool} {E : List ℕ → Type 0} {g : Part} {bones : List Bone} {form : Form (Value g) bones} {v : Value g} (a : List ℕ)
+pub say_alone : {slash : Bool} {E : List ℕ → Type 0} {g : Part} {bones : List Bone} {form : Form (Value g) bones} {v : Value g} (a : List ℕ)
     → Say slash E g bones form (a ++ []) v → Say slash E g bones form a v
-alone {slash} {E} {g} {bones} {form} {v} a h = subst (λ t. Say slash E g bones form t v) (append-nil a) h
+say_alone {slash} {E} {g} {bones} {form} {v} a h = subst (λ t. Say slash E g bones form t v) (append-nil a) h
 
 -- a text spelled otherwise
-pub straight : {slash : Bool} {E : List ℕ → Type 0} {g : Part} {bones : List Bone} {form : Form (Value g) bones} {v : Value g} (s t : List ℕ)
+pub say_spelled : {slash : Bool} {E : List ℕ → Type 0} {g : Part} {bones : List Bone} {form : Form (Value g) bones} {v : Value g} (s t : List ℕ)
     → s ≡ t → Say slash E g bones form t v → Say slash E g bones form s v
-straight {slash} {E} {g} {bones} {form} {v} s t e h = subst (λ l. Say slash E g bones form l v) (sym e) h
+say_spelled {slash} {E} {g} {bones} {form} {v} s t e h = subst (λ l. Say slash E g bones form l v) (sym e) h
 
 -- ---- parts that begin with other parts
 one_begun : (n m : Part) (more : List Bone) (k : Value n → Form (Value m) more) (rs : List (Rule n)) (r : Rule n) → OneOf rs r → OneOf (map (begun n m k) rs) (begun n m k r)
@@ -204,7 +203,7 @@ pub chosen : {slash : Bool} {E : List ℕ → Type 0} {n : Part} {text : List �
 chosen r one h = record { rule = r; one = one; say = h }
 
 pub chosen_wrote : {slash : Bool} {E : List ℕ → Type 0} {n : Part} {text : List ℕ} {v : Value n} → Chosen slash E n text v → Wrote slash E n text v
-chosen_wrote c = by_rule c.rule c.one c.say
+chosen_wrote c = wrote_by c.rule c.one c.say
 
 -- a part whose rules are those of another, each begun, with what stands behind that
 pub begin : {slash : Bool} {E F : List ℕ → Type 0} {a b : List ℕ} (n m : Part) (more : List Bone) (k : Value n → Form (Value m) more) (w : Value n) (v : Value m)

@@ -1,5 +1,5 @@
 -- Words, signs, ints and strings in front of a text.
-use Rattle.std.proofs.Common.{◌≡◌, ◌≤◌, ◌<◌, ℕ, ℤ, pos, negsuc, suc, ◌+◌, Bool, true, false, ◌&&◌, List, [], ◌∷◌, ◌++◌, length, refl, ap, sym, ◌∙◌, subst, append_assoc, Some, arith, codes, nat_le}
+use Rattle.std.proofs.Common.{◌≡◌, ◌≤◌, ℕ, ℤ, pos, negsuc, suc, Bool, true, false, List, [], ◌∷◌, ◌++◌, length, refl, ap, sym, subst, Some, arith, nat_le}
 use Rattle.std.specs.List.{list_all}
 use Rattle.std.proofs.lemmas.Bool.Decides.{nat_tests}
 use Rattle.std.proofs.lemmas.Bool.{and_parts}
@@ -7,7 +7,7 @@ use Rattle.sml_text.specs.declared.source.Source.TheVariants.{Domain}
 use Rattle.sml_text.specs.declared.source.Sign.{Sign as SignKind}
 use Rattle.sml_text.specs.declared.source.Sign.TheVariants as sign
 use Rattle.sml_text.specs.Bytes.{is_ascii, is_letter, is_digit, is_word_byte, is_word_text, is_word, is_string_byte, folded, sign_byte}
-use Rattle.sml_text.specs.Tokens.{Lexeme, Word, Int, Str, Sign, Each, Over, Stands, word, int, string, sign as a_sign, IsLong, int_value, digits_value, minus_bytes, negated}
+use Rattle.sml_text.specs.Tokens.{Word, Int, Str, Sign, Each, Stands, word, int, string, sign as a_sign, IsLong, int_value, minus_bytes, negated}
 use Rattle.sml_text.specs.Decimal.{IsDecimal, IsIntText, int_text}
 use Rattle.sml_text.proofs.Decimals.{some_int_text}
 use Rattle.sml_tree.specs.declared.token_kind.TokenKind.{TokenKind}
@@ -16,7 +16,7 @@ use Rattle.sml_tree.specs.Piece.{Piece, word_kind, sign_kind, is_slash}
 use Rattle.sml_tree.specs.Form.{Bone, B, Form, needs, Mark, Part, Value}
 use Rattle.sml_round_trip.specs.Writable.{IsName}
 use Rattle.sml_round_trip.proofs.Lexed.{each_append}
-use Rattle.sml_round_trip.proofs.Says.{piece, Edge, Free, Say, say_token}
+use Rattle.sml_round_trip.proofs.Says.{piece_at, Edge, Free, Say, say_token}
 
 -- ---- bytes
 pub all_each : (p : ℕ → Bool) (xs : List ℕ) → list_all p xs ≡ true → Each p xs
@@ -58,24 +58,24 @@ word_bytes (c ∷ body) h =
 
 module _ {E : List ℕ → Type 0} {g : Part} {bones : List Bone} {mark : Mark} {f : Piece → Form (Value g) bones} {text : List ℕ} {v : Value g} where
   -- a reserved word, or a mark behind a slash
-  pub key : {slash : Bool} (bytes : List ℕ) (k : TokenKind) → is_word bytes ≡ true → word_kind slash (folded bytes) ≡ k → Free k mark → ((rest : List ℕ) → E rest → Edge (text ++ rest))
-      → ((at : ℕ) → f (piece k (Word (folded bytes)) at) ≡ f (piece k (Word (folded bytes)) 0)) → Say false E g bones (f (piece k (Word (folded bytes)) 0)) text v
+  pub say_word : {slash : Bool} (bytes : List ℕ) (k : TokenKind) → is_word bytes ≡ true → word_kind slash (folded bytes) ≡ k → Free k mark → ((rest : List ℕ) → E rest → Edge (text ++ rest))
+      → ((at : ℕ) → f (piece_at k (Word (folded bytes)) at) ≡ f (piece_at k (Word (folded bytes)) 0)) → Say false E g bones (f (piece_at k (Word (folded bytes)) 0)) text v
       → Say slash E g (B k ∷ bones) (needs k mark f) (bytes ++ text) v
-  key bytes k h is free clear blind x = say_token bytes (Word (folded bytes)) k (λ rest e. word_stands bytes (text ++ rest) h (clear rest e)) (word_bytes bytes h) is free blind x
+  say_word bytes k h is free clear blind x = say_token bytes (Word (folded bytes)) k (λ rest e. word_stands bytes (text ++ rest) h (clear rest e)) (word_bytes bytes h) is free blind x
 
   -- a name
-  pub named : (name : List ℕ) → IsName name → ((rest : List ℕ) → E rest → Edge (text ++ rest))
-      → ((at : ℕ) → f (piece kind.Name (Word name) at) ≡ f (piece kind.Name (Word name) 0)) → Say false E g bones (f (piece kind.Name (Word name) 0)) text v
+  pub say_name : (name : List ℕ) → IsName name → ((rest : List ℕ) → E rest → Edge (text ++ rest))
+      → ((at : ℕ) → f (piece_at kind.Name (Word name) at) ≡ f (piece_at kind.Name (Word name) 0)) → Say false E g bones (f (piece_at kind.Name (Word name) 0)) text v
       → Say false E g (B kind.Name ∷ bones) (needs kind.Name mark f) (name ++ text) v
-  named name h clear blind x =
+  say_name name h clear blind x =
       say_token name (Word name) kind.Name (λ rest e. subst (λ w. Stands Domain name (text ++ rest) (Some (Word w))) h.upper (word_stands name (text ++ rest) h.word (clear rest e)))
       (word_bytes name h.word) h.free tt blind x
 
   -- a sign
-  pub mark_of : {slash : Bool} (s : SignKind) → Free (sign_kind s) mark
-      → ((at : ℕ) → f (piece (sign_kind s) (Sign s) at) ≡ f (piece (sign_kind s) (Sign s) 0)) → Say (is_slash (Sign s)) E g bones (f (piece (sign_kind s) (Sign s) 0)) text v
+  pub say_sign : {slash : Bool} (s : SignKind) → Free (sign_kind s) mark
+      → ((at : ℕ) → f (piece_at (sign_kind s) (Sign s) at) ≡ f (piece_at (sign_kind s) (Sign s) 0)) → Say (is_slash (Sign s)) E g bones (f (piece_at (sign_kind s) (Sign s) 0)) text v
       → Say slash E g (B (sign_kind s) ∷ bones) (needs (sign_kind s) mark f) (sign_byte s ∷ text) v
-  mark_of s free blind x = say_token (sign_byte s ∷ []) (Sign s) (sign_kind s) (λ rest e. a_sign s (text ++ rest)) (sign_ascii s, tt) refl free blind x
+  say_sign s free blind x = say_token (sign_byte s ∷ []) (Sign s) (sign_kind s) (λ rest e. a_sign s (text ++ rest)) (sign_ascii s, tt) refl free blind x
     where
       sign_ascii : (s : SignKind) → is_ascii (sign_byte s) ≡ true
       sign_ascii sign.Colon = refl
@@ -88,10 +88,10 @@ module _ {E : List ℕ → Type 0} {g : Part} {bones : List Bone} {mark : Mark} 
       sign_ascii sign.Slash = refl
 
   -- a string
-  pub quoted : {slash : Bool} (bytes : List ℕ) → Each is_string_byte bytes → length bytes ≤ 255
-      → ((at : ℕ) → f (piece kind.Str (Str bytes) at) ≡ f (piece kind.Str (Str bytes) 0)) → Say false E g bones (f (piece kind.Str (Str bytes) 0)) text v
+  pub say_string : {slash : Bool} (bytes : List ℕ) → Each is_string_byte bytes → length bytes ≤ 255
+      → ((at : ℕ) → f (piece_at kind.Str (Str bytes) at) ≡ f (piece_at kind.Str (Str bytes) 0)) → Say false E g bones (f (piece_at kind.Str (Str bytes) 0)) text v
       → Say slash E g (B kind.Str ∷ bones) (needs kind.Str mark f) ((34 ∷ (bytes ++ 34 ∷ [])) ++ text) v
-  quoted bytes each short blind x =
+  say_string bytes each short blind x =
       say_token (34 ∷ (bytes ++ 34 ∷ [])) (Str bytes) kind.Str (λ rest e. string bytes (text ++ rest) each short)
       (refl, each_append is_ascii bytes (34 ∷ []) (each_other is_string_byte is_ascii bytes string_ascii each) (refl, tt)) refl tt blind x
 
@@ -114,9 +114,9 @@ int_bytes (pos n) text d = each_other is_digit is_ascii text digit_ascii d.digit
 int_bytes (negsuc n) text d = subst (Each is_ascii) (sym d.1) (refl, each_other is_digit is_ascii d.0 digit_ascii d.2.digits)
 
 -- an int
-pub number : {slash : Bool} {E : List ℕ → Type 0} {g : Part} {bones : List Bone} {mark : Mark} {f : Piece → Form (Value g) bones} {text : List ℕ} {v : Value g}
+pub say_int : {slash : Bool} {E : List ℕ → Type 0} {g : Part} {bones : List Bone} {mark : Mark} {f : Piece → Form (Value g) bones} {text : List ℕ} {v : Value g}
     (n : ℤ) → IsLong n → ((rest : List ℕ) → E rest → Edge (text ++ rest))
-    → ((at : ℕ) → f (piece kind.Int (Int n) at) ≡ f (piece kind.Int (Int n) 0)) → Say false E g bones (f (piece kind.Int (Int n) 0)) text v
+    → ((at : ℕ) → f (piece_at kind.Int (Int n) at) ≡ f (piece_at kind.Int (Int n) 0)) → Say false E g bones (f (piece_at kind.Int (Int n) 0)) text v
     → Say slash E g (B kind.Int ∷ bones) (needs kind.Int mark f) (int_text n ++ text) v
-number {text = text} n long clear blind x =
+say_int {text = text} n long clear blind x =
     say_token (int_text n) (Int n) kind.Int (λ rest e. int_stands n (int_text n) (text ++ rest) (some_int_text n long) (clear rest e) long) (int_bytes n (int_text n) (some_int_text n long)) refl tt blind x
