@@ -19,10 +19,11 @@ use Rattle.sml_round_trip.proofs.Lexed.{Mould, mould, moulds, Lexes, lexes_token
 abbrev pub piece_at : TokenKind → Lexeme → ℕ → Piece
 piece_at k l at = record { kind = k; lexeme = l; at = at }
 
--- what stands in no text that goes on: a word ends there
+-- a rest in front of which a word or an int has ended
 abbrev pub Edge : List ℕ → Type 0
 Edge rest = Over is_word_byte rest
 
+-- any rest
 abbrev pub Anywhere : List ℕ → Type 0
 Anywhere rest = Unit {0}
 
@@ -31,10 +32,11 @@ Anywhere rest = Unit {0}
 abbrev pub DerivedFrom : (g : Part) (bones : List Bone) → Form (Value g) bones → List Piece → Value g → Type 0
 DerivedFrom g bones form ts v = (ks : List Marked) × (plain ks ≡ ts) × Derives g bones form ks v × AllByRecursion IsNotTooDeep ks
 
+-- the form derives all pieces with these kinds and lexemes
 abbrev pub Formed : (g : Part) (bones : List Bone) → Form (Value g) bones → List Mould → Value g → Type 0
 Formed g bones form ms v = (ts : List Piece) → moulds ts ≡ ms → DerivedFrom g bones form ts v
 
--- a `not` or a bracket may stand here
+-- where the kind is a `not` or a bracket, no limit stands against it
 abbrev pub Free : TokenKind → Mark → Type 0
 Free Not mark = mark ≡ Fine
 Free OpenBracket mark = mark ≡ Fine
@@ -152,7 +154,7 @@ say_last {slash} {E} {g} {n} {f} {a} {w} {v} x e =
     let last : Say false E g [] (f w) [] v = subst (λ (form : Form (Value g) []). Say false E g [] form [] v) (sym e) say_end in
     subst (λ t. Say slash E g (P (family n) ∷ []) (calls n f) t v) (append-nil a) (say_part x (λ more h. h) last)
 
--- in brackets of another shape
+-- a text of three parts, joined from the other side
 pub say_grouped : {slash : Bool} {E : List ℕ → Type 0} {g : Part} {bones : List Bone} {form : Form (Value g) bones} {v : Value g} (a b c : List ℕ)
     → Say slash E g bones form (a ++ (b ++ c)) v → Say slash E g bones form ((a ++ b) ++ c) v
 say_grouped {slash} {E} {g} {bones} {form} {v} a b c h = subst (λ t. Say slash E g bones form t v) (sym (append_assoc a b c)) h
