@@ -1,0 +1,11 @@
+pub mod Lexed
+pub mod Says
+pub mod Words
+pub mod Values
+pub mod Conditions
+pub mod Blocks
+pub mod Items
+pub mod Real
+pub mod Held
+pub mod Contents
+pub mod Said

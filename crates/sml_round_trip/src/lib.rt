@@ -1,0 +1,4 @@
+//! What is printed is read as the same file.
+#![tactic(auto)]
+
+pub mod laws;
