@@ -1,0 +1,15 @@
+use Rattle.std.proofs.Common.{◌∙◌, ap, map, nat_eq, option_map}
+use Rattle.std.specs.Cmp.Lexicographic.{pointwise}
+use Rattle.indexmap.specs.IndexMap.{get}
+use Rattle.sml_tree.specs.Content.{state_content, action_content}
+use Rattle.sml_faults.specs.Lookup.{is_action}
+use Rattle.sml_faults.specs.Tables.{or_else, in_state, place_of}
+use Rattle.sml_faults.proofs.ActionPlaces.{state_noted}
+use Rattle.sml_faults.proofs.actions.states_table.Goals as goal
+
+pub loop-i-preserved : goal.loop-i-preserved
+loop-i-preserved g c = λ q.
+    let i = c.loop-i.i in
+    let was = get (pointwise nat_eq) c.loop-i.table q in
+    state_noted state_content c.args.states.now i c.index-states-i.result q was _ c.loop-i-test.true c.index-states-i.is (c.loop-i.invariant q)
+    (c.in_ok-note_actions.ensures.noted q ∙ ap (λ ys. or_else was (option_map (in_state i) (place_of (is_action q) (map action_content ys)))) c.deref.ensures.value)

@@ -1,0 +1,31 @@
+-- What a block names, in the order of the text.
+use Rattle.std.specs.Prelude.{List, [], ◌∷◌, ◌++◌, ℕ}
+use Rattle.sml_tree.specs.Syntax.{ArgData, CondData, both, either, neither, test, TestData, SendData, InstrData, send, choose, assign, move_to, terminate, BlockData, done, step}
+
+-- a request, a test of a condition, a `set`, or the state in which an action ends
+pub data Site : Type 0 where
+  asks : SendData → Site
+  tests : TestData → Site
+  sets : List ℕ → ArgData → Site
+  ends : List ℕ → Site
+
+-- the tests of a condition
+abbrev pub cond_sites : CondData → List Site
+cond_sites (both c d) = cond_sites c ++ cond_sites d
+cond_sites (either c d) = cond_sites c ++ cond_sites d
+cond_sites (neither c) = cond_sites c
+cond_sites (test t) = tests t ∷ []
+
+abbrev mutual
+  -- what an instruction names; an `if` its condition before its blocks
+  pub instr_sites : InstrData → List Site
+  instr_sites (send s) = asks s ∷ []
+  instr_sites (choose c first second) = cond_sites c ++ (block_sites first ++ block_sites second)
+  instr_sites (assign name value) = sets name value ∷ []
+  instr_sites (move_to state) = ends state ∷ []
+  instr_sites (terminate state) = ends state ∷ []
+
+  -- what the instructions of a block name, one after another
+  pub block_sites : BlockData → List Site
+  block_sites done = []
+  block_sites (step instr rest) = instr_sites instr ++ block_sites rest

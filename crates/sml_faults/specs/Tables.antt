@@ -1,0 +1,112 @@
+-- What the look-up tables of a file say.
+use Rattle.std.specs.Prelude.{◌≡◌, ℕ, suc, Bool, List, [], ◌∷◌, Option, None, Some, option_map, flat_map, nat_eq, if◌then◌else◌}
+use Rattle.std.specs.List.{slice_get}
+use Rattle.std.specs.Option.{option_and_then, option_map_or}
+use Rattle.std.specs.Cmp.Lexicographic.{pointwise}
+use Rattle.indexmap.specs.IndexMap.{IndexMap, get}
+use Rattle.sml_tree.specs.Syntax.{ItemData, class, object, group, ClassData, ObjectData, GroupData, StateData, ActionData}
+use Rattle.sml_faults.specs.declared.actions.ActionPlace.{ActionPlace}
+use Rattle.sml_faults.specs.Lookup.{is_action, actions}
+use Rattle.sml_faults.specs.Heads.{other_params}
+use Rattle.sml_faults.specs.Repeats.{is_class, is_object, is_group}
+
+-- the first place at which a test passes
+abbrev pub place_of : {X : Type 0} → (X → Bool) → List X → Option ℕ
+place_of p [] = None
+place_of p (x ∷ xs) = if p x then Some 0 else option_map suc (place_of p xs)
+
+-- a table gives each name the place of the first item of that name
+abbrev pub Places : {S : Type 0} → (List ℕ → ItemData → Bool) → List ItemData → IndexMap (List ℕ) ℕ S → Type 0
+Places test items m = (q : List ℕ) → get (pointwise nat_eq) m q ≡ place_of (test q) items
+
+-- what stays, or else comes
+abbrev pub or_else : {X : Type 0} → Option X → Option X → Option X
+or_else None y = y
+or_else (Some x) y = Some x
+
+-- the class that an item is
+abbrev pub class_item : ItemData → Option ClassData
+class_item (class c) = Some c
+class_item (object o) = None
+class_item (group g) = None
+
+-- the object that an item is
+abbrev pub object_item : ItemData → Option ObjectData
+object_item (class c) = None
+object_item (object o) = Some o
+object_item (group g) = None
+
+-- the set that an item is
+abbrev pub group_item : ItemData → Option GroupData
+group_item (class c) = None
+group_item (object o) = None
+group_item (group g) = Some g
+
+-- what an item at a place is
+abbrev pub item_at : {X : Type 0} → (ItemData → Option X) → List ItemData → ℕ → Option X
+item_at f items k = option_and_then f (slice_get items k)
+
+-- the class at a place
+abbrev pub class_at : List ItemData → ℕ → Option ClassData
+class_at = item_at class_item
+
+-- the tables of all three kinds of items
+pub record HasTables {R S T : Type 0} (items : List ItemData) (classes : IndexMap (List ℕ) ℕ R) (objects : IndexMap (List ℕ) ℕ S) (groups : IndexMap (List ℕ) ℕ T) : Type 0 where
+  pub class_places : Places is_class items classes
+  pub object_places : Places is_object items objects
+  pub group_places : Places is_group items groups
+
+-- ---- actions
+
+-- an action at a place of a state
+abbrev pub in_state : ℕ → ℕ → ActionPlace
+in_state s a = record { state = s; action = a }
+
+-- the same place, one state later
+abbrev pub next_state : ActionPlace → ActionPlace
+next_state p = in_state (suc p.state) p.action
+
+-- the place of the first action of a name in some states
+abbrev pub action_place : List ℕ → List StateData → Option ActionPlace
+action_place q [] = None
+action_place q (s ∷ ss) = or_else (option_map (in_state 0) (place_of (is_action q) s.actions)) (option_map next_state (action_place q ss))
+
+-- an action of a state
+abbrev pub nth_action : ℕ → StateData → Option ActionData
+nth_action k s = slice_get s.actions k
+
+-- the action at a place
+abbrev pub action_there : List StateData → ActionPlace → Option ActionData
+action_there ss p = option_and_then (nth_action p.action) (slice_get ss p.state)
+
+-- a table gives each name the place of the first action of that name
+abbrev pub HasActions : {S : Type 0} → List StateData → IndexMap (List ℕ) ActionPlace S → Type 0
+HasActions states m = (q : List ℕ) → get (pointwise nat_eq) m q ≡ action_place q states
+
+-- the states of an item
+abbrev pub states_in : ItemData → List StateData
+states_in (class c) = c.states
+states_in (object o) = []
+states_in (group g) = []
+
+-- the same for the states of an item
+abbrev pub HasActionsOf : {S : Type 0} → ItemData → IndexMap (List ℕ) ActionPlace S → Type 0
+HasActionsOf item m = HasActions (states_in item) m
+
+-- what a table gives a name
+abbrev pub given : {S : Type 0} → List ℕ → IndexMap (List ℕ) ActionPlace S → Option ActionPlace
+given q m = get (pointwise nat_eq) m q
+
+-- the states of the item at a place
+abbrev pub states_at : List ItemData → ℕ → List StateData
+states_at items k = option_map_or states_in (slice_get items k) []
+
+-- the tables of all items: at each place that of the item there
+abbrev pub ActionTables : {S : Type 0} → List ItemData → List (IndexMap (List ℕ) ActionPlace S) → Type 0
+ActionTables items tables = (k : ℕ) (q : List ℕ) → option_and_then (given q) (slice_get tables k) ≡ action_place q (states_at items k)
+
+-- the actions of an item, at whose place is this class, that have another list than the first one of their name
+abbrev pub differing_at : Option ClassData → ItemData → List (List ℕ)
+differing_at k (class c) = flat_map (other_params k) (actions c)
+differing_at k (object o) = []
+differing_at k (group g) = []

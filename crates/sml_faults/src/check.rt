@@ -1,0 +1,98 @@
+//! The first fault of a file.
+ghost use Rattle.std.specs.Prelude.{◌≡◌, ◌⊎◌, Some, None, flat_map, OnOk, IfErr};
+ghost use Rattle.sml_tree.specs.Content.{file_content};
+ghost use Rattle.sml_faults.specs.Lookup as look;
+ghost use Rattle.sml_faults.specs.Kinds.{faults_of, all_faults, with_kind, IsWellFormed};
+ghost use Rattle.sml_faults.specs.KindText.{memory_error};
+
+use crate::kind::{CheckError, CheckKind};
+use crate::tables::Tables;
+use sml_tree::file::SmlFile;
+use sml_tree::name::Name;
+use std::alloc::{Allocator, Global};
+
+// The kinds of faults, in the order of their numbers.
+const KINDS: [CheckKind; 15] = [
+    CheckKind::Duplicate,
+    CheckKind::NoState,
+    CheckKind::TwoInitial,
+    CheckKind::TwoDead,
+    CheckKind::UnknownClass,
+    CheckKind::UnknownObject,
+    CheckKind::UnknownSet,
+    CheckKind::UnknownState,
+    CheckKind::UnknownAction,
+    CheckKind::UnknownParam,
+    CheckKind::KindMismatch,
+    CheckKind::MissingArg,
+    CheckKind::ParamsDiffer,
+    CheckKind::SelfInCondition,
+    CheckKind::AssociatedBody,
+];
+
+impl<'a, A: Allocator + Clone> Tables<'a, A> {
+    // The first fault of a kind.
+    fn fault_of(&self, kind: CheckKind) -> Option<Name>
+        ensures { result ≡ look.first (faults_of kind (file_content self.now.file.now)) }
+    {
+        match kind {
+            CheckKind::Duplicate => self.repeated(&self.file.items),
+            CheckKind::ParamsDiffer => self.differing(),
+            _ => self.items_fault(kind, &self.file.items),
+        }
+    }
+
+    // The first fault of a kind, with the kind.
+    #[tactic(auto, using(crate::proofs::Rests::firsts))]
+    fn kind_fault(&self, kind: CheckKind) -> Option<(CheckKind, Name)>
+        ensures { result ≡ look.first (with_kind (file_content self.now.file.now) kind) }
+    {
+        match self.fault_of(kind) {
+            Some(name) => Some((kind, name)),
+            None => None,
+        }
+    }
+
+    // The first fault of some kinds.
+    #[tactic(auto, using(crate::proofs::Rests::firsts))]
+    fn kinds_fault(&self, kinds: &[CheckKind]) -> Option<(CheckKind, Name)>
+        ensures { result ≡ look.first (flat_map (with_kind (file_content self.now.file.now)) kinds.now) }
+    {
+        for kind in kinds {
+            if let Some(fault) = self.kind_fault(*kind) {
+                return Some(fault);
+            }
+        }
+        None
+    }
+
+    // The first fault of the kind of lowest number.
+    fn fault(&self) -> Option<(CheckKind, Name)>
+        ensures { result ≡ look.first (all_faults (file_content self.now.file.now)) }
+    {
+        self.kinds_fault(&KINDS)
+    }
+}
+
+// What a file's first fault makes of it.
+fn judged(fault: Option<(CheckKind, Name)>) -> Result<(), CheckError>
+    ensures ok { OnOk result (fault ≡ None) }
+    ensures err { IfErr result (λ e. Some (e.kind, e.name) ≡ fault) }
+{
+    match fault {
+        Some((kind, name)) => Err(CheckError { kind, name }),
+        None => Ok(()),
+    }
+}
+
+/// Whether a file is well-formed, or else its fault of the lowest number, and of these the first in the
+/// text. The cost is the size of the tree, at each `do` and test times its targets and their actions.
+pub fn first_fault<A: Allocator + Clone>(alloc: Global, file: &SmlFile<A>) -> Result<(), CheckError>
+    ensures well_formed { OnOk result (IsWellFormed (file_content file.now)) }
+    ensures fault { IfErr result (λ e. (e ≡ memory_error) ⊎ (Some (e.kind, e.name) ≡ look.first (all_faults (file_content file.now)))) }
+{
+    match Tables::new(alloc, file) {
+        Ok(tables) => judged(tables.fault()),
+        Err(_) => Err(CheckError::memory()),
+    }
+}

@@ -1,0 +1,87 @@
+//! What can be wrong with a file.
+ghost use Rattle.std.specs.Prelude.{◌≡◌, Some};
+ghost use Rattle.sml_faults.specs.KindText.{number_of, name_of, memory_error};
+
+use sml_tree::name::Name;
+use std::fmt;
+
+/// The kinds of faults, by their numbers. (docs/LANGUAGE.md, "Well-formed files".)
+#[derive(Clone, Copy, Debug, PartialEq, Eq)]
+pub enum CheckKind {
+    Duplicate = 1,
+    NoState,
+    TwoInitial,
+    TwoDead,
+    UnknownClass,
+    UnknownObject,
+    UnknownSet,
+    UnknownState,
+    UnknownAction,
+    UnknownParam,
+    KindMismatch,
+    MissingArg,
+    ParamsDiffer,
+    SelfInCondition,
+    AssociatedBody,
+    Memory,
+}
+
+/// The first fault of a file, with the name that it has. Want of memory has the name `NONE`.
+#[derive(Drop)]
+pub struct CheckError {
+    pub kind: CheckKind,
+    pub name: Name,
+}
+
+impl CheckKind {
+    /// The kind's number, from 1 to 16.
+    pub fn number(self) -> u8
+        ensures { result ≡ number_of self }
+    {
+        self as u8
+    }
+
+    /// The kind's word, as `NoState`.
+    pub fn name(self) -> &'static str
+        ensures { result.now ≡ name_of self }
+    {
+        match self {
+            CheckKind::Duplicate => "Duplicate",
+            CheckKind::NoState => "NoState",
+            CheckKind::TwoInitial => "TwoInitial",
+            CheckKind::TwoDead => "TwoDead",
+            CheckKind::UnknownClass => "UnknownClass",
+            CheckKind::UnknownObject => "UnknownObject",
+            CheckKind::UnknownSet => "UnknownSet",
+            CheckKind::UnknownState => "UnknownState",
+            CheckKind::UnknownAction => "UnknownAction",
+            CheckKind::UnknownParam => "UnknownParam",
+            CheckKind::KindMismatch => "KindMismatch",
+            CheckKind::MissingArg => "MissingArg",
+            CheckKind::ParamsDiffer => "ParamsDiffer",
+            CheckKind::SelfInCondition => "SelfInCondition",
+            CheckKind::AssociatedBody => "AssociatedBody",
+            CheckKind::Memory => "Memory",
+        }
+    }
+}
+
+impl fmt::Display for CheckKind {
+    ghost output = { λ kind. Some (name_of kind) };
+
+    fn fmt<W: fmt::Write>(&self, f: &mut fmt::Formatter<W>) -> fmt::Result {
+        f.write_str(self.name())
+    }
+}
+
+impl CheckError {
+    /// Want of memory.
+    pub fn memory() -> CheckError
+        ensures { result ≡ memory_error }
+    {
+        CheckError {
+            kind: CheckKind::Memory,
+            name: Name::from_word(b"NONE"),
+        }
+    }
+}

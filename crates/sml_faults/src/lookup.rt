@@ -1,0 +1,174 @@
+//! What a name in a block stands for.
+ghost use Rattle.std.specs.Prelude.{◌≡◌, map, option_map};
+ghost use Rattle.std.specs.List.{list_any, find};
+ghost use Rattle.sml_tree.specs.Content.{file_content, class_content, action_content, state_content, class_param_content, action_param_content};
+ghost use Rattle.sml_faults.specs.Lookup as look;
+ghost use Rattle.sml_faults.specs.Faults as faults;
+
+use crate::tables::Tables;
+use sml_tree::cond::Scope;
+use sml_tree::file::{Action, ActionParam, Class, ClassParam, State};
+use sml_tree::name::Name;
+use std::alloc::Allocator;
+use std::slice::from_ref;
+
+impl<'a, A: Allocator + Clone> Tables<'a, A> {
+    /// The class of an object.
+    pub fn class_of(&self, object: &Name) -> Option<&'a Class<A>>
+        ensures { option_map (λ c. class_content c.now) result ≡ look.class_of (file_content self.now.file.now) object.now }
+    {
+        match self.object(object) {
+            Some(found) => self.class(&found.class),
+            None => None,
+        }
+    }
+
+    /// The action that an object's class declares.
+    pub fn action_of(&self, action: &Name, object: &Name) -> Option<&'a Action<A>>
+        ensures { option_map (λ a. action_content a.now) result ≡ look.action_of (file_content self.now.file.now) action.now object.now }
+    {
+        match self.object(object) {
+            Some(found) => self.class_action(&found.class, action),
+            None => None,
+        }
+    }
+
+    // The action that a class declares.
+    fn class_action(&self, class: &Name, action: &Name) -> Option<&'a Action<A>>
+        ensures { option_map (λ a. action_content a.now) result ≡ look.action_in (look.class_named (file_content self.now.file.now) class.now) action.now }
+    {
+        match self.class_place(class) {
+            Some(place) => self.action_at(place, action),
+            None => None,
+        }
+    }
+
+    /// The objects that a name speaks of: itself, or the members of the set.
+    pub fn objects_meant<'b>(&self, set: bool, name: &'b Name) -> &'b [Name]
+    where
+        'a: 'b,
+        ensures { result.now ≡ look.objects_meant (file_content self.now.file.now) set name.now }
+    {
+        if set {
+            match self.group(name) {
+                Some(group) => &group.members,
+                None => &[],
+            }
+        } else {
+            from_ref(name)
+        }
+    }
+
+    // Whether an object has a state.
+    fn object_has_state(&self, state: &Name, object: &Name) -> bool
+        ensures { result ≡ faults.object_has_state (file_content self.now.file.now) state.now object.now }
+    {
+        match self.class_of(object) {
+            Some(class) => has_state(class, state),
+            None => false,
+        }
+    }
+
+    /// Whether some object has a state.
+    pub fn some_has_state(&self, state: &Name, objects: &[Name]) -> bool
+        ensures { result ≡ list_any (faults.object_has_state (file_content self.now.file.now) state.now) objects.now }
+    {
+        for object in objects {
+            if self.object_has_state(state, object) {
+                return true;
+            }
+        }
+        false
+    }
+}
+
+/// Whether a test asks a set.
+pub fn of_set(scope: Scope) -> bool
+    ensures { result ≡ look.of_set scope }
+{
+    match scope {
+        Scope::One => false,
+        Scope::All | Scope::Any => true,
+    }
+}
+
+/// Whether a name is among others.
+pub fn is_among(names: &[Name], name: &Name) -> bool
+    ensures { result ≡ look.among names.now name.now }
+{
+    for other in names {
+        if *name == *other {
+            return true;
+        }
+    }
+    false
+}
+
+/// Whether a class has a state, the added one included.
+pub fn has_state<A: Allocator + Clone>(class: &Class<A>, state: &Name) -> bool
+    ensures { result ≡ look.has_state (class_content class.now) state.now }
+{
+    declares_state(&class.states, state) || (!has_dead(&class.states) && *state == dead_name())
+}
+
+/// Whether a state of this name is among some.
+pub fn declares_state<A: Allocator + Clone>(states: &[State<A>], state: &Name) -> bool
+    ensures { result ≡ list_any (look.is_state state.now) (map state_content states.now) }
+{
+    for declared in states {
+        if *state == declared.name {
+            return true;
+        }
+    }
+    false
+}
+
+// Whether some state is marked as the dead one, or has its name.
+fn has_dead<A: Allocator + Clone>(states: &[State<A>]) -> bool
+    ensures { result ≡ list_any look.is_dead (map state_content states.now) }
+{
+    let dead = dead_name();
+    for state in states {
+        if state.dead || dead == state.name {
+            return true;
+        }
+    }
+    false
+}
+
+// The name of the state that is added.
+fn dead_name() -> Name
+    ensures { result ≡ look.dead_name }
+{
+    Name::from_word(b"DEAD")
+}
+
+/// The parameter of a class.
+pub fn class_param<'b, A: Allocator + Clone>(
+    class: &'b Class<A>,
+    name: &Name,
+) -> Option<&'b ClassParam<A>>
+    ensures { option_map (λ p. class_param_content p.now) result ≡ look.class_param (class_content class.now) name.now }
+{
+    for param in &class.params {
+        if *name == param.name {
+            return Some(param);
+        }
+    }
+    None
+}
+
+/// The parameter of an action.
+pub fn action_param<'b, A: Allocator + Clone>(
+    action: &'b Action<A>,
+    name: &Name,
+) -> Option<&'b ActionParam<A>>
+    ensures { option_map (λ p. action_param_content p.now) result ≡ look.action_param (action_content action.now) name.now }
+{
+    for param in &action.params {
+        if *name == param.name {
+            return Some(param);
+        }
+    }
+    None
+}

@@ -1,0 +1,244 @@
+//! What has the name of something of its kind that stands before it.
+ghost use Rattle.std.specs.Prelude.{◌≡◌, map, []};
+ghost use Rattle.std.specs.List.{list_any};
+ghost use Rattle.sml_tree.specs.Content.{file_content, class_content, action_content, state_content, item_content, passed_content, class_param_content, action_param_content};
+ghost use Rattle.sml_faults.specs.Lookup as look;
+ghost use Rattle.sml_faults.specs.Repeats as repeats;
+
+use crate::kind::CheckKind;
+use crate::lookup::{class_param, declares_state, is_among};
+use crate::param::passes;
+use crate::tables::Tables;
+use sml_tree::file::{Action, ActionParam, Class, ClassParam, Item, State};
+use sml_tree::literal::Passed;
+use sml_tree::name::Name;
+use std::alloc::Allocator;
+
+/// The first name that stands before, too.
+pub fn repeated_name(names: &[Name]) -> Option<Name>
+    ensures { result ≡ look.first (repeats.each_after repeats.repeated_name [] names.now) }
+{
+    for (i, name) in names.iter().enumerate() {
+        if is_among(&names[..i], name) {
+            return Some(*name);
+        }
+    }
+    None
+}
+
+/// The first argument that is passed before, too.
+pub fn repeated_passed<A: Allocator + Clone>(args: &[Passed<A>]) -> Option<Name>
+    ensures { result ≡ look.first (repeats.each_after repeats.repeated_passed [] (map passed_content args.now)) }
+{
+    for (i, passed) in args.iter().enumerate() {
+        if passes(&args[..i], &passed.name) {
+            return Some(passed.name);
+        }
+    }
+    None
+}
+
+// Whether a parameter of a class has this name.
+fn names_class_param<A: Allocator + Clone>(params: &[ClassParam<A>], name: &Name) -> bool
+    ensures { result ≡ list_any (look.is_class_param name.now) (map class_param_content params.now) }
+{
+    for param in params {
+        if *name == param.name {
+            return true;
+        }
+    }
+    false
+}
+
+// The first parameter of a class that has one of its name before it.
+fn repeated_class_param<A: Allocator + Clone>(params: &[ClassParam<A>]) -> Option<Name>
+    ensures { result ≡ look.first (repeats.each_after repeats.repeated_class_param [] (map class_param_content params.now)) }
+{
+    for (i, param) in params.iter().enumerate() {
+        if names_class_param(&params[..i], &param.name) {
+            return Some(param.name);
+        }
+    }
+    None
+}
+
+// Whether a parameter of an action has this name.
+fn names_action_param<A: Allocator + Clone>(params: &[ActionParam<A>], name: &Name) -> bool
+    ensures { result ≡ list_any (look.is_action_param name.now) (map action_param_content params.now) }
+{
+    for param in params {
+        if *name == param.name {
+            return true;
+        }
+    }
+    false
+}
+
+// The first parameter of an action that is named as one of its class, or as one before it.
+fn repeated_action_param<A: Allocator + Clone>(
+    class: &Class<A>,
+    params: &[ActionParam<A>],
+) -> Option<Name>
+    ensures { result ≡ look.first (repeats.each_after (repeats.repeated_action_param (class_content class.now)) [] (map action_param_content params.now)) }
+{
+    for (i, param) in params.iter().enumerate() {
+        if class_param(class, &param.name).is_some()
+            || names_action_param(&params[..i], &param.name)
+        {
+            return Some(param.name);
+        }
+    }
+    None
+}
+
+// Whether an action of some has this name.
+fn names_action<A: Allocator + Clone>(actions: &[Action<A>], name: &Name) -> bool
+    ensures { result ≡ list_any (look.is_action name.now) (map action_content actions.now) }
+{
+    for action in actions {
+        if *name == action.name {
+            return true;
+        }
+    }
+    false
+}
+
+// Whether a class of this name is among some items.
+fn names_class<A: Allocator + Clone>(items: &[Item<A>], name: &Name) -> bool
+    ensures { result ≡ list_any (repeats.is_class name.now) (map item_content items.now) }
+{
+    for item in items {
+        if let Item::Class(class) = item {
+            if *name == class.name {
+                return true;
+            }
+        }
+    }
+    false
+}
+
+// Whether an object of this name is among some items.
+fn names_object<A: Allocator + Clone>(items: &[Item<A>], name: &Name) -> bool
+    ensures { result ≡ list_any (repeats.is_object name.now) (map item_content items.now) }
+{
+    for item in items {
+        if let Item::Object(object) = item {
+            if *name == object.name {
+                return true;
+            }
+        }
+    }
+    false
+}
+
+// Whether a set of this name is among some items.
+fn names_group<A: Allocator + Clone>(items: &[Item<A>], name: &Name) -> bool
+    ensures { result ≡ list_any (repeats.is_group name.now) (map item_content items.now) }
+{
+    for item in items {
+        if let Item::Group(group) = item {
+            if *name == group.name {
+                return true;
+            }
+        }
+    }
+    false
+}
+
+impl<'a, A: Allocator + Clone> Tables<'a, A> {
+    // What is repeated in an action.
+    #[tactic(auto, using(crate::proofs::Rests::firsts))]
+    fn repeated_in_action(&self, class: &Class<A>, action: &Action<A>) -> Option<Name>
+        ensures { result ≡ look.first (repeats.repeated_in_action (class_content class.now) (action_content action.now)) }
+    {
+        match repeated_action_param(class, &action.params) {
+            Some(name) => Some(name),
+            None => self.block_fault(CheckKind::Duplicate, class, action, &action.body),
+        }
+    }
+
+    // The first action that has one of its name before it in its state, or what is repeated in one.
+    fn repeated_action(&self, class: &Class<A>, actions: &[Action<A>]) -> Option<Name>
+        ensures { result ≡ look.first (repeats.each_after (repeats.repeated_action (class_content class.now)) [] (map action_content actions.now)) }
+    {
+        for (i, action) in actions.iter().enumerate() {
+            if names_action(&actions[..i], &action.name) {
+                return Some(action.name);
+            }
+            if let Some(name) = self.repeated_in_action(class, action) {
+                return Some(name);
+            }
+        }
+        None
+    }
+
+    // The first state that has one of its name before it, or what is repeated in one.
+    fn repeated_state(&self, class: &Class<A>, states: &[State<A>]) -> Option<Name>
+        ensures { result ≡ look.first (repeats.each_after (repeats.repeated_state (class_content class.now)) [] (map state_content states.now)) }
+    {
+        for (i, state) in states.iter().enumerate() {
+            if declares_state(&states[..i], &state.name) {
+                return Some(state.name);
+            }
+            if let Some(name) = self.repeated_action(class, &state.actions) {
+                return Some(name);
+            }
+        }
+        None
+    }
+
+    // What is repeated in a class.
+    #[tactic(auto, using(crate::proofs::Rests::firsts))]
+    fn repeated_in_class(&self, class: &Class<A>) -> Option<Name>
+        ensures { result ≡ look.first (repeats.repeated_in_class (class_content class.now)) }
+    {
+        match repeated_class_param(&class.params) {
+            Some(name) => Some(name),
+            None => self.repeated_state(class, &class.states),
+        }
+    }
+
+    // What an item repeats of those before it, or what is repeated in it.
+    #[tactic(auto, using(crate::proofs::Rests::firsts))]
+    fn repeated_item(&self, before: &[Item<A>], item: &Item<A>) -> Option<Name>
+        ensures { result ≡ look.first (repeats.repeated_item (map item_content before.now) (item_content item.now)) }
+    {
+        match item {
+            Item::Class(class) => {
+                if names_class(before, &class.name) {
+                    Some(class.name)
+                } else {
+                    self.repeated_in_class(class)
+                }
+            }
+            Item::Object(object) => {
+                if names_object(before, &object.name) {
+                    Some(object.name)
+                } else {
+                    None
+                }
+            }
+            Item::Group(group) => {
+                if names_group(before, &group.name) {
+                    Some(group.name)
+                } else {
+                    repeated_name(&group.members)
+                }
+            }
+        }
+    }
+
+    /// The first name in the text that something of its kind before it has. The cost is the square of
+    /// the counts of items, of the states of a class, of the actions of a state and of the entries of a
+    /// list, all of which are limited.
+    pub fn repeated(&self, items: &[Item<A>]) -> Option<Name>
+        ensures { result ≡ look.first (repeats.each_after repeats.repeated_item [] (map item_content items.now)) }
+    {
+        for (i, item) in items.iter().enumerate() {
+            if let Some(name) = self.repeated_item(&items[..i], item) {
+                return Some(name);
+            }
+        }
+        None
+    }
+}

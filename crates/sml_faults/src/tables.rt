@@ -1,0 +1,163 @@
+//! The items of a file by their names.
+ghost use Rattle.std.specs.Prelude.{◌≡◌, ℕ, List, Some, None, OnOk, IfOk, option_map, nat_eq, if◌then◌else◌};
+ghost use Rattle.std.specs.Cmp.Lexicographic.{pointwise};
+ghost use Rattle.indexmap.specs.IndexMap.{get};
+ghost use Rattle.sml_tree.specs.Content.{file_content, item_content, class_content, object_content, group_content};
+ghost use Rattle.sml_faults.specs.Lookup.{named, class_named, object_named, group_named};
+ghost use Rattle.sml_faults.specs.Tables as spec;
+ghost use Rattle.sml_faults.specs.Repeats.{is_class};
+ghost use Rattle.sml_faults.specs.Tables.{HasTables, ActionTables, or_else, place_of, item_at};
+
+use crate::actions::{ActionPlace, item_tables};
+use indexmap::IndexMap;
+use sml_tree::file::{Class, Group, Item, Object, SmlFile};
+use sml_tree::name::Name;
+use std::alloc::{AllocError, Allocator, Global};
+
+/// A file, with the places of its items by their names.
+#[derive(Drop)]
+pub struct Tables<'a, A: Allocator + Clone> {
+    pub file: &'a SmlFile<A>,
+    classes: IndexMap<Name, usize>,
+    objects: IndexMap<Name, usize>,
+    groups: IndexMap<Name, usize>,
+    pub actions: Vec<IndexMap<Name, ActionPlace>>,
+    ghost places: { HasTables (file_content file.now) classes objects groups },
+    ghost declared: { ActionTables (file_content file.now) actions.items },
+}
+
+impl<'a, A: Allocator + Clone> Tables<'a, A> {
+    /// The tables of a file.
+    pub fn new(alloc: Global, file: &'a SmlFile<A>) -> Result<Self, AllocError>
+        ensures { IfOk result (λ t. t.file.now ≡ file.now) }
+    {
+        let mut classes = IndexMap::new(alloc);
+        let mut objects = IndexMap::new(alloc);
+        let mut groups = IndexMap::new(alloc);
+        for (i, item) in file.items.iter().enumerate() {
+            match item {
+                Item::Class(class) => note(&mut classes, class.name, i)?,
+                Item::Object(object) => note(&mut objects, object.name, i)?,
+                Item::Group(group) => note(&mut groups, group.name, i)?,
+            }
+        }
+        let actions = item_tables(alloc, &file.items)?;
+        Ok(Tables {
+            file,
+            classes,
+            objects,
+            groups,
+            actions,
+        })
+    }
+
+    /// The class of a name.
+    pub fn class(&self, name: &Name) -> Option<&'a Class<A>>
+        ensures { option_map (λ x. class_content x.now) result ≡ class_named (file_content self.now.file.now) name.now }
+    {
+        match self.classes.get(name) {
+            Some(place) => self.class_at(*place),
+            None => None,
+        }
+    }
+
+    /// The object of a name.
+    pub fn object(&self, name: &Name) -> Option<&'a Object>
+        ensures { option_map (λ x. object_content x.now) result ≡ object_named (file_content self.now.file.now) name.now }
+    {
+        match self.objects.get(name) {
+            Some(place) => self.object_at(*place),
+            None => None,
+        }
+    }
+
+    /// The set of a name.
+    pub fn group(&self, name: &Name) -> Option<&'a Group<A>>
+        ensures { option_map (λ x. group_content x.now) result ≡ group_named (file_content self.now.file.now) name.now }
+    {
+        match self.groups.get(name) {
+            Some(place) => self.group_at(*place),
+            None => None,
+        }
+    }
+
+    /// The place of the class of a name among the items.
+    pub fn class_place(&self, name: &Name) -> Option<usize>
+        ensures { result ≡ place_of (is_class name.now) (file_content self.now.file.now) }
+    {
+        self.classes.get(name).copied()
+    }
+
+    /// The class at a place among the items.
+    pub fn class_at(&self, place: usize) -> Option<&'a Class<A>>
+        ensures { option_map (λ x. class_content x.now) result ≡ item_at spec.class_item (file_content self.now.file.now) place }
+    {
+        let file: &'a SmlFile<A> = self.file;
+        match file.items.get(place) {
+            Some(item) => class_item(item),
+            None => None,
+        }
+    }
+
+    // The object at a place among the items.
+    fn object_at(&self, place: usize) -> Option<&'a Object>
+        ensures { option_map (λ x. object_content x.now) result ≡ item_at spec.object_item (file_content self.now.file.now) place }
+    {
+        let file: &'a SmlFile<A> = self.file;
+        match file.items.get(place) {
+            Some(item) => object_item(item),
+            None => None,
+        }
+    }
+
+    // The set at a place among the items.
+    fn group_at(&self, place: usize) -> Option<&'a Group<A>>
+        ensures { option_map (λ x. group_content x.now) result ≡ item_at spec.group_item (file_content self.now.file.now) place }
+    {
+        let file: &'a SmlFile<A> = self.file;
+        match file.items.get(place) {
+            Some(item) => group_item(item),
+            None => None,
+        }
+    }
+}
+
+/// Gives a name its place, unless it has one.
+pub fn note<P: Copy>(table: &mut IndexMap<Name, P>, name: Name, place: P) -> Result<(), AllocError>
+    ensures noted { OnOk result ((q : List ℕ) → get (pointwise nat_eq) table.new q ≡ or_else (get (pointwise nat_eq) table.old q) (if named q name then Some place else None)) }
+{
+    if !table.contains_key(&name) {
+        table.insert(name, place)?;
+    }
+    Ok(())
+}
+
+// The class that an item is.
+fn class_item<A: Allocator + Clone>(item: &Item<A>) -> Option<&Class<A>>
+    ensures { option_map (λ c. class_content c.now) result ≡ spec.class_item (item_content item.now) }
+{
+    match item {
+        Item::Class(class) => Some(class),
+        Item::Object(_) | Item::Group(_) => None,
+    }
+}
+
+// The object that an item is.
+fn object_item<A: Allocator + Clone>(item: &Item<A>) -> Option<&Object>
+    ensures { option_map (λ c. object_content c.now) result ≡ spec.object_item (item_content item.now) }
+{
+    match item {
+        Item::Object(object) => Some(object),
+        Item::Class(_) | Item::Group(_) => None,
+    }
+}
+
+// The set that an item is.
+fn group_item<A: Allocator + Clone>(item: &Item<A>) -> Option<&Group<A>>
+    ensures { option_map (λ c. group_content c.now) result ≡ spec.group_item (item_content item.now) }
+{
+    match item {
+        Item::Group(group) => Some(group),
+        Item::Class(_) | Item::Object(_) => None,
+    }
+}
