@@ -3,11 +3,13 @@
 use crate::help;
 use clap::error::ErrorKind;
 use clap::{Arg, ArgMatches, Command, Error, value_parser};
-use std::alloc::Global;
+use std::alloc::{AllocError, Global};
 
 /// What the program is asked to do.
 #[derive(Drop)]
 pub enum Asked<'a> {
+    /// To check the domain files of these paths.
+    Check(Vec<&'a str>),
     /// To run a schedule on a domain.
     Step(StepOptions<'a>),
     /// To print the canonical text of the domain file of this path.
@@ -32,18 +34,29 @@ pub struct StepOptions<'a> {
 pub fn parse<'a>(alloc: Global, words: &'a [String]) -> Result<Asked<'a>, Error> {
     let mut command = smirun_command(alloc)?;
     let matches = command.try_get_matches_from_mut(words)?;
-    match command_of(&matches) {
+    match command_of(alloc, &matches)? {
         Some(asked) => Ok(asked),
         None => Err(command.error(ErrorKind::MissingSubcommand, "no command is given")?),
     }
 }
 
-fn command_of<'a>(matches: &ArgMatches<'a>) -> Option<Asked<'a>> {
-    if let Some(step) = matches.subcommand_matches("step") {
-        return Some(Asked::Step(step_options(step)?));
+fn command_of<'a>(
+    alloc: Global,
+    matches: &ArgMatches<'a>,
+) -> Result<Option<Asked<'a>>, AllocError> {
+    if let Some(check) = matches.subcommand_matches("check") {
+        return match check.get_strs("FILE") {
+            Some(files) => Ok(Some(Asked::Check(files.to_vec(alloc)?))),
+            None => Ok(None),
+        };
     }
-    let print = matches.subcommand_matches("print")?;
-    Some(Asked::Print(print.get_str("FILE")?))
+    if let Some(step) = matches.subcommand_matches("step") {
+        return Ok(step_options(step).map(Asked::Step));
+    }
+    match matches.subcommand_matches("print") {
+        Some(print) => Ok(print.get_str("FILE").map(Asked::Print)),
+        None => Ok(None),
+    }
 }
 
 fn step_options<'a>(step: &ArgMatches<'a>) -> Option<StepOptions<'a>> {
@@ -60,8 +73,21 @@ fn smirun_command<'a>(alloc: Global) -> Result<Command<'a>, Error> {
         .about(help::ABOUT)
         .after_help(help::STATUSES)
         .subcommand_required(true)
+        .subcommand(check_command(alloc)?)?
         .subcommand(print_command(alloc)?)?
         .subcommand(step_command(alloc)?)?;
+    Ok(command)
+}
+
+fn check_command<'a>(alloc: Global) -> Result<Command<'a>, Error> {
+    let files = Arg::new(alloc, "FILE")
+        .required(true)
+        .num_args(1..)
+        .help(help::FILES);
+    let command = Command::new(alloc, "check")
+        .about(help::CHECK)
+        .after_help(help::CHECK_MORE)
+        .arg(files)?;
     Ok(command)
 }
 

@@ -6,7 +6,7 @@ ghost use Rattle.smirun.specs.Status.{fault_status};
 
 use crate::command_line::Asked;
 use crate::fault::Fault;
-use crate::{command_line, print, step};
+use crate::{check, command_line, print, step};
 use clap::error::ErrorKind as LineKind;
 use std::fs::Files;
 use std::io;
@@ -33,12 +33,13 @@ pub fn drive<R: Files + AllocGlobal, W: Write, E: Write>(
     ensures { result ≤ 3 }
 {
     let outcome = match command_line::parse(rt.alloc(), words) {
-        Ok(Asked::Step(options)) => step::run_step(rt, &options, output),
-        Ok(Asked::Print(file)) => print::run_print(rt, file, output),
+        Ok(Asked::Check(files)) => check::run_check(rt, files.as_slice(), output),
+        Ok(Asked::Print(file)) => print::run_print(rt, file, output).map(|()| DONE),
+        Ok(Asked::Step(options)) => step::run_step(rt, &options, output).map(|()| DONE),
         Err(error) => return answer(&error, output, errors),
     };
     match outcome {
-        Ok(()) => DONE,
+        Ok(status) => status,
         Err(fault) => tell(&fault, errors),
     }
 }

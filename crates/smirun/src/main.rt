@@ -1,10 +1,14 @@
 //! The program `smirun`: state manager domains, run from the command line.
 #![tactic(auto)]
 
+mod check;
+#[cfg(test)]
+mod check_tests;
 mod command_line;
 mod drive;
 mod fault;
 mod help;
+mod judgement;
 mod print;
 #[cfg(test)]
 mod print_tests;

@@ -6,3 +6,17 @@ pub mod Twice
 pub mod FaultKinds
 pub mod Finds
 pub mod ActionPlaces
+pub mod Pairs
+pub mod NoPairs
+pub mod OnlyPairs
+pub mod Named
+pub mod WellFormed
+pub mod Declared
+pub mod SameParams
+pub mod Sound
+pub mod Asked
+pub mod Fitting
+pub mod Parts
+pub mod Suffices
+pub mod Requests
+pub mod Rules

@@ -1,5 +1,6 @@
 -- The numbers and names of the kinds of faults.
-use Rattle.std.specs.Prelude.{ℕ, List, codes}
+use Rattle.std.specs.Prelude.{ℕ, List, ◌++◌, codes}
+use Rattle.std.specs.Fmt.{decimal}
 use Rattle.sml_faults.specs.declared.kind.CheckError.{CheckError}
 use Rattle.sml_faults.specs.declared.kind.CheckKind.{CheckKind}
 use Rattle.sml_faults.specs.declared.kind.CheckKind.TheVariants.{Duplicate, NoState, TwoInitial, TwoDead, UnknownClass, UnknownObject, UnknownSet, UnknownState, UnknownAction, UnknownParam, KindMismatch, MissingArg, ParamsDiffer, SelfInCondition, AssociatedBody, Memory}
@@ -45,3 +46,7 @@ name_of Memory = codes "Memory"
 -- what is answered where a growth is refused
 abbrev pub memory_error : CheckError
 memory_error = record { kind = Memory; name = codes "NONE" }
+
+-- a fault in words
+abbrev pub error_text : CheckError → List ℕ
+error_text e = decimal (number_of e.kind) ++ codes " " ++ name_of e.kind ++ codes " " ++ e.name

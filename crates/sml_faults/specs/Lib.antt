@@ -6,3 +6,8 @@ pub mod Heads
 pub mod Kinds
 pub mod KindText
 pub mod Tables
+pub mod Inside
+pub mod PairLaws
+pub mod Laws
+pub mod ValueLaws
+pub mod Sound

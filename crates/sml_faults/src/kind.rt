@@ -1,8 +1,9 @@
 //! What can be wrong with a file.
 ghost use Rattle.std.specs.Prelude.{◌≡◌, Some};
-ghost use Rattle.sml_faults.specs.KindText.{number_of, name_of, memory_error};
+ghost use Rattle.sml_faults.specs.KindText.{number_of, name_of, error_text, memory_error};
 
 use sml_tree::name::Name;
+use std::alloc::AllocError;
 use std::fmt;
 
 /// The kinds of faults, by their numbers. (docs/LANGUAGE.md, "Well-formed files".)
@@ -26,8 +27,9 @@ pub enum CheckKind {
     Memory,
 }
 
-/// The first fault of a file, with the name that it has. Want of memory has the name `NONE`.
-#[derive(Drop)]
+/// The first fault of a file, with the name that it has. Want of memory has the name `NONE`. Its `Display`
+/// is the number, the kind's word and the name, with blanks between them.
+#[derive(Clone, Copy, PartialEq, Eq)]
 pub struct CheckError {
     pub kind: CheckKind,
     pub name: Name,
@@ -71,6 +73,28 @@ impl fmt::Display for CheckKind {
 
     fn fmt<W: fmt::Write>(&self, f: &mut fmt::Formatter<W>) -> fmt::Result {
         f.write_str(self.name())
+    }
+}
+
+impl fmt::Display for CheckError {
+    ghost output = { λ error. Some (error_text error) };
+
+    fn fmt<W: fmt::Write>(&self, f: &mut fmt::Formatter<W>) -> fmt::Result {
+        write!(
+            f,
+            "{} {} {}",
+            self.kind.number(),
+            self.kind.name(),
+            self.name.as_str()
+        )
+    }
+}
+
+impl From<AllocError> for CheckError {
+    ghost from_gives = { λ _ error. error ≡ memory_error };
+
+    fn from(_: AllocError) -> Self {
+        CheckError::memory()
     }
 }
 

@@ -6,6 +6,7 @@ mod check;
 mod differing;
 mod heads;
 mod kind;
+mod laws;
 mod lookup;
 mod param;
 mod repeated;
@@ -16,3 +17,7 @@ mod walk;
 
 pub use check::first_fault;
 pub use kind::{CheckError, CheckKind};
+pub use laws::{
+    comparison_of_params, complete_requests, declared_names, different_names, fitting_values,
+    rules_of_files, sound_classes,
+};

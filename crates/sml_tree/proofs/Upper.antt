@@ -1,8 +1,11 @@
 -- A word in upper case is a word, and how an array is filled with one.
-use Rattle.std.proofs.Common.{◌≡◌, ℕ, suc, ◌+◌, ◌<◌, ◌≤◌, List, [], ◌∷◌, ◌++◌, length, take, drop, replicate, IsTrue, refl, arith, ap, ◌∙◌, sym, nat_le, get_or, add-one, set, drop-cons}
+use Rattle.std.proofs.Common.{◌≡◌, ℕ, zero, suc, ◌+◌, ◌<◌, ◌≤◌, List, [], ◌∷◌, ◌++◌, length, take, drop, replicate, IsTrue, refl, arith, ap, ◌∙◌, sym, nat_le, get_or, add-one, set, drop-cons}
 use Rattle.std.proofs.lemmas.List.{length-map, map-append, take_more, take_more_set, drop-set-lt}
 use Rattle.std.proofs.lemmas.Bool.{and_from, and_parts}
 use Rattle.std.proofs.lemmas.Bool.Decides.{nat_tests}
+use Rattle.std.proofs.lemmas.Str.{IsUtf8-from_ascii}
+use Rattle.std.proofs.lemmas.Str.Ascii.{IsAscii-nil}
+use Rattle.std.specs.Str.{IsUtf8, IsAscii}
 use Rattle.std.specs.Char.{is_ascii_alphabetic, to_ascii_uppercase}
 use Rattle.std.specs.List.{list_all}
 use Rattle.sml_tree.specs.Word.{is_word_byte, is_word_text, is_word, upper}
@@ -56,3 +59,25 @@ padded_more bytes i y n h e =
   where
     tail : drop i bytes ≡ get_or bytes i 0 ∷ drop (suc i) bytes → drop (i + 1) bytes ≡ replicate n 0
     tail d = rw add-one (cc (sym d ∙ e))
+
+byte_ascii : (b : ℕ) → IsTrue (is_word_byte b) → b < 128
+byte_ascii b h = grind (arith, nat_tests)
+
+letter_ascii : (b : ℕ) → IsTrue (is_ascii_alphabetic b) → b < 128
+letter_ascii b h = grind (arith, nat_tests)
+
+bytes_ascii : (bs : List ℕ) → IsTrue (list_all is_word_byte bs) → IsAscii bs
+bytes_ascii [] h i = IsAscii-nil i
+bytes_ascii (b ∷ bs) h zero = byte_ascii b (and_parts (is_word_byte b) (list_all is_word_byte bs) h).0
+bytes_ascii (b ∷ bs) h (suc i) = bytes_ascii bs (and_parts (is_word_byte b) (list_all is_word_byte bs) h).1 i
+
+text_ascii : (bs : List ℕ) → IsTrue (is_word_text bs) → IsAscii bs
+text_ascii [] h i = IsAscii-nil i
+text_ascii (b ∷ bs) h zero = letter_ascii b (and_parts (is_ascii_alphabetic b) (list_all is_word_byte bs) h).0
+text_ascii (b ∷ bs) h (suc i) = bytes_ascii bs (and_parts (is_ascii_alphabetic b) (list_all is_word_byte bs) h).1 i
+
+-- the bytes of a word are a text
+pub word_utf8 : (bs : List ℕ) → IsTrue (is_word bs) → IsUtf8 bs
+word_utf8 bs h =
+    let p = and_parts (is_word_text bs) (nat_le (length bs) 64) h in
+    IsUtf8-from_ascii bs (text_ascii bs p.0)

@@ -1,0 +1,70 @@
+//! The command `check`: domain files go in, and one line comes out for each.
+
+ghost use Rattle.std.specs.Prelude.{◌≤◌, IfOk};
+
+use crate::fault::Fault;
+use crate::judgement::{Judgement, judge};
+use crate::text::load_text;
+use bumpalo::Bump;
+use std::alloc::Allocator;
+use std::fs::Files;
+use std::io::{BufWriter, ErrorKind, Write};
+
+/// Tells of each file whether it is well-formed, or why not, and gives the exit status. A refused or
+/// unreadable file is told, and the next follows; want of memory and a fault of the output end it. Each
+/// tree lies in an arena that is emptied for the next file.
+pub fn run_check<R: Files + AllocGlobal, W: Write>(
+    rt: &R,
+    files: &[&str],
+    output: &mut W,
+) -> Result<u8, Fault<'static>> {
+    let Ok(mut writer) = BufWriter::new(rt.alloc(), &mut *output) else {
+        return Err(Fault::Memory);
+    };
+    let told = tell_files(rt, files, &mut writer);
+    // After a fault too: what was told before it is written.
+    let flushed = writer.flush();
+    match (told, flushed) {
+        (Err(fault), _) => Err(fault),
+        (Ok(_), Err(_)) => Err(Fault::Output),
+        (Ok(status), Ok(())) => Ok(status),
+    }
+}
+
+// Writes the line of each file, and gives the worst of their statuses.
+fn tell_files<R: Files + AllocGlobal, W: Write>(
+    rt: &R,
+    files: &[&str],
+    writer: &mut W,
+) -> Result<u8, Fault<'static>>
+    ensures { IfOk result (λ status. status ≤ 1) }
+{
+    let mut arena = Bump::new(rt.alloc());
+    let mut worst = 0;
+    for file in files {
+        let judgement = judge_file(rt, &arena, file)?;
+        if writeln!(writer, "{file} {judgement}").is_err() {
+            return Err(Fault::Output);
+        }
+        worst = worst.max(judgement.status());
+        if arena.reset().is_err() {
+            return Err(Fault::Memory);
+        }
+    }
+    Ok(worst)
+}
+
+// Judges the file of a path.
+fn judge_file<R: Files + AllocGlobal, A: Allocator + Clone>(
+    rt: &R,
+    alloc: A,
+    file: &str,
+) -> Result<Judgement, Fault<'static>> {
+    match load_text(rt, file) {
+        Ok(text) => judge(rt.alloc(), alloc, text.as_slice()),
+        Err(error) => match error.kind() {
+            ErrorKind::OutOfMemory => Err(Fault::Memory),
+            _ => Ok(Judgement::Unreadable),
+        },
+    }
+}

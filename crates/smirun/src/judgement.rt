@@ -1,0 +1,86 @@
+//! What is told of a domain file.
+ghost use Rattle.std.specs.Prelude.{◌≡◌, IfOk};
+ghost use Rattle.smirun.specs.Judgement.{IsJudged, judgement_status};
+
+use crate::fault::Fault;
+use sml_faults::{CheckError, CheckKind, first_fault};
+use sml_read::{ReadError, ReadErrorKind, read};
+use std::alloc::{Allocator, Global};
+use std::fmt;
+
+/// What is told of a domain file. Its `Display` is the line (docs/FORMATS.md, "Fault lines and exit
+/// statuses") without the name of the file.
+#[derive(Clone, Copy)]
+pub enum Judgement {
+    /// The file is well-formed.
+    Good,
+    /// The file cannot be opened or read.
+    Unreadable,
+    /// The text is no file of the language.
+    Read(ReadError),
+    /// The file is not well-formed.
+    Check(CheckError),
+}
+
+impl Judgement {
+    /// The exit status of a command that told nothing worse: 0, and 1 for a refused file.
+    pub fn status(&self) -> u8
+        ensures { result ≡ judgement_status self.now }
+    {
+        match self {
+            Judgement::Good => 0,
+            Judgement::Unreadable | Judgement::Read(_) | Judgement::Check(_) => 1,
+        }
+    }
+}
+
+impl fmt::Display for Judgement {
+    ghost use Rattle.std.specs.Prelude.{Some};
+    ghost use Rattle.smirun.specs.Judgement.{judgement_text};
+
+    ghost output = { λ judgement. Some (judgement_text judgement) };
+
+    fn fmt<W: fmt::Write>(&self, f: &mut fmt::Formatter<W>) -> fmt::Result {
+        match self {
+            Judgement::Good => f.write_str("ok"),
+            Judgement::Unreadable => f.write_str("unreadable"),
+            Judgement::Read(ReadError { kind, offset }) => {
+                write!(f, "read {} {} at {offset}", kind.number(), kind.name())
+            }
+            Judgement::Check(CheckError { kind, name }) => write!(
+                f,
+                "check {} {} {}",
+                kind.number(),
+                kind.name(),
+                name.as_str()
+            ),
+        }
+    }
+}
+
+/// Judges the text of a domain file: the tree is read into memory of `alloc`, and the tables are made in
+/// that of `heap`. The fault is want of memory.
+pub fn judge<A: Allocator + Clone>(
+    heap: Global,
+    alloc: A,
+    text: &[u8],
+) -> Result<Judgement, Fault<'static>>
+    ensures { IfOk result (λ j. IsJudged text.now j) }
+{
+    let tree = match read(alloc, text) {
+        Ok(tree) => tree,
+        Err(error) => {
+            return match error.kind {
+                ReadErrorKind::Memory => Err(Fault::Memory),
+                _ => Ok(Judgement::Read(error)),
+            };
+        }
+    };
+    match first_fault(heap, &tree) {
+        Ok(()) => Ok(Judgement::Good),
+        Err(error) => match error.kind {
+            CheckKind::Memory => Err(Fault::Memory),
+            _ => Ok(Judgement::Check(error)),
+        },
+    }
+}
