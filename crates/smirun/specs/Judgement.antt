@@ -1,5 +1,5 @@
 -- What is told of a domain file.
-use Rattle.std.specs.Prelude.{◌≡◌, ⊥, ℕ, List, ◌++◌, Some, codes}
+use Rattle.std.specs.Prelude.{◌≡◌, ℕ, List, ◌++◌, Some, codes}
 use Rattle.std.specs.Fmt.{decimal}
 use Rattle.sml_tree.specs.Syntax.{ItemData}
 use Rattle.sml_read.specs.Promise.{IsFileOf, Cause}

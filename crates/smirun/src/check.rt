@@ -6,7 +6,7 @@ use crate::fault::Fault;
 use crate::judgement::{Judgement, judge};
 use crate::text::load_text;
 use bumpalo::Bump;
-use std::alloc::Allocator;
+use std::alloc::{AllocError, Allocator};
 use std::fs::Files;
 use std::io::{BufWriter, ErrorKind, Write};
 
@@ -17,7 +17,9 @@ pub fn run_check<R: Files + AllocGlobal, W: Write>(
     rt: &R,
     files: &[&str],
     output: &mut W,
-) -> Result<u8, Fault<'static>> {
+) -> Result<u8, Fault<'static>>
+    ensures { IfOk result (λ status. status ≤ 1) }
+{
     let Ok(mut writer) = BufWriter::new(rt.alloc(), &mut *output) else {
         return Err(Fault::Memory);
     };
@@ -42,7 +44,9 @@ fn tell_files<R: Files + AllocGlobal, W: Write>(
     let mut arena = Bump::new(rt.alloc());
     let mut worst = 0;
     for file in files {
-        let judgement = judge_file(rt, &arena, file)?;
+        let Ok(judgement) = judge_file(rt, &arena, file) else {
+            return Err(Fault::Memory);
+        };
         if writeln!(writer, "{file} {judgement}").is_err() {
             return Err(Fault::Output);
         }
@@ -59,11 +63,11 @@ fn judge_file<R: Files + AllocGlobal, A: Allocator + Clone>(
     rt: &R,
     alloc: A,
     file: &str,
-) -> Result<Judgement, Fault<'static>> {
+) -> Result<Judgement, AllocError> {
     match load_text(rt, file) {
         Ok(text) => judge(rt.alloc(), alloc, text.as_slice()),
         Err(error) => match error.kind() {
-            ErrorKind::OutOfMemory => Err(Fault::Memory),
+            ErrorKind::OutOfMemory => Err(AllocError),
             _ => Ok(Judgement::Unreadable),
         },
     }

@@ -32,15 +32,24 @@ pub fn drive<R: Files + AllocGlobal, W: Write, E: Write>(
 ) -> u8
     ensures { result ≤ 3 }
 {
-    let outcome = match command_line::parse(rt.alloc(), words) {
-        Ok(Asked::Check(files)) => check::run_check(rt, files.as_slice(), output),
-        Ok(Asked::Print(file)) => print::run_print(rt, file, output).map(|()| DONE),
-        Ok(Asked::Step(options)) => step::run_step(rt, &options, output).map(|()| DONE),
-        Err(error) => return answer(&error, output, errors),
-    };
+    match command_line::parse(rt.alloc(), words) {
+        Ok(Asked::Check(files)) => match check::run_check(rt, files.as_slice(), output) {
+            Ok(status) => status,
+            Err(fault) => tell(&fault, errors),
+        },
+        Ok(Asked::Print(file)) => ended(&print::run_print(rt, file, output), errors),
+        Ok(Asked::Step(options)) => ended(&step::run_step(rt, &options, output), errors),
+        Err(error) => answer(&error, output, errors),
+    }
+}
+
+// The status of a command that did what it was asked, or its fault.
+fn ended<E: Write>(outcome: &Result<(), Fault<'_>>, errors: &mut E) -> u8
+    ensures { result ≤ 3 }
+{
     match outcome {
-        Ok(status) => status,
-        Err(fault) => tell(&fault, errors),
+        Ok(()) => DONE,
+        Err(fault) => tell(fault, errors),
     }
 }
 

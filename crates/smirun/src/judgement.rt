@@ -1,11 +1,10 @@
 //! What is told of a domain file.
-ghost use Rattle.std.specs.Prelude.{◌≡◌, IfOk};
+ghost use Rattle.std.specs.Prelude.{◌≡◌, ◌≤◌, IfOk};
 ghost use Rattle.smirun.specs.Judgement.{IsJudged, judgement_status};
 
-use crate::fault::Fault;
 use sml_faults::{CheckError, CheckKind, first_fault};
 use sml_read::{ReadError, ReadErrorKind, read};
-use std::alloc::{Allocator, Global};
+use std::alloc::{AllocError, Allocator, Global};
 use std::fmt;
 
 /// What is told of a domain file. Its `Display` is the line (docs/FORMATS.md, "Fault lines and exit
@@ -25,7 +24,8 @@ pub enum Judgement {
 impl Judgement {
     /// The exit status of a command that told nothing worse: 0, and 1 for a refused file.
     pub fn status(&self) -> u8
-        ensures { result ≡ judgement_status self.now }
+        ensures status { result ≡ judgement_status self.now }
+        ensures range { result ≤ 1 }
     {
         match self {
             Judgement::Good => 0,
@@ -59,19 +59,19 @@ impl fmt::Display for Judgement {
 }
 
 /// Judges the text of a domain file: the tree is read into memory of `alloc`, and the tables are made in
-/// that of `heap`. The fault is want of memory.
+/// that of `heap`.
 pub fn judge<A: Allocator + Clone>(
     heap: Global,
     alloc: A,
     text: &[u8],
-) -> Result<Judgement, Fault<'static>>
+) -> Result<Judgement, AllocError>
     ensures { IfOk result (λ j. IsJudged text.now j) }
 {
     let tree = match read(alloc, text) {
         Ok(tree) => tree,
         Err(error) => {
             return match error.kind {
-                ReadErrorKind::Memory => Err(Fault::Memory),
+                ReadErrorKind::Memory => Err(AllocError),
                 _ => Ok(Judgement::Read(error)),
             };
         }
@@ -79,7 +79,7 @@ pub fn judge<A: Allocator + Clone>(
     match first_fault(heap, &tree) {
         Ok(()) => Ok(Judgement::Good),
         Err(error) => match error.kind {
-            CheckKind::Memory => Err(Fault::Memory),
+            CheckKind::Memory => Err(AllocError),
             _ => Ok(Judgement::Check(error)),
         },
     }

@@ -8,7 +8,7 @@ use std::process::Abort;
 use std::test::Fail;
 use std::{env, fs, io, process};
 
-const FIRST: &str = "\
+pub const FIRST: &str = "\
 class: LAMP
   state: OFF
     action: LIGHT
@@ -33,7 +33,7 @@ objectset: G { L }
 ";
 
 // A domain with more forms that are read, and not executed yet.
-const SUPPLIES: &str = "\
+pub const SUPPLIES: &str = "\
 class: SUPPLY /associated
   state: OFF /initial_state
     action: SWITCH_ON
@@ -398,6 +398,7 @@ fn output_faults(rt: HostRuntime) -> Result<(), Fail> {
         STEP,
         &["smirun", "--help"],
         &["smirun", "print", "domain.sml"],
+        &["smirun", "check", "domain.sml"],
     ] {
         expect_output_fault(&rt, words, &mut Fails)?;
         expect_output_fault(&rt, words, &mut TakesNothing)?;
@@ -418,12 +419,13 @@ fn expect_wrong_words<R: Files + AllocGlobal + Abort>(rt: &R, words: &[&str]) ->
 #[test]
 fn wrong_command_lines(rt: HostRuntime) -> Result<(), Fail> {
     let step_lines: [&[&str]; 4] = [&[], &["a"], &["a", "b", "c"], &["a", "b", "--workers", "2"]];
-    let other_lines: [&[&str]; 6] = [
+    let other_lines: [&[&str]; 7] = [
         &[],
         &["smirun"],
         &["smirun", "print"],
         &["smirun", "print", "a", "b"],
-        &["smirun", "check", "a"],
+        &["smirun", "check"],
+        &["smirun", "audit", "a"],
         &["smirun", "--x"],
     ];
     for words in other_lines {
