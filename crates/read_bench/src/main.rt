@@ -1,4 +1,4 @@
-//! The program `read_bench`: how fast texts of domains are read.
+//! The program `read_bench`: how fast texts of domains are read, checked and printed.
 #![tactic(auto)]
 
 mod made_text;
@@ -13,15 +13,16 @@ use std::time::Clock;
 use std::{env, fs};
 
 const USAGE: &str = "\
-Times the reading of domain texts, with the dropping of what was read, and the printing of files.
+Times the reading of domain texts, with the dropping of what was read, and the checking and the
+printing of files.
 Nothing is timed without words.
 
 usage: read_bench time ROUNDS         over made texts: one of 1 MiB, and sixteen of 64 KiB
        read_bench time ROUNDS FILE    over the text of FILE
        read_bench write FILE CLASSES  writes a made text, for other readers
 
-The least time of so many rounds is printed, of reading into memory of Global and into an arena, and
-of printing, with the speed in MB/s (a million bytes a second, of the texts that were read). A made
+The least time of so many rounds is printed, of reading into memory of Global and into an arena, of
+checking and of printing, with the speed in MB/s (a million bytes a second, of the texts that were read). A made
 text is legal. It has 4 KiB, and 20 KiB more for each class, and CLASSES is 3 to 51.";
 
 fn main(rt: HostRuntime) -> Result<()> {

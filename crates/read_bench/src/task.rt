@@ -2,6 +2,7 @@
 
 use anyhow::{Result, anyhow};
 use bumpalo::Bump;
+use sml_faults::first_fault;
 use sml_print::write_to;
 use sml_read::read;
 use sml_tree::file::SmlFile;
@@ -15,18 +16,21 @@ pub enum Task {
     Read,
     /// The same in an arena, which is reset.
     ReadInArena,
+    /// Files that were read before are checked.
+    Check,
     /// Files that were read before are printed, into one text.
     Print,
 }
 
 /// All that is timed.
-pub const TASKS: [Task; 3] = [Task::Read, Task::ReadInArena, Task::Print];
+pub const TASKS: [Task; 4] = [Task::Read, Task::ReadInArena, Task::Check, Task::Print];
 
 impl Task {
     pub fn name(self) -> &'static str {
         match self {
             Task::Read => "read, Global",
             Task::ReadInArena => "read, arena",
+            Task::Check => "check",
             Task::Print => "print",
         }
     }
@@ -41,6 +45,7 @@ impl Task {
         match self {
             Task::Read => time_read(rt, texts),
             Task::ReadInArena => time_read_in_arena(rt, arena, texts),
+            Task::Check => time_checking(rt, texts),
             Task::Print => time_printing(rt, texts),
         }
     }
@@ -56,6 +61,15 @@ fn time_read_in_arena<R: Clock>(rt: &R, arena: &mut Bump, texts: &[Vec<u8>]) -> 
     let start = Instant::now(rt)?;
     drop(files_of(&*arena, texts)?);
     arena.reset()?;
+    Ok(start.elapsed(rt)?)
+}
+
+fn time_checking<R: Clock + AllocGlobal>(rt: &R, texts: &[Vec<u8>]) -> Result<Duration> {
+    let files = files_of(rt.alloc(), texts)?;
+    let start = Instant::now(rt)?;
+    for file in &files {
+        first_fault(rt.alloc(), file).map_err(|error| anyhow!("a file is refused: {error}"))?;
+    }
     Ok(start.elapsed(rt)?)
 }
 

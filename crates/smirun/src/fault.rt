@@ -128,7 +128,13 @@ impl fmt::Display for Fault<'_> {
                     kind.name()
                 )
             }
-            Fault::Check(file, error) => write_check(f, file, error),
+            Fault::Check(file, CheckError { kind, name }) => write!(
+                f,
+                "{file} check {} {} {}",
+                kind.number(),
+                kind.name(),
+                name.as_str()
+            ),
             Fault::NotYet(file) => write!(f, "{file} not yet"),
             Fault::Unreadable(file) => write!(f, "{file} unreadable"),
             Fault::TooLong(file) => write!(f, "{file} too long"),
@@ -137,21 +143,4 @@ impl fmt::Display for Fault<'_> {
             Fault::Memory => f.write_str("memory"),
         }
     }
-}
-
-fn write_check<W: fmt::Write>(
-    f: &mut fmt::Formatter<W>,
-    file: &str,
-    error: &CheckError,
-) -> fmt::Result {
-    write!(
-        f,
-        "{file} check {} {} ",
-        error.kind.number(),
-        error.kind.name()
-    )?;
-    for byte in error.name.as_bytes() {
-        f.write_char(*byte as char)?;
-    }
-    Ok(())
 }
