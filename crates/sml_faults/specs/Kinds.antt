@@ -1,8 +1,8 @@
 -- All faults of a file: by their numbers, and of one number in the order of the text.
-use Rattle.std.specs.Prelude.{◌≡◌, ℕ, Bool, List, [], ◌∷◌, ◌++◌, map, flat_map}
+use Rattle.std.specs.Prelude.{◌≡◌, ℕ, Bool, true, false, List, [], ◌∷◌, ◌++◌, map, flat_map}
 use Rattle.sml_tree.specs.Syntax.{ItemData, class, object, group, ClassData, ObjectData, GroupData, ActionData, SendData, ArgData}
 use Rattle.sml_faults.specs.declared.kind.CheckKind.{CheckKind}
-use Rattle.sml_faults.specs.declared.kind.CheckKind.TheVariants.{Duplicate, NoState, TwoInitial, TwoDead, UnknownClass, UnknownObject, UnknownSet, UnknownState, UnknownAction, UnknownParam, KindMismatch, MissingArg, ParamsDiffer, SelfInCondition, AssociatedBody}
+use Rattle.sml_faults.specs.declared.kind.CheckKind.TheVariants.{Duplicate, NoState, TwoInitial, TwoDead, UnknownClass, UnknownObject, UnknownSet, UnknownState, UnknownAction, UnknownParam, KindMismatch, MissingArg, ParamsDiffer, SelfInCondition, AssociatedBody, Memory}
 use Rattle.sml_faults.specs.Sites.{Site, asks, tests, sets, ends, block_sites}
 use Rattle.sml_faults.specs.Lookup.{actions, objects_meant, of_set}
 use Rattle.sml_faults.specs.Repeats.{each_after, repeated_item, repeated_passed}
@@ -47,6 +47,17 @@ site_faults kind file c a (asks s) = send_faults kind file c a s (objects_meant 
 site_faults kind file c a (tests t) = test_faults kind file c (of_set t.scope) t.name t.states
 site_faults kind file c a (sets n v) = set_faults kind c a n v
 site_faults kind file c a (ends s) = end_faults kind c s
+
+-- whether a kind has faults in blocks
+abbrev pub stands_in_blocks : CheckKind → Bool
+stands_in_blocks NoState = false
+stands_in_blocks TwoInitial = false
+stands_in_blocks TwoDead = false
+stands_in_blocks UnknownClass = false
+stands_in_blocks ParamsDiffer = false
+stands_in_blocks AssociatedBody = false
+stands_in_blocks Memory = false
+stands_in_blocks kind = true
 
 -- ---- in an item
 

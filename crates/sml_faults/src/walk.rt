@@ -20,6 +20,30 @@ use sml_tree::literal::{Arg, Passed};
 use sml_tree::name::Name;
 use std::alloc::Allocator;
 
+// Whether a kind has faults in blocks.
+fn stands_in_blocks(kind: CheckKind) -> bool
+    ensures { result ≡ kinds.stands_in_blocks kind }
+{
+    match kind {
+        CheckKind::NoState
+        | CheckKind::TwoInitial
+        | CheckKind::TwoDead
+        | CheckKind::UnknownClass
+        | CheckKind::ParamsDiffer
+        | CheckKind::AssociatedBody
+        | CheckKind::Memory => false,
+        CheckKind::Duplicate
+        | CheckKind::UnknownObject
+        | CheckKind::UnknownSet
+        | CheckKind::UnknownState
+        | CheckKind::UnknownAction
+        | CheckKind::UnknownParam
+        | CheckKind::KindMismatch
+        | CheckKind::MissingArg
+        | CheckKind::SelfInCondition => true,
+    }
+}
+
 // The fault of a kind at a `set`.
 fn set_fault<A: Allocator + Clone>(
     kind: CheckKind,
@@ -121,15 +145,22 @@ impl<'a, A: Allocator + Clone> Tables<'a, A> {
     ) -> Option<Name>
         ensures { result ≡ look.first (kinds.send_faults kind (file_content self.now.file.now) (class_content class.now) (action_content action.now) (record { action = called.now; args = map passed_content args.now; all = all; target = target.now }) (look.objects_meant (file_content self.now.file.now) all target.now)) }
     {
-        let objects = self.objects_meant(all, target);
         match kind {
             CheckKind::Duplicate => repeated_passed(args),
             CheckKind::UnknownObject => self.unknown_object(all, target),
             CheckKind::UnknownSet => self.unknown_set(all, target),
-            CheckKind::UnknownAction => self.unknown_action(called, objects),
-            CheckKind::UnknownParam => self.unknown_param(called, objects, class, action, args),
-            CheckKind::KindMismatch => self.mismatched(called, objects, class, action, args),
-            CheckKind::MissingArg => self.missing_arg(called, args, objects),
+            CheckKind::UnknownAction => {
+                self.unknown_action(called, self.objects_meant(all, target))
+            }
+            CheckKind::UnknownParam => {
+                self.unknown_param(called, self.objects_meant(all, target), class, action, args)
+            }
+            CheckKind::KindMismatch => {
+                self.mismatched(called, self.objects_meant(all, target), class, action, args)
+            }
+            CheckKind::MissingArg => {
+                self.missing_arg(called, args, self.objects_meant(all, target))
+            }
             CheckKind::NoState
             | CheckKind::TwoInitial
             | CheckKind::TwoDead
@@ -226,7 +257,13 @@ impl<'a, A: Allocator + Clone> Tables<'a, A> {
     {
         match action_head(kind, class, action) {
             Some(name) => Some(name),
-            None => self.block_fault(kind, class, action, &action.body),
+            None => {
+                if stands_in_blocks(kind) {
+                    self.block_fault(kind, class, action, &action.body)
+                } else {
+                    None
+                }
+            }
         }
     }
 

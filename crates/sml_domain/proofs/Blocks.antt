@@ -1,0 +1,66 @@
+-- The trees of numbered blocks.
+use Rattle.std.proofs.Common.{◌≡◌, ℕ, ◌+◌, ◌<◌, ◌≤◌, List, [], ◌∷◌, ◌++◌, length, refl, ap, sym, ◌∙◌, arith, length-append, drop, zero, suc, subst, ⊎_elim}
+use Rattle.std.proofs.Math.ListN.{get_or-append}
+use Rattle.std.proofs.Math.Seq.{get_or-append_seam}
+use Rattle.std.proofs.lemmas.List.{get_or_past}
+use Rattle.std.proofs.lemmas.Bool.{cases_lt}
+use Rattle.sml_domain.specs.declared.instr.Instr.{Instr}
+use Rattle.sml_domain.specs.declared.instr.Instr.TheVariants.{Set, Send, SendNone, If, End}
+use Rattle.sml_domain.specs.Program.{Program, Nothing, IfThen}
+use Rattle.sml_domain.specs.Trees.{formula, tree_at, with_instr, onto, trees_from, trees_of}
+use Rattle.sml_domain.specs.Domain.{Domain}
+use Rattle.sml_domain.specs.Sound.{IsSound, EachBegins}
+use Rattle.sml_domain.specs.Places.{NamesBefore, NameBefore, AreOrdered, instrs_at, left_at}
+
+pub with_kept : (n : ℕ) (xs ys : List Program) (i : Instr) (k : Program) → ((j : ℕ) → j < n → tree_at ys j ≡ tree_at xs j) → NamesBefore n i → with_instr ys i k ≡ with_instr xs i k
+with_kept n xs ys (Set p v) k same h = refl
+with_kept n xs ys (Send t a args) k same h = refl
+with_kept n xs ys (SendNone set) k same h = refl
+with_kept n xs ys (If c a b) k same h = ap (λ t. IfThen (formula c) t (tree_at ys b) k) (same a h.0) ∙ ap (λ t. IfThen (formula c) (tree_at xs a) t k) (same b h.1)
+with_kept n xs ys (End s) k same h = refl
+
+pub onto_kept : (n : ℕ) (xs ys : List Program) (is : List Instr) (k : Program) → ((j : ℕ) → j < n → tree_at ys j ≡ tree_at xs j) → NameBefore n is → onto ys is k ≡ onto xs is k
+onto_kept n xs ys [] k same h = refl
+onto_kept n xs ys (i ∷ is) k same h = ap (with_instr ys i) (onto_kept n xs ys is k same h.1) ∙ with_kept n xs ys i (onto xs is k) same h.0
+
+-- more blocks leave the trees of those before
+pub trees_kept : (known : List Program) (blocks : List (List Instr)) (j : ℕ) → j < length known → tree_at (trees_from known blocks) j ≡ tree_at known j
+trees_kept known [] j h = refl
+trees_kept known (b ∷ bs) j h =
+    let t : Program = onto known b Nothing in
+    trees_kept (known ++ t ∷ []) bs j (omega (arith, h, length-append known (t ∷ []))) ∙ get_or-append known (t ∷ []) Nothing j h
+
+pub length-trees : (known : List Program) (blocks : List (List Instr)) → length (trees_from known blocks) ≡ length known + length blocks
+length-trees known [] = omega arith
+length-trees known (b ∷ bs) = let t : Program = onto known b Nothing in omega (arith, length-trees (known ++ t ∷ []) bs, length-append known (t ∷ []))
+
+-- the tree of a block is that of its instructions
+tree_here : (known : List Program) (blocks : List (List Instr)) (i : ℕ) → AreOrdered (length known) blocks → i < length blocks
+    → tree_at (trees_from known blocks) (length known + i) ≡ onto (trees_from known blocks) (instrs_at blocks i) Nothing
+tree_here known [] i h lt = absurd (omega (arith, lt))
+tree_here known (b ∷ bs) zero h lt =
+    let t : Program = onto known b Nothing in
+    let all : List Program = trees_from (known ++ t ∷ []) bs in
+    let at : length known + 0 ≡ length known = omega arith in
+    ap (tree_at all) at ∙ trees_kept (known ++ t ∷ []) bs (length known) (omega (arith, length-append known (t ∷ [])))
+    ∙ get_or-append_seam known t [] Nothing ∙ sym (onto_kept (length known) known all b Nothing (trees_kept known (b ∷ bs)) h.0)
+tree_here known (b ∷ bs) (suc i) h lt =
+    let t : Program = onto known b Nothing in
+    let long : length (known ++ t ∷ []) ≡ suc (length known) = omega (arith, length-append known (t ∷ [])) in
+    let e : length (known ++ t ∷ []) + i ≡ length known + suc i = omega (arith, long) in
+    sym (ap (tree_at (trees_from (known ++ t ∷ []) bs)) e)
+    ∙ tree_here (known ++ t ∷ []) bs i (subst (λ n. AreOrdered n bs) (sym long) h.1) (omega (arith, lt))
+
+-- what is left of a block at its beginning is its tree
+pub left_first : (blocks : List (List Instr)) (b : ℕ) → AreOrdered 0 blocks → left_at blocks b 0 ≡ tree_at (trees_of blocks) b
+left_first blocks b h = ⊎_elim
+    (λ (lt : b < length blocks).
+    let e : 0 + b ≡ b = omega arith in
+    sym (sym (ap (tree_at (trees_of blocks)) e) ∙ tree_here [] blocks b h lt))
+    (λ (le : length blocks ≤ b).
+    ap (λ is. onto (trees_of blocks) (drop 0 is) Nothing) (get_or_past blocks b [] le)
+    ∙ sym (get_or_past (trees_of blocks) b Nothing (omega (arith, le, length-trees [] blocks))))
+    (cases_lt b (length blocks))
+
+pub left_of_sound : (d : Domain) → IsSound d → EachBegins d
+left_of_sound d s = λ b. left_first d.blocks b s.range.blocks

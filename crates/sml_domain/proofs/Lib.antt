@@ -1,0 +1,8 @@
+pub mod Strings
+pub mod Finds
+pub mod Ranges
+pub mod Blocks
+pub mod Numbers
+pub mod Completes
+pub mod Laws
+pub mod Example

@@ -1,0 +1,14 @@
+pub mod Errors
+pub mod Texts
+pub mod Values
+pub mod Names
+pub mod Program
+pub mod Domain
+pub mod Trees
+pub mod Lookups
+pub mod Places
+pub mod Completing
+pub mod Fits
+pub mod Sound
+pub mod Laws
+pub mod Example

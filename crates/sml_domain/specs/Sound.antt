@@ -1,0 +1,99 @@
+-- What is so of every domain: its numbers are its own, and values have the kinds of their parameters.
+use Rattle.std.specs.Prelude.{◌≡◌, ◌<◌, ℕ, true, List, All, IfSome, IsSomeAnd, length, map}
+use Rattle.sml_tree.specs.declared.file.Kind.{Kind}
+use Rattle.sml_domain.specs.declared.value.Value.{Value}
+use Rattle.sml_domain.specs.Names.{AreDistinct}
+use Rattle.sml_domain.specs.Values.{kind_of}
+use Rattle.sml_domain.specs.Program.{Program}
+use Rattle.sml_domain.specs.Domain.{Domain, Class, State, Action, Signature, Object, Group, Param}
+use Rattle.sml_domain.specs.Lookups.{has_state, class_at, signature_in, name_of_object, tree_of_block}
+use Rattle.sml_domain.specs.Places.{AreOrdered, left_at}
+use Rattle.sml_domain.specs.Fits.{ProgramFits}
+
+-- a value has the kind
+abbrev pub IsOfKind : Kind → Value → Type 0
+IsOfKind kind v = kind_of v ≡ kind
+
+-- the default of a parameter, if it has one, has its kind
+abbrev pub ParamFits : Param → Type 0
+ParamFits p = IfSome p.value (IsOfKind p.kind)
+
+-- a parameter of a class has a value, of its kind
+abbrev pub ClassParamFits : Param → Type 0
+ClassParamFits p = IsSomeAnd p.value (IsOfKind p.kind)
+
+-- the name of a parameter
+abbrev pub name_of_param : Param → List ℕ
+name_of_param p = p.name
+
+-- the parameters of an action: no two have one name, and defaults have their kinds
+pub record SignatureFits (d : Domain) (x : Signature) : Type 0 where
+  pub action : x.action < length d.actions
+  pub params : All ParamFits x.params
+  pub apart : AreDistinct (map name_of_param x.params)
+
+-- a program fits a class, and the parameters of an action
+abbrev pub TakesParams : Domain → Class → Program → Signature → Type 0
+TakesParams d c program x = ProgramFits d c x.params program
+
+-- a block fits the class and the parameters that it lists for the action
+abbrev pub FitsClass : Domain → ℕ → ℕ → Class → Type 0
+FitsClass d a b c = IsSomeAnd (signature_in a c) (TakesParams d c (tree_of_block d b))
+
+-- an action of a state: its class lists its parameters, and what it does fits them
+pub record ActionFits (d : Domain) (c : Class) (a : Action) : Type 0 where
+  pub number : a.number < length d.actions
+  pub block : a.block < length d.blocks
+  pub program : FitsClass d a.number a.block c
+
+-- a state
+pub record StateFits (d : Domain) (c : Class) (s : State) : Type 0 where
+  pub number : s.number < length d.states
+  pub actions : All (ActionFits d c) s.actions
+
+-- a class, whose initial and dead state are among its states
+pub record ClassFits (d : Domain) (c : Class) : Type 0 where
+  pub params : All ClassParamFits c.params
+  pub apart : AreDistinct (map name_of_param c.params)
+  pub states : All (StateFits d c) c.states
+  pub initial : has_state c.initial c ≡ true
+  pub dead : has_state c.dead c ≡ true
+  pub signatures : All (SignatureFits d) c.signatures
+
+-- a block fits the class of the object, and the parameters of the action
+abbrev pub BlockFits : Domain → ℕ → ℕ → ℕ → Type 0
+BlockFits d o a b = IsSomeAnd (class_at d o) (FitsClass d a b)
+
+-- an object is there
+abbrev pub IsObject : Domain → ℕ → Type 0
+IsObject d o = o < length d.objects
+
+-- an object's class is there
+abbrev pub ObjectFits : Domain → Object → Type 0
+ObjectFits d o = o.class < length d.classes
+
+-- the members of a set are there
+abbrev pub GroupFits : Domain → Group → Type 0
+GroupFits d g = All (IsObject d) g.members
+
+-- all numbers of a domain are its own, and each block names those before it
+pub record AreInRange (d : Domain) : Type 0 where
+  pub objects : All (ObjectFits d) d.objects
+  pub classes : All (ClassFits d) d.classes
+  pub groups : All (GroupFits d) d.groups
+  pub blocks : AreOrdered 0 d.blocks
+
+-- no two objects, state names or action names are one
+pub record HaveOneNumber (d : Domain) : Type 0 where
+  pub objects : AreDistinct (map name_of_object d.objects)
+  pub states : AreDistinct d.states
+  pub actions : AreDistinct d.actions
+
+-- a domain is as it should be
+pub record IsSound (d : Domain) : Type 0 where
+  pub range : AreInRange d
+  pub names : HaveOneNumber d
+
+-- what is left of a block at its beginning is its tree
+abbrev pub EachBegins : Domain → Type 0
+EachBegins d = (b : ℕ) → left_at d.blocks b 0 ≡ tree_of_block d b

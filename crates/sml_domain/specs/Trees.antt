@@ -1,0 +1,68 @@
+-- The trees that numbered blocks stand for.
+use Rattle.std.specs.Prelude.{ℕ, List, [], ◌∷◌, ◌++◌, map, slice_index_or}
+use Rattle.sml_domain.specs.declared.instr.Operand.{Operand as Numbered}
+use Rattle.sml_domain.specs.declared.instr.Operand.TheVariants as operands
+use Rattle.sml_domain.specs.declared.instr.Argument.{Argument as Passed}
+use Rattle.sml_domain.specs.declared.instr.Target.{Target as Sent}
+use Rattle.sml_domain.specs.declared.instr.Target.TheVariants as targets
+use Rattle.sml_domain.specs.declared.instr.Asked.{Asked as Scope}
+use Rattle.sml_domain.specs.declared.instr.Asked.TheVariants as scopes
+use Rattle.sml_domain.specs.declared.instr.Cond.{Cond, And', Or', Not'}
+use Rattle.sml_domain.specs.declared.instr.Cond.TheVariants as conds
+use Rattle.sml_domain.specs.declared.instr.Instr.{Instr}
+use Rattle.sml_domain.specs.declared.instr.Instr.TheVariants as instrs
+use Rattle.sml_domain.specs.Program.{Operand, Fixed, Own, Given, Argument, Target, ToOne, ToMembers, Asked, OfOne, OfEach, OfAny, Formula, Both, Either, Not, Test, Program, Nothing, SetThen, SendThen, SendNoneThen, IfThen, EndIn}
+
+-- what an operand stands for
+abbrev pub operand : Numbered → Operand
+operand (operands.Fixed v) = Fixed v
+operand (operands.Own p) = Own p
+operand (operands.Given p) = Given p
+
+-- an argument
+abbrev pub argument : Passed → Argument
+argument a = record { name = a.name; value = operand a.value }
+
+-- whom a request is for
+abbrev pub target : Sent → Target
+target (targets.One o) = ToOne o
+target (targets.Members set) = ToMembers set
+
+-- whom a test asks
+abbrev pub asked : Scope → Asked
+asked (scopes.One o) = OfOne o
+asked (scopes.Each set) = OfEach set
+asked (scopes.Any set) = OfAny set
+
+-- a condition, wherever it lies in memory
+abbrev pub formula : Cond → Formula
+formula (And' p a q b) = Both (formula a) (formula b)
+formula (Or' p a q b) = Either (formula a) (formula b)
+formula (Not' p a) = Not (formula a)
+formula (conds.Test s negated states) = Test (asked s) negated states.items
+
+-- the tree of a block, of those that are known
+abbrev pub tree_at : List Program → ℕ → Program
+tree_at known n = slice_index_or known n Nothing
+
+-- an instruction, and what stands after it
+abbrev pub with_instr : List Program → Instr → Program → Program
+with_instr known (instrs.Set p v) rest = SetThen p (operand v) rest
+with_instr known (instrs.Send t a args) rest = SendThen (target t) a (map argument args.items) rest
+with_instr known (instrs.SendNone set) rest = SendNoneThen set rest
+with_instr known (instrs.If c a b) rest = IfThen (formula c) (tree_at known a) (tree_at known b) rest
+with_instr known (instrs.End s) rest = EndIn s
+
+-- instructions, and then what stands after them
+abbrev pub onto : List Program → List Instr → Program → Program
+onto known [] rest = rest
+onto known (i ∷ is) rest = with_instr known i (onto known is rest)
+
+-- the tree of each block, after those that are known
+abbrev pub trees_from : List Program → List (List Instr) → List Program
+trees_from known [] = known
+trees_from known (block ∷ blocks) = trees_from (known ++ onto known block Nothing ∷ []) blocks
+
+-- the trees of the blocks, each of which names those before it
+abbrev pub trees_of : List (List Instr) → List Program
+trees_of blocks = trees_from [] blocks

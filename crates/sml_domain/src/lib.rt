@@ -1,0 +1,15 @@
+//! Domains: numbered names, the blocks of actions, and values.
+#![tactic(auto)]
+
+pub mod domain;
+pub mod domain_laws;
+pub mod error;
+pub mod ids;
+pub mod instr;
+pub mod names;
+pub mod param;
+pub mod rows;
+#[cfg(test)]
+mod tests;
+pub mod text;
+pub mod value;
