@@ -86,7 +86,9 @@ fn judged(fault: Option<(CheckKind, Name)>) -> Result<(), CheckError>
 }
 
 /// Whether a file is well-formed, or else its fault of the lowest number, and of these the first in the
-/// text. The cost is the size of the tree, at each `do` and test times its targets and their actions.
+/// text (docs/LANGUAGE.md, "Well-formed files"). Memory is taken for tables of names alone, and given back.
+/// The cost is the size of the tree, at each `do` times its targets and its arguments, and at each test
+/// times its objects and their states.
 pub fn first_fault<A: Allocator + Clone>(alloc: Global, file: &SmlFile<A>) -> Result<(), CheckError>
     ensures well_formed { OnOk result (IsWellFormed (file_content file.now)) }
     ensures fault { IfErr result (λ e. (e ≡ memory_error) ⊎ (Some (e.kind, e.name) ≡ look.first (all_faults (file_content file.now)))) }

@@ -9,21 +9,37 @@ use std::fmt;
 /// The kinds of faults, by their numbers. (docs/LANGUAGE.md, "Well-formed files".)
 #[derive(Clone, Copy, Debug, PartialEq, Eq)]
 pub enum CheckKind {
+    /// A name is declared twice where it is to stand for one thing.
     Duplicate = 1,
+    /// A class has no states.
     NoState,
+    /// Two states of a class are marked as initial.
     TwoInitial,
+    /// Two states of a class are marked as dead.
     TwoDead,
+    /// An object is of no declared class.
     UnknownClass,
+    /// A member, a target or a tested object is not declared.
     UnknownObject,
+    /// A name behind `all_in` or `any_in` is no set's.
     UnknownSet,
+    /// A state is named that is none there.
     UnknownState,
+    /// A target of a `do` does not have the action.
     UnknownAction,
+    /// A name is no parameter's there.
     UnknownParam,
+    /// A value is of another kind than its parameter.
     KindMismatch,
+    /// A `do` leaves a parameter without a value.
     MissingArg,
+    /// An action has two lists of parameters in one class.
     ParamsDiffer,
+    /// A condition asks an object of its own class.
     SelfInCondition,
+    /// An action of an associated class has instructions.
     AssociatedBody,
+    /// There was no memory.
     Memory,
 }
 
