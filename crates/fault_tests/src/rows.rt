@@ -8,24 +8,104 @@ fn small_texts(rt: HostRuntime) -> Result<(), Fail> {
     let a = rt.alloc();
     assert!(rt; is_told(a, b"class: K class: K", 1, "Duplicate", b"K"));
     assert!(rt; is_told(a, b"class: K", 2, "NoState", b"K"));
-    assert!(rt; is_told(a, b"class: K state: S /initial_state state: T /initial_state", 3, "TwoInitial", b"K"));
-    assert!(rt; is_told(a, b"class: K state: S /dead_state state: T /dead_state", 4, "TwoDead", b"K"));
+    assert!(rt;
+        is_told(
+            a,
+            b"class: K state: S /initial_state state: T /initial_state",
+            3,
+            "TwoInitial",
+            b"K"
+        )
+    );
+    assert!(rt;
+        is_told(
+            a,
+            b"class: K state: S /dead_state state: T /dead_state",
+            4,
+            "TwoDead",
+            b"K"
+        )
+    );
     assert!(rt; is_told(a, b"object: X is_of_class K", 5, "UnknownClass", b"K"));
     assert!(rt; is_told(a, b"objectset: G { X }", 6, "UnknownObject", b"X"));
-    assert!(rt; is_told(a, b"class: K state: S action: GO do GO all_in G", 7, "UnknownSet", b"G"));
-    assert!(rt; is_told(a, b"class: K state: S action: GO move_to U", 8, "UnknownState", b"U"));
+    assert!(rt;
+        is_told(
+            a,
+            b"class: K state: S action: GO do GO all_in G",
+            7,
+            "UnknownSet",
+            b"G"
+        )
+    );
+    assert!(rt;
+        is_told(
+            a,
+            b"class: K state: S action: GO move_to U",
+            8,
+            "UnknownState",
+            b"U"
+        )
+    );
     Ok(())
 }
 
 #[test]
 fn small_texts_of_actions(rt: HostRuntime) -> Result<(), Fail> {
     let a = rt.alloc();
-    assert!(rt; is_told(a, b"class: K state: S action: GO do RUN X object: X is_of_class K", 9, "UnknownAction", b"RUN"));
-    assert!(rt; is_told(a, b"class: K state: S action: GO set N = 1", 10, "UnknownParam", b"N"));
-    assert!(rt; is_told(a, b"class: K parameters: int N = \"a\" state: S", 11, "KindMismatch", b"N"));
-    assert!(rt; is_told(a, b"class: K state: S action: GO (int T) do GO X object: X is_of_class K", 12, "MissingArg", b"T"));
-    assert!(rt; is_told(a, b"class: K state: S action: GO (int T) state: U action: GO", 13, "ParamsDiffer", b"GO"));
-    assert!(rt; is_told(a, b"class: K /associated state: S action: GO move_to S", 15, "AssociatedBody", b"GO"));
+    assert!(rt;
+        is_told(
+            a,
+            b"class: K state: S action: GO do RUN X object: X is_of_class K",
+            9,
+            "UnknownAction",
+            b"RUN"
+        )
+    );
+    assert!(rt;
+        is_told(
+            a,
+            b"class: K state: S action: GO set N = 1",
+            10,
+            "UnknownParam",
+            b"N"
+        )
+    );
+    assert!(rt;
+        is_told(
+            a,
+            b"class: K parameters: int N = \"a\" state: S",
+            11,
+            "KindMismatch",
+            b"N"
+        )
+    );
+    assert!(rt;
+        is_told(
+            a,
+            b"class: K state: S action: GO (int T) do GO X object: X is_of_class K",
+            12,
+            "MissingArg",
+            b"T"
+        )
+    );
+    assert!(rt;
+        is_told(
+            a,
+            b"class: K state: S action: GO (int T) state: U action: GO",
+            13,
+            "ParamsDiffer",
+            b"GO"
+        )
+    );
+    assert!(rt;
+        is_told(
+            a,
+            b"class: K /associated state: S action: GO move_to S",
+            15,
+            "AssociatedBody",
+            b"GO"
+        )
+    );
     assert!(rt; is_ok(a, b"class: K state: S action: GO move_to DEAD"));
     assert!(rt; is_ok(a, b""));
     Ok(())
@@ -35,27 +115,147 @@ fn small_texts_of_actions(rt: HostRuntime) -> Result<(), Fail> {
 #[test]
 fn two_of_a_kind(rt: HostRuntime) -> Result<(), Fail> {
     let a = rt.alloc();
-    assert!(rt; is_told(a, b"class: A state: S state: S class: A state: S", 1, "Duplicate", b"S"));
+    assert!(rt;
+        is_told(
+            a,
+            b"class: A state: S state: S class: A state: S",
+            1,
+            "Duplicate",
+            b"S"
+        )
+    );
     assert!(rt; is_told(a, b"class: B class: A", 2, "NoState", b"B"));
-    assert!(rt; is_told(a, b"class: B state: S /initial_state state: T /initial_state class: A state: S /initial_state state: T /initial_state", 3, "TwoInitial", b"B"));
-    assert!(rt; is_told(a, b"class: B state: S /dead_state state: T /dead_state class: A state: S /dead_state state: T /dead_state", 4, "TwoDead", b"B"));
-    assert!(rt; is_told(a, b"object: X is_of_class L object: A is_of_class K", 5, "UnknownClass", b"L"));
-    assert!(rt; is_told(a, b"class: K state: S action: GO do GO Y objectset: G { X }", 6, "UnknownObject", b"Y"));
-    assert!(rt; is_told(a, b"class: K state: S action: GO do GO all_in G if (any_in F in_state S) then endif", 7, "UnknownSet", b"G"));
-    assert!(rt; is_told(a, b"class: K state: S action: GO terminate_action /state=U move_to T", 8, "UnknownState", b"U"));
+    assert!(rt;
+        is_told(
+            a,
+            b"class: B state: S /initial_state state: T /initial_state class: A state: S /initial_state state: T /initial_state",
+            3,
+            "TwoInitial",
+            b"B"
+        )
+    );
+    assert!(rt;
+        is_told(
+            a,
+            b"class: B state: S /dead_state state: T /dead_state class: A state: S /dead_state state: T /dead_state",
+            4,
+            "TwoDead",
+            b"B"
+        )
+    );
+    assert!(rt;
+        is_told(
+            a,
+            b"object: X is_of_class L object: A is_of_class K",
+            5,
+            "UnknownClass",
+            b"L"
+        )
+    );
+    assert!(rt;
+        is_told(
+            a,
+            b"class: K state: S action: GO do GO Y objectset: G { X }",
+            6,
+            "UnknownObject",
+            b"Y"
+        )
+    );
+    assert!(rt;
+        is_told(
+            a,
+            b"class: K state: S action: GO do GO all_in G if (any_in F in_state S) then endif",
+            7,
+            "UnknownSet",
+            b"G"
+        )
+    );
+    assert!(rt;
+        is_told(
+            a,
+            b"class: K state: S action: GO terminate_action /state=U move_to T",
+            8,
+            "UnknownState",
+            b"U"
+        )
+    );
     Ok(())
 }
 
 #[test]
 fn two_of_a_kind_in_actions(rt: HostRuntime) -> Result<(), Fail> {
     let a = rt.alloc();
-    assert!(rt; is_told(a, b"class: K state: S action: GO do RUN X do FLY X object: X is_of_class K", 9, "UnknownAction", b"RUN"));
-    assert!(rt; is_told(a, b"class: K state: S action: GO set N = M set L = 1", 10, "UnknownParam", b"N"));
-    assert!(rt; is_told(a, b"class: K parameters: int N = 1 state: S action: GO set N = M set L = 1", 10, "UnknownParam", b"M"));
-    assert!(rt; is_told(a, b"class: K parameters: int N = \"a\" state: S action: GO (int T = \"b\")", 11, "KindMismatch", b"N"));
-    assert!(rt; is_told(a, b"class: K state: S action: GO (int U, int T) do GO X object: X is_of_class K", 12, "MissingArg", b"U"));
-    assert!(rt; is_told(a, b"class: K state: S action: RUN (int T) action: GO (int T) state: U action: RUN action: GO", 13, "ParamsDiffer", b"RUN"));
-    assert!(rt; is_told(a, b"class: K state: S action: GO if (Y in_state S and X in_state S) then endif object: X is_of_class K object: Y is_of_class K", 14, "SelfInCondition", b"Y"));
-    assert!(rt; is_told(a, b"class: K /associated state: S action: RUN move_to S action: GO move_to S", 15, "AssociatedBody", b"RUN"));
+    assert!(rt;
+        is_told(
+            a,
+            b"class: K state: S action: GO do RUN X do FLY X object: X is_of_class K",
+            9,
+            "UnknownAction",
+            b"RUN"
+        )
+    );
+    assert!(rt;
+        is_told(
+            a,
+            b"class: K state: S action: GO set N = M set L = 1",
+            10,
+            "UnknownParam",
+            b"N"
+        )
+    );
+    assert!(rt;
+        is_told(
+            a,
+            b"class: K parameters: int N = 1 state: S action: GO set N = M set L = 1",
+            10,
+            "UnknownParam",
+            b"M"
+        )
+    );
+    assert!(rt;
+        is_told(
+            a,
+            b"class: K parameters: int N = \"a\" state: S action: GO (int T = \"b\")",
+            11,
+            "KindMismatch",
+            b"N"
+        )
+    );
+    assert!(rt;
+        is_told(
+            a,
+            b"class: K state: S action: GO (int U, int T) do GO X object: X is_of_class K",
+            12,
+            "MissingArg",
+            b"U"
+        )
+    );
+    assert!(rt;
+        is_told(
+            a,
+            b"class: K state: S action: RUN (int T) action: GO (int T) state: U action: RUN action: GO",
+            13,
+            "ParamsDiffer",
+            b"RUN"
+        )
+    );
+    assert!(rt;
+        is_told(
+            a,
+            b"class: K state: S action: GO if (Y in_state S and X in_state S) then endif object: X is_of_class K object: Y is_of_class K",
+            14,
+            "SelfInCondition",
+            b"Y"
+        )
+    );
+    assert!(rt;
+        is_told(
+            a,
+            b"class: K /associated state: S action: RUN move_to S action: GO move_to S",
+            15,
+            "AssociatedBody",
+            b"RUN"
+        )
+    );
     Ok(())
 }

@@ -6,17 +6,86 @@ use std::test::Fail;
 #[test]
 fn duplicates(rt: HostRuntime) -> Result<(), Fail> {
     let a = rt.alloc();
-    assert!(rt; is_ok(a, b"class: X state: X action: X object: X is_of_class X objectset: X { X }"));
-    assert!(rt; is_told(a, b"class: K state: S object: X is_of_class K object: X is_of_class K", 1, "Duplicate", b"X"));
-    assert!(rt; is_told(a, b"objectset: G { } objectset: G { }", 1, "Duplicate", b"G"));
-    assert!(rt; is_told(a, b"class: K state: S action: GO action: GO", 1, "Duplicate", b"GO"));
+    assert!(rt;
+        is_ok(
+            a,
+            b"class: X state: X action: X object: X is_of_class X objectset: X { X }"
+        )
+    );
+    assert!(rt;
+        is_told(
+            a,
+            b"class: K state: S object: X is_of_class K object: X is_of_class K",
+            1,
+            "Duplicate",
+            b"X"
+        )
+    );
+    assert!(rt;
+        is_told(
+            a,
+            b"objectset: G { } objectset: G { }",
+            1,
+            "Duplicate",
+            b"G"
+        )
+    );
+    assert!(rt;
+        is_told(
+            a,
+            b"class: K state: S action: GO action: GO",
+            1,
+            "Duplicate",
+            b"GO"
+        )
+    );
     assert!(rt; is_ok(a, b"class: K state: S action: GO state: T action: GO"));
-    assert!(rt; is_told(a, b"class: K parameters: int N = 1, int N = 1 state: S", 1, "Duplicate", b"N"));
-    assert!(rt; is_told(a, b"class: K state: S action: GO (int N, int N)", 1, "Duplicate", b"N"));
-    assert!(rt; is_told(a, b"class: K parameters: int N = 1 state: S action: GO (int N)", 1, "Duplicate", b"N"));
+    assert!(rt;
+        is_told(
+            a,
+            b"class: K parameters: int N = 1, int N = 1 state: S",
+            1,
+            "Duplicate",
+            b"N"
+        )
+    );
+    assert!(rt;
+        is_told(
+            a,
+            b"class: K state: S action: GO (int N, int N)",
+            1,
+            "Duplicate",
+            b"N"
+        )
+    );
+    assert!(rt;
+        is_told(
+            a,
+            b"class: K parameters: int N = 1 state: S action: GO (int N)",
+            1,
+            "Duplicate",
+            b"N"
+        )
+    );
     assert!(rt; is_told(a, b"objectset: G { X, Y, X }", 1, "Duplicate", b"X"));
-    assert!(rt; is_told(a, b"class: K state: S action: GO do GO (N = 1, N = 2) X", 1, "Duplicate", b"N"));
-    assert!(rt; is_told(a, b"class: K state: S action: GO (int A, int B, int A) state: S", 1, "Duplicate", b"A"));
+    assert!(rt;
+        is_told(
+            a,
+            b"class: K state: S action: GO do GO (N = 1, N = 2) X",
+            1,
+            "Duplicate",
+            b"N"
+        )
+    );
+    assert!(rt;
+        is_told(
+            a,
+            b"class: K state: S action: GO (int A, int B, int A) state: S",
+            1,
+            "Duplicate",
+            b"A"
+        )
+    );
     Ok(())
 }
 
@@ -24,11 +93,42 @@ fn duplicates(rt: HostRuntime) -> Result<(), Fail> {
 #[test]
 fn states(rt: HostRuntime) -> Result<(), Fail> {
     let a = rt.alloc();
-    assert!(rt; is_ok(a, b"class: K state: S action: GO if (Y in_state { T, T }) then endif class: L state: T object: Y is_of_class L"));
-    assert!(rt; is_ok(a, b"class: K state: S action: GO if (any_in E in_state FOO) then endif objectset: E { }"));
-    assert!(rt; is_told(a, b"class: K state: S action: GO if (Y in_state { T, FOO }) then endif class: L state: T object: Y is_of_class L", 8, "UnknownState", b"FOO"));
-    assert!(rt; is_ok(a, b"class: K state: S action: GO if (all_in G in_state { T, V }) then endif class: L state: T class: M state: V object: Y is_of_class L object: Z is_of_class M objectset: G { Y, Z }"));
-    assert!(rt; is_told(a, b"class: K state: S action: GO if (all_in G in_state { T, S }) then endif class: L state: T class: M state: V object: Y is_of_class L object: Z is_of_class M objectset: G { Y, Z }", 8, "UnknownState", b"S"));
+    assert!(rt;
+        is_ok(
+            a,
+            b"class: K state: S action: GO if (Y in_state { T, T }) then endif class: L state: T object: Y is_of_class L"
+        )
+    );
+    assert!(rt;
+        is_ok(
+            a,
+            b"class: K state: S action: GO if (any_in E in_state FOO) then endif objectset: E { }"
+        )
+    );
+    assert!(rt;
+        is_told(
+            a,
+            b"class: K state: S action: GO if (Y in_state { T, FOO }) then endif class: L state: T object: Y is_of_class L",
+            8,
+            "UnknownState",
+            b"FOO"
+        )
+    );
+    assert!(rt;
+        is_ok(
+            a,
+            b"class: K state: S action: GO if (all_in G in_state { T, V }) then endif class: L state: T class: M state: V object: Y is_of_class L object: Z is_of_class M objectset: G { Y, Z }"
+        )
+    );
+    assert!(rt;
+        is_told(
+            a,
+            b"class: K state: S action: GO if (all_in G in_state { T, S }) then endif class: L state: T class: M state: V object: Y is_of_class L object: Z is_of_class M objectset: G { Y, Z }",
+            8,
+            "UnknownState",
+            b"S"
+        )
+    );
     Ok(())
 }
 
@@ -36,11 +136,42 @@ fn states(rt: HostRuntime) -> Result<(), Fail> {
 #[test]
 fn dead(rt: HostRuntime) -> Result<(), Fail> {
     let a = rt.alloc();
-    assert!(rt; is_ok(a, b"class: K state: S action: GO terminate_action /state=DEAD"));
-    assert!(rt; is_told(a, b"class: K state: S /dead_state action: GO move_to DEAD", 8, "UnknownState", b"DEAD"));
-    assert!(rt; is_ok(a, b"class: K state: S /dead_state action: GO move_to DEAD state: DEAD"));
-    assert!(rt; is_ok(a, b"class: K state: S action: GO if (Y in_state DEAD) then endif class: L state: T object: Y is_of_class L"));
-    assert!(rt; is_told(a, b"class: K state: S action: GO if (Y in_state DEAD) then endif class: L state: T /dead_state object: Y is_of_class L", 8, "UnknownState", b"DEAD"));
+    assert!(rt;
+        is_ok(
+            a,
+            b"class: K state: S action: GO terminate_action /state=DEAD"
+        )
+    );
+    assert!(rt;
+        is_told(
+            a,
+            b"class: K state: S /dead_state action: GO move_to DEAD",
+            8,
+            "UnknownState",
+            b"DEAD"
+        )
+    );
+    assert!(rt;
+        is_ok(
+            a,
+            b"class: K state: S /dead_state action: GO move_to DEAD state: DEAD"
+        )
+    );
+    assert!(rt;
+        is_ok(
+            a,
+            b"class: K state: S action: GO if (Y in_state DEAD) then endif class: L state: T object: Y is_of_class L"
+        )
+    );
+    assert!(rt;
+        is_told(
+            a,
+            b"class: K state: S action: GO if (Y in_state DEAD) then endif class: L state: T /dead_state object: Y is_of_class L",
+            8,
+            "UnknownState",
+            b"DEAD"
+        )
+    );
     assert!(rt; is_ok(a, b"class: K state: S /initial_state /dead_state"));
     Ok(())
 }
@@ -49,28 +180,141 @@ fn dead(rt: HostRuntime) -> Result<(), Fail> {
 #[test]
 fn sets(rt: HostRuntime) -> Result<(), Fail> {
     let a = rt.alloc();
-    assert!(rt; is_ok(a, b"class: K state: S action: GO do RUN (N = 1) all_in E objectset: E { }"));
-    assert!(rt; is_told(a, b"class: K state: S action: GO do RUN (N = M) all_in E objectset: E { }", 10, "UnknownParam", b"M"));
-    assert!(rt; is_told(a, b"class: K state: S action: GO do RUN all_in G class: L state: T action: RUN class: M state: T object: Y is_of_class L object: Z is_of_class M objectset: G { Y, Z }", 9, "UnknownAction", b"RUN"));
-    assert!(rt; is_told(a, b"class: K state: S action: GO do RUN (N = 1) all_in G class: L state: T action: RUN (int N) class: M state: T action: RUN object: Y is_of_class L object: Z is_of_class M objectset: G { Y, Z }", 10, "UnknownParam", b"N"));
-    assert!(rt; is_told(a, b"class: K state: S action: GO do RUN (N = 1) all_in G class: L state: T action: RUN (int N) class: M state: T action: RUN (string N) object: Y is_of_class L object: Z is_of_class M objectset: G { Y, Z }", 11, "KindMismatch", b"N"));
-    assert!(rt; is_told(a, b"class: K state: S action: GO do RUN all_in G class: L state: T action: RUN (int N, int P) class: M state: T action: RUN (int O) object: Y is_of_class L object: Z is_of_class M objectset: G { Z, Y }", 12, "MissingArg", b"O"));
-    assert!(rt; is_ok(a, b"class: K state: S action: GO do RUN (N = 1) all_in G class: L state: T action: RUN (int N) class: M state: T action: RUN (int O = 2, int N) object: Y is_of_class L object: Z is_of_class M objectset: G { Z, Y }"));
+    assert!(rt;
+        is_ok(
+            a,
+            b"class: K state: S action: GO do RUN (N = 1) all_in E objectset: E { }"
+        )
+    );
+    assert!(rt;
+        is_told(
+            a,
+            b"class: K state: S action: GO do RUN (N = M) all_in E objectset: E { }",
+            10,
+            "UnknownParam",
+            b"M"
+        )
+    );
+    assert!(rt;
+        is_told(
+            a,
+            b"class: K state: S action: GO do RUN all_in G class: L state: T action: RUN class: M state: T object: Y is_of_class L object: Z is_of_class M objectset: G { Y, Z }",
+            9,
+            "UnknownAction",
+            b"RUN"
+        )
+    );
+    assert!(rt;
+        is_told(
+            a,
+            b"class: K state: S action: GO do RUN (N = 1) all_in G class: L state: T action: RUN (int N) class: M state: T action: RUN object: Y is_of_class L object: Z is_of_class M objectset: G { Y, Z }",
+            10,
+            "UnknownParam",
+            b"N"
+        )
+    );
+    assert!(rt;
+        is_told(
+            a,
+            b"class: K state: S action: GO do RUN (N = 1) all_in G class: L state: T action: RUN (int N) class: M state: T action: RUN (string N) object: Y is_of_class L object: Z is_of_class M objectset: G { Y, Z }",
+            11,
+            "KindMismatch",
+            b"N"
+        )
+    );
+    assert!(rt;
+        is_told(
+            a,
+            b"class: K state: S action: GO do RUN all_in G class: L state: T action: RUN (int N, int P) class: M state: T action: RUN (int O) object: Y is_of_class L object: Z is_of_class M objectset: G { Z, Y }",
+            12,
+            "MissingArg",
+            b"O"
+        )
+    );
+    assert!(rt;
+        is_ok(
+            a,
+            b"class: K state: S action: GO do RUN (N = 1) all_in G class: L state: T action: RUN (int N) class: M state: T action: RUN (int O = 2, int N) object: Y is_of_class L object: Z is_of_class M objectset: G { Z, Y }"
+        )
+    );
     Ok(())
 }
 
 #[test]
 fn parameters(rt: HostRuntime) -> Result<(), Fail> {
     let a = rt.alloc();
-    assert!(rt; is_told(a, b"class: K state: S action: GO (int T) set T = 1", 10, "UnknownParam", b"T"));
-    assert!(rt; is_ok(a, b"class: K parameters: int N = 1 state: S action: GO (int T) set N = T set N = N"));
-    assert!(rt; is_told(a, b"class: K parameters: int N = 1 state: S action: GO (string T) set N = T", 11, "KindMismatch", b"N"));
-    assert!(rt; is_told(a, b"class: K state: S action: GO do RUN (B = C, A = D) Y class: L state: T action: RUN (int A) object: Y is_of_class L", 10, "UnknownParam", b"B"));
-    assert!(rt; is_told(a, b"class: K state: S action: GO do RUN (A = D, B = C) Y class: L state: T action: RUN (int A) object: Y is_of_class L", 10, "UnknownParam", b"D"));
-    assert!(rt; is_ok(a, b"class: K state: S action: GO (int T = -07) state: U action: GO (int T = -7)"));
-    assert!(rt; is_told(a, b"class: K state: S action: GO (int T = 7) state: U action: GO (int T = -7)", 13, "ParamsDiffer", b"GO"));
-    assert!(rt; is_told(a, b"class: K state: S action: GO (int T, int U) state: U action: GO (int U, int T)", 13, "ParamsDiffer", b"GO"));
-    assert!(rt; is_ok(a, b"class: K state: S action: GO do RUN Y class: L state: T action: RUN (int A = 1) state: U action: RUN (int A = 1) object: Y is_of_class L"));
+    assert!(rt;
+        is_told(
+            a,
+            b"class: K state: S action: GO (int T) set T = 1",
+            10,
+            "UnknownParam",
+            b"T"
+        )
+    );
+    assert!(rt;
+        is_ok(
+            a,
+            b"class: K parameters: int N = 1 state: S action: GO (int T) set N = T set N = N"
+        )
+    );
+    assert!(rt;
+        is_told(
+            a,
+            b"class: K parameters: int N = 1 state: S action: GO (string T) set N = T",
+            11,
+            "KindMismatch",
+            b"N"
+        )
+    );
+    assert!(rt;
+        is_told(
+            a,
+            b"class: K state: S action: GO do RUN (B = C, A = D) Y class: L state: T action: RUN (int A) object: Y is_of_class L",
+            10,
+            "UnknownParam",
+            b"B"
+        )
+    );
+    assert!(rt;
+        is_told(
+            a,
+            b"class: K state: S action: GO do RUN (A = D, B = C) Y class: L state: T action: RUN (int A) object: Y is_of_class L",
+            10,
+            "UnknownParam",
+            b"D"
+        )
+    );
+    assert!(rt;
+        is_ok(
+            a,
+            b"class: K state: S action: GO (int T = -07) state: U action: GO (int T = -7)"
+        )
+    );
+    assert!(rt;
+        is_told(
+            a,
+            b"class: K state: S action: GO (int T = 7) state: U action: GO (int T = -7)",
+            13,
+            "ParamsDiffer",
+            b"GO"
+        )
+    );
+    assert!(rt;
+        is_told(
+            a,
+            b"class: K state: S action: GO (int T, int U) state: U action: GO (int U, int T)",
+            13,
+            "ParamsDiffer",
+            b"GO"
+        )
+    );
+    assert!(rt;
+        is_ok(
+            a,
+            b"class: K state: S action: GO do RUN Y class: L state: T action: RUN (int A = 1) state: U action: RUN (int A = 1) object: Y is_of_class L"
+        )
+    );
     Ok(())
 }
 

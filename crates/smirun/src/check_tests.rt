@@ -79,7 +79,10 @@ fn tells_refused_files(rt: HostRuntime) -> Result<(), Fail> {
     for (text, told) in [
         ("class", "domain.sml read 4 Unexpected at 5\n"),
         (ASKS_ITSELF, "domain.sml check 14 SelfInCondition X\n"),
-        ("class: k object: x is_of_class k objectset: g { X, x }", "domain.sml check 1 Duplicate X\n"),
+        (
+            "class: k object: x is_of_class k objectset: g { X, x }",
+            "domain.sml check 1 Duplicate X\n",
+        ),
         ("class: k", "domain.sml check 2 NoState K\n"),
     ] {
         fs::write(&rt, "domain.sml", text.as_bytes())?;
@@ -95,7 +98,15 @@ fn checks_several_files(rt: HostRuntime) -> Result<(), Fail> {
     fs::write(&rt, "first.sml", FIRST.as_bytes())?;
     fs::write(&rt, "own.sml", ASKS_ITSELF.as_bytes())?;
     fs::write(&rt, "cut.sml", b"class: A\n  state")?;
-    let words = &["smirun", "check", "first.sml", "own.sml", "none.sml", "cut.sml", "first.sml"];
+    let words = &[
+        "smirun",
+        "check",
+        "first.sml",
+        "own.sml",
+        "none.sml",
+        "cut.sml",
+        "first.sml",
+    ];
     let told = "\
 first.sml ok
 own.sml check 14 SelfInCondition X
@@ -104,6 +115,12 @@ cut.sml read 4 Unexpected at 16
 first.sml ok
 ";
     expect(&rt, words, 1, told, "")?;
-    expect(&rt, &["smirun", "check", "first.sml", "first.sml"], 0, "first.sml ok\nfirst.sml ok\n", "")?;
+    expect(
+        &rt,
+        &["smirun", "check", "first.sml", "first.sml"],
+        0,
+        "first.sml ok\nfirst.sml ok\n",
+        "",
+    )?;
     leave(&rt)
 }
