@@ -325,3 +325,28 @@ fn associated(rt: HostRuntime) -> Result<(), Fail> {
     assert!(rt; is_ok(a, b"class: K state: S action: GO move_to S"));
     Ok(())
 }
+
+// The name of a value is looked up in the list of the action that it stands in, not in the first one of that name.
+#[test]
+fn values_of_the_second_list(rt: HostRuntime) -> Result<(), Fail> {
+    let a = rt.alloc();
+    assert!(rt;
+        is_told(
+            a,
+            b"class: K parameters: int N = 1 state: S action: GO (int T) state: U action: GO set N = T",
+            10,
+            "UnknownParam",
+            b"T"
+        )
+    );
+    assert!(rt;
+        is_told(
+            a,
+            b"class: K parameters: int N = 1 state: S action: GO state: U action: GO (int T) set N = T",
+            13,
+            "ParamsDiffer",
+            b"GO"
+        )
+    );
+    Ok(())
+}
