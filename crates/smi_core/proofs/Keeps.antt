@@ -11,7 +11,8 @@ use Rattle.smi_core.specs.declared.entry.Request.{Request}
 use Rattle.smi_core.specs.declared.entry.Entry.TheVariants.{Start, Post, End}
 use Rattle.smi_core.specs.declared.instr.Instr.{Instr}
 use Rattle.smi_core.specs.declared.instr.Instr.TheVariants.{Do, MoveTo}
-use Rattle.smi_core.specs.Domain.{Domain, initial_of, block_of}
+use Rattle.sml_domain.specs.Domain.{Domain}
+use Rattle.smi_core.specs.Domain.{initial_of, block_of}
 use Rattle.smi_core.specs.Journal.{Move, start_of, post_of, open_request, state_next, shown_of}
 use Rattle.smi_core.specs.Meaning.{Through, To, Means, Begins}
 use Rattle.smi_core.specs.Legal.{state_of, block_at, Running, IsLegalAt, IsLegalFrom}

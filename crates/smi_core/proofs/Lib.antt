@@ -9,15 +9,11 @@ pub mod Moves
 pub mod One
 pub mod Told
 pub mod Limits
-pub mod BuiltRanges
-pub mod DeadStates
-pub mod FaultKinds
 pub mod Fed
-pub mod Foldings
-pub mod Gathered
 pub mod Io
 pub mod JoinedLines
 pub mod OneOutput
 pub mod Parts
-pub mod Rests
 pub mod Tolds
+pub mod Executed
+pub mod Rests

@@ -24,7 +24,8 @@ use Rattle.smi_core.specs.Legal.{Running, block_at}
 use Rattle.smi_core.specs.World.{Setup, World, list_at, queue, waiting, grown, started, moved, ended, skip_of, request_of, PostsAs, MovesOn, at_object, refusal, Makes, StepsTo, Run, opening}
 use Rattle.smi_core.specs.Good.{IsGood}
 use Rattle.smi_core.proofs.Lists.{empty_at}
-use Rattle.smi_core.proofs.Ranges.{object_within, block_in_range, target_within}
+use Rattle.smi_core.proofs.Ranges.{object_within, target_within}
+use Rattle.smi_core.proofs.Executed.{block_in_range}
 use Rattle.smi_core.proofs.Snoc.{queue_more}
 use Rattle.smi_core.proofs.Reached.{good_step}
 

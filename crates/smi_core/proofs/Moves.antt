@@ -4,14 +4,19 @@ use Rattle.std.specs.Prelude.{slice_get}
 use Rattle.smi_core.specs.declared.entry.Request.{Request}
 use Rattle.smi_core.specs.declared.instr.Instr.{Instr}
 use Rattle.smi_core.specs.declared.instr.Instr.TheVariants.{Do, MoveTo}
-use Rattle.smi_core.specs.Domain.{InstrInRange}
+use Rattle.std.specs.Option.{option_map}
+use Rattle.sml_domain.specs.Lookups as says
+use Rattle.sml_domain.specs.Lookups.{tree_of_block}
+use Rattle.smi_core.specs.Domain.{executed, InstrInRange}
+use Rattle.smi_core.specs.Executed.{executed_at}
 use Rattle.smi_core.specs.Journal.{Move, open_request}
 use Rattle.smi_core.specs.Meaning.{Begins}
 use Rattle.smi_core.specs.Legal.{state_of, block_at, Running}
 use Rattle.smi_core.specs.World.{Setup, World, moves_of, ended, Posts, GoesOn}
 use Rattle.smi_core.specs.Good.{IsGood}
 use Rattle.smi_core.specs.Parts.{IsNextPost, IsNextEnd}
-use Rattle.smi_core.proofs.Ranges.{all_get, block_in_range}
+use Rattle.smi_core.proofs.Ranges.{all_get}
+use Rattle.smi_core.proofs.Executed.{block_in_range, next_executed}
 use Rattle.smi_core.proofs.Keeps.{begins_do, ends_move, ends_through}
 
 running : (m : Setup) (w : World) (o a : ℕ) (block : List Instr) → ((r : Request) × (open_request o w.journal ≡ Some r) × (r.action ≡ a)) → block_at m.domain o w.journal a ≡ Some block → Running m.domain w.journal o block
@@ -19,6 +24,16 @@ running m w o a block is e = record { request = is.0; is_open = is.1; declared =
 
 begun_moves : (m : Setup) (w : World) (o : ℕ) (block : List Instr) → IsGood m w → o < length m.domain.objects → Running m.domain w.journal o block → Begins block (moves_of o w)
 begun_moves m w o block g within run = subst (Begins block) (sym (g.sound.kept.shown o within)) (g.sound.begun o block run)
+
+-- the program of the open action of an object, and its next instruction
+pub next_of_block : (m : Setup) (w : World) (o a b : ℕ) → IsGood m w → o < length m.domain.objects → ((r : Request) × (open_request o w.journal ≡ Some r) × (r.action ≡ a)) →
+    Some b ≡ says.block_at m.domain o (state_of m.domain o w.journal) a →
+    (block_at m.domain o w.journal a ≡ Some (executed (tree_of_block m.domain b)))
+    × (slice_get (executed (tree_of_block m.domain b)) (length (moves_of o w)) ≡ executed_at m.domain.blocks b (length (moves_of o w)))
+next_of_block m w o a b g within is found =
+    let declared : block_at m.domain o w.journal a ≡ Some (executed (tree_of_block m.domain b)) = ap (λ x. option_map executed (option_map (tree_of_block m.domain) x)) (sym found) in
+    let block = executed (tree_of_block m.domain b) in
+    (declared, next_executed m.domain b (moves_of o w) g.in_range (begun_moves m w o block g within (running m w o a block is declared)))
 
 pub post_is_next : (m : Setup) (w : World) (o b a t : ℕ) (block : List Instr) → IsGood m w → ((r : Request) × (open_request o w.journal ≡ Some r) × (r.action ≡ b)) → block_at m.domain o w.journal b ≡ Some block → slice_get block (length (moves_of o w)) ≡ Some (Do a t) → (t < length m.domain.objects) × IsNextPost m w o a t
 post_is_next m w o b a t block g is e at =

@@ -1,8 +1,6 @@
 -- What is left of a list, part by part.
-use Rattle.std.proofs.Common.{◌≡◌, ◌∙◌, sym, ap, subst, ℕ, suc, ◌<◌, ◌≤◌, ◌+◌, List, [], ◌∷◌, ◌++◌, length, get_or, map, flat_map, take, drop, Option, None, Some, option_map, refl, add-one, drop-cons}
-use Rattle.std.proofs.lemmas.List.{drop_all, take_more, map-append}
-use Rattle.std.proofs.lemmas.List.Concat.{flat_map-append}
-use Rattle.smi_core.specs.Faults.{first}
+use Rattle.std.proofs.Common.{◌≡◌, ◌∙◌, sym, ap, ℕ, suc, ◌<◌, ◌≤◌, ◌+◌, List, [], ◌∷◌, length, get_or, drop, add-one, drop-cons}
+use Rattle.std.proofs.lemmas.List.{drop_all}
 
 -- a recursion over what is left of a list
 pub record Rest {X R : Type 0} (F : List X → R) (xs : List X) (k : ℕ) (r : R) : Type 0 where
@@ -23,60 +21,3 @@ module _ {X R : Type 0} (F : List X → R) (xs : List X) (k : ℕ) (r : R) where
   -- none
   pub rest_none : Rest F xs k r → length xs ≤ k → F [] ≡ r
   rest_none h over = sym (ap F (drop_all k xs over)) ∙ h.is
-
--- what stays, or else comes
-abbrev pub or_else : {X : Type 0} → Option X → Option X → Option X
-or_else None y = y
-or_else (Some x) y = Some x
-
-pub first-append : {X : Type 0} (xs ys : List X) → first (xs ++ ys) ≡ or_else (first xs) (first ys)
-first-append [] ys = refl
-first-append (x ∷ xs) ys = refl
-
-pub first-map : {X Y : Type 0} (f : X → Y) (xs : List X) → first (map f xs) ≡ option_map f (first xs)
-first-map f [] = refl
-first-map f (x ∷ xs) = refl
-
-pub first_in-append : {X Y : Type 0} (f : X → List Y) (xs ys : List X) → first (flat_map f (xs ++ ys)) ≡ or_else (first (flat_map f xs)) (first (flat_map f ys))
-first_in-append f xs ys = ap first (flat_map-append f xs ys) ∙ first-append (flat_map f xs) (flat_map f ys)
-
-pub ruleset firsts = (first-append, first_in-append, first-map)
-
--- the same, where the elements are seen through a loan
-module _ {X R : Type 0} (F : List X → R) (xs ys : List X) (k : ℕ) (r : R) (x : X) (h : Rest F xs k r) (same : ys ≡ xs) (within : k < length ys) (is : x ≡ get_or ys k x) where
-  inside : k < length xs
-  inside = subst (λ zs. k < length zs) same within
-
-  found_at : x ≡ get_or xs k x
-  found_at = subst (λ zs. x ≡ get_or zs k x) same is
-
-  pub more_of : ((zs : List X) → F (x ∷ zs) ≡ F zs) → Rest F xs (k + 1) r
-  more_of next = rest_more F xs k r x h inside found_at next
-
-  pub here_of : (v : R) → ((zs : List X) → F (x ∷ zs) ≡ v) → v ≡ r
-  here_of v here = rest_here F xs k r x v h inside found_at here
-
--- the first that one element has is the first of all, where those before it have none
-module _ {X Y : Type 0} (F : List X → Option Y) (xs ys : List X) (k : ℕ) (r : Option Y) (x : X) (own : Option Y) (h : Rest F xs k r) (same : ys ≡ xs) (within : k < length ys) (is : x ≡ get_or ys k x) (splits : (zs : List X) → F (x ∷ zs) ≡ or_else own (F zs)) where
-  pub first_here : (n : Y) → Some n ≡ own → Some n ≡ r
-  first_here n here = here_of F xs ys k r x h same within is (Some n) (λ zs. splits zs ∙ ap (λ o. or_else o (F zs)) (sym here))
-
-  pub first_next : None ≡ own → Rest F xs (k + 1) r
-  first_next none = more_of F xs ys k r x h same within is (λ zs. splits zs ∙ ap (λ o. or_else o (F zs)) (sym none))
-
--- ---- what is left of a list, where those before it count too
-pub record Past {X D R : Type 0} (F : List D → List D → R) (g : X → D) (xs : List X) (k : ℕ) (r : R) : Type 0 where
-  pub is : F (map g (take k xs)) (map g (drop k xs)) ≡ r
-
-module _ {X D R : Type 0} (F : List D → List D → R) (g : X → D) (xs : List X) (k : ℕ) (r : R) (x : X) (h : Past F g xs k r) (within : k < length xs) (is : x ≡ get_or xs k x) where
-  before : map g (take k xs) ++ g x ∷ [] ≡ map g (take (k + 1) xs)
-  before = sym (ap (map g) (take_more xs k x within ∙ ap (λ y. take k xs ++ y ∷ []) (sym is)) ∙ map-append g (take k xs) (x ∷ []))
-
-  left : map g (drop k xs) ≡ g x ∷ map g (drop (k + 1) xs)
-  left = ap (map g) (drop-cons xs k x within ∙ ap (λ y. y ∷ drop (suc k) xs) (sym is) ∙ ap (λ n. x ∷ drop n xs) (sym (add-one k)))
-
-  pub past_here : (v : R) → ((ys : List D) → F (map g (take k xs)) (g x ∷ ys) ≡ v) → v ≡ r
-  past_here v here = sym (ap (F (map g (take k xs))) left ∙ here (map g (drop (k + 1) xs))) ∙ h.is
-
-  pub past_more : ((ys : List D) → F (map g (take k xs)) (g x ∷ ys) ≡ F (map g (take k xs) ++ g x ∷ []) ys) → Past F g xs (k + 1) r
-  past_more same = record { is = ap (λ bs. F bs (map g (drop (k + 1) xs))) (sym before) ∙ sym (ap (F (map g (take k xs))) left ∙ same (map g (drop (k + 1) xs))) ∙ h.is }

@@ -16,14 +16,16 @@ use Rattle.smi_core.specs.declared.entry.ActionEnd.TheVariants.{State, Skipped}
 use Rattle.smi_core.specs.declared.entry.Entry.{Entry}
 use Rattle.smi_core.specs.declared.entry.Entry.TheVariants.{Post, End}
 use Rattle.smi_core.specs.declared.instr.Instr.{Instr}
-use Rattle.smi_core.specs.Domain.{Domain, initial_of, block_of, knows, AreInRange}
+use Rattle.sml_domain.specs.Domain.{Domain}
+use Rattle.smi_core.specs.Domain.{initial_of, block_of, knows, AreInRange}
 use Rattle.smi_core.specs.Journal.{Move, start_of, post_of, from_sender, same_sender, starts_at, posts_between, post_in, open_request, open_next, state_next, shown_of}
 use Rattle.smi_core.specs.Meaning.{Begins, Ends}
 use Rattle.smi_core.specs.Legal.{state_of, block_at, Running, SkippedAt, WasSent, IsNumbered, IsLegalAt}
 use Rattle.smi_core.specs.World.{Setup, World, list_at, put_at, queue, grown, started, moved, skip_of, start_entries, request_of, PostsAs, MovesOn, GoesOn, IsFront, FrontOk, opening}
 use Rattle.smi_core.specs.Good.{MayAsk, AllMayAsk, AreDeclared, AreKept, IsSound, IsGood}
 use Rattle.smi_core.proofs.Lists.{set_at, length-put, empty_at, from_append, front_more, at_end, front_next, front_from}
-use Rattle.smi_core.proofs.Ranges.{block_in_range, target_within}
+use Rattle.smi_core.proofs.Ranges.{target_within}
+use Rattle.smi_core.proofs.Executed.{block_in_range}
 use Rattle.smi_core.proofs.Snoc.{open_more, state_more, shown_more, starts_more, posts_more, queue_more}
 use Rattle.smi_core.proofs.Keeps.{legal_push, begun_push, state_else}
 

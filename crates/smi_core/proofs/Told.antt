@@ -21,7 +21,8 @@ use Rattle.smi_core.specs.Legal.{Running}
 use Rattle.smi_core.specs.World.{Setup, World, accepted, request_of, PostsAs, MovesOn, Makes, StepsTo, Run}
 use Rattle.smi_core.specs.Good.{IsGood}
 use Rattle.smi_core.specs.Laws.{told_in, told}
-use Rattle.smi_core.proofs.Ranges.{object_within, block_in_range, target_within}
+use Rattle.smi_core.proofs.Ranges.{object_within, target_within}
+use Rattle.smi_core.proofs.Executed.{block_in_range}
 use Rattle.smi_core.proofs.Steps.{from_more}
 use Rattle.smi_core.proofs.Reached.{good_step}
 

@@ -9,8 +9,8 @@ use Rattle.smi_core.specs.declared.entry.ActionEnd.{ActionEnd}
 use Rattle.smi_core.specs.declared.entry.ActionEnd.TheVariants.{State, Skipped}
 use Rattle.smi_core.specs.declared.entry.Entry.{Entry}
 use Rattle.smi_core.specs.declared.entry.Entry.TheVariants.{Start, Post, End}
-use Rattle.smi_core.specs.Domain as domain
-use Rattle.smi_core.specs.Domain.{Domain}
+use Rattle.sml_domain.specs.Lookups.{name_of_object}
+use Rattle.sml_domain.specs.Domain.{Domain}
 
 -- a name, or nothing
 abbrev pub name_or_nothing : Option (List ℕ) → List ℕ
@@ -19,7 +19,7 @@ name_or_nothing (Some n) = n
 
 -- the name of an object
 abbrev pub object_text : Domain → ℕ → List ℕ
-object_text d o = name_or_nothing (option_map (λ (x : domain.Object). x.name) (slice_get d.objects o))
+object_text d o = name_or_nothing (option_map name_of_object (slice_get d.objects o))
 
 -- the name of a state
 abbrev pub state_text : Domain → ℕ → List ℕ

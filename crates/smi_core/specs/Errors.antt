@@ -18,5 +18,5 @@ step_error_text error.NotOpen = codes "no action is open at the object"
 
 -- why a core is not made, in words
 abbrev pub core_error_text : CoreError → List ℕ
-core_error_text core_error.BadConfig = codes "the capacity or the limit of starts is out of range"
+core_error_text core_error.BadConfig = codes "the capacity or the limit of starts is out of range, or the domain uses a form that is not executed yet"
 core_error_text core_error.Memory = codes "want of memory"

@@ -4,7 +4,8 @@ use Rattle.smi_core.specs.declared.entry.Sender.{Sender}
 use Rattle.smi_core.specs.declared.entry.Sender.TheVariants.{Operator, Object}
 use Rattle.smi_core.specs.declared.entry.Request.{Request}
 use Rattle.smi_core.specs.declared.instr.Instr.{Instr}
-use Rattle.smi_core.specs.Domain.{Domain, AreInRange, knows}
+use Rattle.sml_domain.specs.Domain.{Domain}
+use Rattle.smi_core.specs.Domain.{AreInRange, knows}
 use Rattle.smi_core.specs.Journal.{from_sender, starts_at, posts_between, open_request, shown_of}
 use Rattle.smi_core.specs.Meaning.{Begins}
 use Rattle.smi_core.specs.Legal.{block_at, Running, IsLegal}

@@ -10,7 +10,8 @@ use Rattle.smi_core.specs.declared.step.Answer.{Answer}
 use Rattle.smi_core.specs.declared.step.Answer.TheVariants as answer
 use Rattle.smi_core.specs.declared.error.StepError.{StepError}
 use Rattle.smi_core.specs.declared.error.StepError.TheVariants as error
-use Rattle.smi_core.specs.Domain.{Domain, AreInRange, object_of, action_of}
+use Rattle.sml_domain.specs.Domain.{Domain}
+use Rattle.smi_core.specs.Domain.{AreInRange, object_of, action_of}
 use Rattle.smi_core.specs.Journal.{starts_at, all_starts, posts_between}
 use Rattle.smi_core.specs.Legal.{IsLegal}
 use Rattle.smi_core.specs.World.{Setup, World, Run, opening, FrontOk, queue, accepted, waiting, IsNext, IsLeast}

@@ -9,7 +9,8 @@ use Rattle.smi_core.specs.declared.entry.ActionEnd.TheVariants.{State, Skipped}
 use Rattle.smi_core.specs.declared.entry.Entry.{Entry}
 use Rattle.smi_core.specs.declared.entry.Entry.TheVariants.{Start, Post, End}
 use Rattle.smi_core.specs.declared.instr.Instr.{Instr}
-use Rattle.smi_core.specs.Domain.{Domain, initial_of, block_of, knows}
+use Rattle.sml_domain.specs.Domain.{Domain}
+use Rattle.smi_core.specs.Domain.{initial_of, block_of, knows}
 use Rattle.smi_core.specs.Journal.{from_sender, starts_at, posts_between, open_request, state_after, shown_of}
 use Rattle.smi_core.specs.Meaning.{Begins, Ends}
 

@@ -1,4 +1,5 @@
 pub mod Domain
+pub mod Executed
 pub mod Journal
 pub mod Meaning
 pub mod Legal
@@ -9,13 +10,8 @@ pub mod Next
 pub mod Laws
 pub mod Errors
 pub mod EntryText
-pub mod Faults
 pub mod Feeds
-pub mod FileDomain
-pub mod KindText
 pub mod Line
 pub mod Output
-pub mod Placed
-pub mod Plain
-pub mod Refusal
 pub mod ScheduleLaws
+pub mod Forms

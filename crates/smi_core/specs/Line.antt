@@ -5,7 +5,7 @@ use Rattle.sml_text.specs.Bytes.{is_ascii, no_line_feed}
 use Rattle.sml_text.specs.Tokens.{Lexeme, Word, Int, Str, Sign, Session, Token, TokensOf, BadTokenOf}
 use Rattle.sml_text.specs.declared.source.Source.TheVariants as source
 use Rattle.sml_tree.specs.Piece.{is_reserved}
-use Rattle.smi_core.specs.Domain.{same_name}
+use Rattle.sml_domain.specs.Names.{same_name}
 use Rattle.smi_core.specs.declared.entry.Args.{Args}
 use Rattle.smi_core.specs.declared.step.Step.{Step}
 use Rattle.smi_core.specs.declared.step.Step.TheVariants as step

@@ -10,7 +10,7 @@ use Rattle.smi_core.specs.declared.error.StepError.TheVariants as error
 use Rattle.smi_core.specs.declared.entry.Entry.{Entry}
 use Rattle.smi_core.specs.declared.line.LineError.{LineError}
 use Rattle.smi_core.specs.declared.line.LineError.TheVariants as line
-use Rattle.smi_core.specs.Domain.{Domain}
+use Rattle.sml_domain.specs.Domain.{Domain}
 use Rattle.smi_core.specs.World.{World, Machine, StepsTo}
 use Rattle.smi_core.specs.EntryText.{session_text, line_text, entry_text}
 use Rattle.smi_core.specs.Line.{LineReads}

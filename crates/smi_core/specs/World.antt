@@ -17,7 +17,9 @@ use Rattle.smi_core.specs.declared.step.Answer.TheVariants as answer
 use Rattle.smi_core.specs.declared.error.StepError.{StepError}
 use Rattle.smi_core.specs.declared.error.StepError.TheVariants as error
 use Rattle.smi_core.specs.declared.instr.Instr.{Instr}
-use Rattle.smi_core.specs.Domain.{Domain, object_of, action_of, knows}
+use Rattle.sml_domain.specs.Domain.{Domain}
+use Rattle.smi_core.specs.Domain.{object_of, action_of, knows}
+use Rattle.smi_core.specs.Forms.{is_plain}
 use Rattle.smi_core.specs.Journal.{Move, post_of, from_sender, start_of, starts_at, all_starts, is_open}
 use Rattle.smi_core.specs.Meaning.{Begins, Ends}
 use Rattle.smi_core.specs.Legal.{state_of, block_at, Running}
@@ -229,3 +231,7 @@ pub record Machine : Type 0 where
 -- a capacity of mailboxes and a limit of starts that may be
 abbrev pub IsConfig : ℕ → ℕ → Type 0
 IsConfig capacity max_starts = (1 ≤ capacity) × (capacity ≤ 1024) × (1 ≤ max_starts) × (max_starts ≤ 1000000)
+
+-- a domain of the forms that are executed now, with such numbers
+abbrev pub IsRun : Domain → ℕ → ℕ → Type 0
+IsRun d capacity max_starts = IsConfig capacity max_starts × (is_plain d ≡ true)

@@ -4,12 +4,12 @@ ghost use Rattle.sml_text.specs.Written.{Told, StaysDue};
 ghost use Rattle.smi_core.specs.EntryText.{entry_text};
 ghost use Rattle.smi_core.specs.Output as text;
 
-use crate::domain::Domain;
 use crate::entry::Entry;
 use crate::entry_text::{tell_entry, tell_number, tell_session};
 use crate::error::StepError;
 use crate::session::SessionId;
 use crate::step::{Answer, Step};
+use sml_domain::domain::Domain;
 use sml_text::writing::{Sink, tell};
 use sml_tree::name::Name;
 

@@ -1,7 +1,7 @@
 //! Requests, and the entries of a journal.
 
-use crate::ids::{ActionId, ObjId, StateId};
 use crate::session::SessionId;
+use sml_domain::ids::{ActionId, ObjId, StateId};
 
 /// Who sends a request: an operator's session or an object.
 #[derive(Clone, Copy, Debug, Eq, PartialEq)]

@@ -4,10 +4,10 @@ ghost use Rattle.sml_text.specs.Decimal.{decimal_text};
 ghost use Rattle.sml_text.specs.Written.{Told, StaysDue};
 ghost use Rattle.smi_core.specs.EntryText as text;
 
-use crate::domain::Domain;
 use crate::entry::{ActionEnd, Entry, Sender, Verdict};
-use crate::ids::{ActionId, ObjId};
 use crate::session::SessionId;
+use sml_domain::domain::Domain;
+use sml_domain::ids::{ActionId, ObjId};
 use sml_text::decimal::tell_u64;
 use sml_text::writing::{Sink, tell};
 use sml_tree::name::Name;

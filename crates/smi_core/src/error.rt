@@ -47,7 +47,8 @@ impl fmt::Display for StepError {
 /// Why a core is not made.
 #[derive(Clone, Copy, Debug, Eq, PartialEq)]
 pub enum CoreError {
-    /// The capacity is outside 1 to 1,024, or the count of starts outside 1 to 1,000,000.
+    /// The capacity is outside 1 to 1,024, the count of starts outside 1 to 1,000,000, or the domain uses a
+    /// form that is not executed yet.
     BadConfig,
     /// Want of memory.
     Memory,
@@ -58,7 +59,8 @@ impl fmt::Display for CoreError {
 
     fn fmt<W: fmt::Write>(&self, f: &mut fmt::Formatter<W>) -> fmt::Result {
         f.write_str(match *self {
-            CoreError::BadConfig => "the capacity or the limit of starts is out of range",
+            CoreError::BadConfig =>
+                "the capacity or the limit of starts is out of range, or the domain uses a form that is not executed yet",
             CoreError::Memory => "want of memory",
         })
     }

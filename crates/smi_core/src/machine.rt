@@ -7,14 +7,13 @@ ghost use Rattle.smi_core.specs.declared.entry.Request.{Request as Asked};
 ghost use Rattle.smi_core.specs.Domain.{AreInRange, knows};
 ghost use Rattle.smi_core.specs.Journal.{open_request};
 ghost use Rattle.smi_core.specs.Legal.{state_of, IsLegal};
-ghost use Rattle.smi_core.specs.World.{Setup, World, StepsTo, Run, FrontOk, GoesOn, queue, start_entries, moves_of, accepted, waiting, opening, IsConfig};
+ghost use Rattle.smi_core.specs.World.{Setup, World, StepsTo, Run, FrontOk, GoesOn, queue, start_entries, moves_of, accepted, waiting, opening, IsRun};
 ghost use Rattle.smi_core.specs.Parts.{Requests, Starts, Goes, IsNextPost, IsNextEnd};
 ghost use Rattle.smi_core.specs.Next.{IsNextOf};
 
-use crate::domain::Domain;
 use crate::entry::{ActionEnd, Args, Entry, Move, Request, Sender, Value, Verdict};
 use crate::error::{CoreError, StepError};
-use crate::ids::{ActionId, ObjId, StateId};
+use crate::forms::is_plain;
 use crate::instr::{Instr, instr_at};
 use crate::journal::Journal;
 use crate::kept::{Mailbox, Turn, add_accepted, add_move, mailboxes, turns};
@@ -23,6 +22,8 @@ use crate::step::{Answer, Step};
 use crate::walk::{
     count_all_starts, count_from, count_starts, count_starts_by, open_request, state_after,
 };
+use sml_domain::domain::Domain;
+use sml_domain::ids::{ActionId, ObjId, StateId};
 use sml_tree::name::Name;
 use std::alloc::{AllocError, Global};
 use std::marker::Model;
@@ -42,10 +43,14 @@ pub struct Core {
 
 impl Model for Core {
     ghost use Rattle.std.specs.Arc.{arc_value};
+    ghost use Rattle.std.specs.Coded.{codes};
+    ghost use Rattle.sml_domain.specs.contracts.instr.Cond as cond;
     ghost use Rattle.smi_core.specs.World.{Machine};
     ghost use Rattle.smi_core.specs.Good.{IsGood};
 
     ghost Value = { Machine };
+
+    ghost coded = { Prim.hlevel (codes, cond.the_row.coded) };
 
     ghost view = { λ c. record {
       setup = record { domain = arc_value c.domain; capacity = c.capacity; max_starts = c.max_starts };
@@ -232,7 +237,7 @@ impl Core {
         let Some(block) = self.domain.block(o, state, action) else {
             unreachable!();
         };
-        let Some(instr) = instr_at(block, place) else {
+        let Some(instr) = instr_at(&self.domain, block, place) else {
             return Next::End(state);
         };
         match instr {
@@ -385,7 +390,7 @@ impl Core {
         let Some(a) = self.domain.action(action) else {
             return Err(StepError::UnknownAction);
         };
-        if !self.domain.knows(o, a) {
+        if self.domain.parameters(o, a).is_none() {
             return Err(StepError::UnknownAction);
         }
         match self.request_at(session, o, a, args) {
@@ -422,7 +427,7 @@ impl Core {
 }
 
 impl Core {
-    /// A core for a domain: `capacity` requests wait at an object at most, 1 to 1,024, and
+    /// A core for a domain of the forms that are executed now: `capacity` requests wait at an object at most, 1 to 1,024, and
     /// `max_starts` requests are started at most, 1 to 1,000,000.
     pub fn new(
         alloc: Global,
@@ -430,8 +435,8 @@ impl Core {
         capacity: usize,
         max_starts: usize,
     ) -> Result<Core, CoreError>
-        ensures bad_config { (result ≡ Err CoreError.BadConfig) ↔ ¬ IsConfig capacity max_starts }
-        ensures config { IsOk result → IsConfig capacity max_starts }
+        ensures bad_config { (result ≡ Err CoreError.BadConfig) ↔ ¬ IsRun (arc_value domain) capacity max_starts }
+        ensures config { IsOk result → IsRun (arc_value domain) capacity max_starts }
         ensures setup { IfOk result (λ c. c.setup ≡ record {
           domain = arc_value domain;
           capacity = capacity;
@@ -441,6 +446,9 @@ impl Core {
         ensures opening { IfOk result (λ c. c.world ≡ opening c.setup) }
     {
         if !(1..=1024).contains(&capacity) || !(1..=1_000_000).contains(&max_starts) {
+            return Err(CoreError::BadConfig);
+        }
+        if !is_plain(&domain) {
             return Err(CoreError::BadConfig);
         }
         let objects = domain.objects();

@@ -3,13 +3,13 @@
 ghost use Rattle.std.specs.Prelude.{◌≡◌, ◌↔◌, IfOk, Ok, Err};
 ghost use Rattle.std.specs.Arc.{arc_value};
 ghost use Rattle.smi_core.specs.Legal.{IsLegal};
-ghost use Rattle.smi_core.specs.World.{FrontOk, IsConfig};
+ghost use Rattle.smi_core.specs.World.{FrontOk, IsRun};
 ghost use Rattle.smi_core.specs.Laws.{Reaches};
 
-use crate::domain::Domain;
 use crate::error::{CoreError, StepError};
 use crate::machine::Core;
 use crate::step::{Answer, Step};
+use sml_domain::domain::Domain;
 use std::alloc::Global;
 use std::sync::Arc;
 
@@ -24,7 +24,7 @@ pub fn run(
     max_starts: usize,
     steps: &[Step],
 ) -> Result<(Core, Vec<Result<Answer, StepError>>), CoreError>
-    ensures bad_config { (result ≡ Err CoreError.BadConfig) ↔ ¬ IsConfig capacity max_starts }
+    ensures bad_config { (result ≡ Err CoreError.BadConfig) ↔ ¬ IsRun (arc_value domain) capacity max_starts }
     ensures setup { IfOk result (λ made. made.0.setup ≡ record {
       domain = arc_value domain;
       capacity = capacity;

@@ -4,7 +4,7 @@ ghost use Rattle.std.specs.Prelude.{◌≡◌, ℕ, ◌+◌, ◌≤◌, List, le
 ghost use Rattle.smi_core.specs.Journal.{same_sender, from_sender, start_in, starts_at, any_start, all_starts, open_next, open_request, state_next, state_after};
 
 use crate::entry::{ActionEnd, Entry, Request, Sender};
-use crate::ids::{ObjId, StateId};
+use sml_domain::ids::{ObjId, StateId};
 
 // Whether two senders are one.
 fn is_same(a: &Sender, b: &Sender) -> bool

@@ -2,9 +2,9 @@
 use Rattle.std.specs.Prelude.{ℕ, List, ◌++◌, Option, Some, codes}
 use Rattle.std.specs.Fmt.{decimal}
 use Rattle.sml_read.specs.Refusal.{number_of, name_of}
-use Rattle.smi_core.specs.KindText as check
+use Rattle.sml_faults.specs.KindText as check
 use Rattle.smirun.specs.declared.fault.Fault.{Fault}
-use Rattle.smirun.specs.declared.fault.Fault.TheVariants.{Read, Check, NotYet, Unreadable, TooLong, Output, Options, Memory}
+use Rattle.smirun.specs.declared.fault.Fault.TheVariants.{Read, Check, NotYet, Unreadable, TooLong, Output, Memory}
 
 -- the exit status of a fault
 abbrev pub fault_status : Fault → ℕ
@@ -14,7 +14,6 @@ fault_status (NotYet _) = 1
 fault_status (Unreadable _) = 1
 fault_status (TooLong _) = 1
 fault_status Output = 1
-fault_status Options = 2
 fault_status Memory = 3
 
 -- the line of a fault
@@ -27,5 +26,4 @@ fault_line (NotYet file) = Some (file.now ++ codes " not yet")
 fault_line (Unreadable file) = Some (file.now ++ codes " unreadable")
 fault_line (TooLong file) = Some (file.now ++ codes " too long")
 fault_line Output = Some (codes "output fault")
-fault_line Options = Some (codes "error: an option is out of its range")
 fault_line Memory = Some (codes "memory")

@@ -3,7 +3,8 @@ ghost use Rattle.std.specs.Prelude.{◌≡◌, ◌≢◌, ◌≤◌};
 ghost use Rattle.std.specs.IoError.{error_kind};
 ghost use Rattle.smirun.specs.Status.{fault_status};
 
-use smi_core::{CheckError, CheckKind, CoreError, PlainError, ScheduleFault};
+use smi_core::{CoreError, ScheduleFault};
+use sml_faults::{CheckError, CheckKind};
 use sml_read::{ReadError, ReadErrorKind};
 use std::io::ErrorKind;
 use std::{fmt, io};
@@ -25,9 +26,6 @@ pub enum Fault<'a> {
     TooLong(&'a str),
     /// Standard output cannot be written.
     Output,
-    /// An option is out of its range. The parser of the command line refuses one before, so no words
-    /// lead here.
-    Options,
     /// Want of memory.
     Memory,
 }
@@ -41,7 +39,6 @@ impl<'a> Fault<'a> {
         match *self {
             Fault::Read(..) | Fault::Check(..) => 1,
             Fault::NotYet(_) | Fault::Unreadable(_) | Fault::TooLong(_) | Fault::Output => 1,
-            Fault::Options => 2,
             Fault::Memory => 3,
         }
     }
@@ -58,19 +55,13 @@ impl<'a> Fault<'a> {
     }
 
     /// The fault of a file that has no domain.
-    pub fn of_file(file: &'a str, error: PlainError) -> Fault<'a>
-        ensures not_yet { error ≡ PlainError.NotYet → result ≡ Fault.NotYet file.entry }
-        ensures check { (e : CheckError) → error ≡ PlainError.Check e → e.kind ≢ CheckKind.Memory
-            → result ≡ Fault.Check file.entry e }
-        ensures memory { (e : CheckError) → error ≡ PlainError.Check e → e.kind ≡ CheckKind.Memory
-            → result ≡ Fault.Memory }
+    pub fn of_file(file: &'a str, error: CheckError) -> Fault<'a>
+        ensures memory { error.kind ≡ CheckKind.Memory → result ≡ Fault.Memory }
+        ensures check { error.kind ≢ CheckKind.Memory → result ≡ Fault.Check file.entry error }
     {
-        match error {
-            PlainError::NotYet => Fault::NotYet(file),
-            PlainError::Check(error) => match error.kind {
-                CheckKind::Memory => Fault::Memory,
-                _ => Fault::Check(file, error),
-            },
+        match error.kind {
+            CheckKind::Memory => Fault::Memory,
+            _ => Fault::Check(file, error),
         }
     }
 
@@ -86,13 +77,14 @@ impl<'a> Fault<'a> {
         }
     }
 
-    /// The fault of a core that could not be made.
-    pub fn of_core(error: CoreError) -> Fault<'a>
-        ensures bad_config { error ≡ CoreError.BadConfig → result ≡ Fault.Options }
+    /// The fault of a core that could not be made for the domain of a file. The parser of the command line
+    /// refuses numbers that are out of range, so it is the domain's form that is wrong.
+    pub fn of_core(file: &'a str, error: CoreError) -> Fault<'a>
+        ensures not_yet { error ≡ CoreError.BadConfig → result ≡ Fault.NotYet file.entry }
         ensures memory { error ≡ CoreError.Memory → result ≡ Fault.Memory }
     {
         match error {
-            CoreError::BadConfig => Fault::Options,
+            CoreError::BadConfig => Fault::NotYet(file),
             CoreError::Memory => Fault::Memory,
         }
     }
@@ -139,7 +131,6 @@ impl fmt::Display for Fault<'_> {
             Fault::Unreadable(file) => write!(f, "{file} unreadable"),
             Fault::TooLong(file) => write!(f, "{file} too long"),
             Fault::Output => f.write_str("output fault"),
-            Fault::Options => f.write_str("error: an option is out of its range"),
             Fault::Memory => f.write_str("memory"),
         }
     }

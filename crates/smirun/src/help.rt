@@ -108,10 +108,10 @@ FILE, the domain file, has at most 1048576 bytes of ASCII. `!` begins a comment.
   object: L is_of_class LAMP
   object: B is_of_class BOSS
 
-An object begins in the first state of its class. `do LIGHT L` sends the request LIGHT to L and goes
-on; `move_to DONE` ends the action. Classes, states without marks, actions without parameters, `do`
-without arguments, `move_to` and objects are executed today; a file that uses another form of the
-language is refused as `FILE not yet`.
+An object begins in the state of its class that is marked `/initial_state`, or else in the first.
+`do LIGHT L` sends the request LIGHT to L and goes on; `move_to DONE` ends the action. Classes, states
+and their marks, actions without parameters, `do` without arguments, `move_to` and objects are executed
+today; a file that uses another form of the language is refused as `FILE not yet`.
 
 SCHEDULE has at most 16777216 bytes. Each line is one step, of at most 8192 bytes, or has only
 blanks and a comment. Names may be written in capitals or not. The steps:

@@ -3,7 +3,10 @@
 use crate::command_line::StepOptions;
 use crate::fault::Fault;
 use crate::text::load_text;
-use smi_core::{Core, Domain, plain_domain, run_schedule};
+use smi_core::{Core, run_schedule};
+use sml_check::check;
+use sml_checkable::laws::laws_of_read_files;
+use sml_domain::domain::Domain;
 use std::fs;
 use std::fs::Files;
 use std::io::{BufWriter, Write};
@@ -22,7 +25,7 @@ pub fn run_step<'a, R: Files + AllocGlobal, W: Write>(
     };
     let mut core = match Core::new(rt.alloc(), domain, options.capacity, options.max_starts) {
         Ok(core) => core,
-        Err(error) => return Err(Fault::of_core(error)),
+        Err(error) => return Err(Fault::of_core(options.file, error)),
     };
     let mut reader = match fs::open(rt, options.schedule) {
         Ok(reader) => reader,
@@ -45,6 +48,8 @@ fn load_domain<'a, R: Files + AllocGlobal>(
     rt: &R,
     file: &'a str,
 ) -> Result<Arc<Domain>, Fault<'a>> {
+    // What was read has the strings of a text.
+    laws_of_read_files();
     let text = match load_text(rt, file) {
         Ok(text) => text,
         Err(error) => return Err(Fault::of_input(file, &error)),
@@ -53,7 +58,7 @@ fn load_domain<'a, R: Files + AllocGlobal>(
         Ok(tree) => tree,
         Err(error) => return Err(Fault::of_text(file, error)),
     };
-    let domain = match plain_domain(rt.alloc(), &tree) {
+    let domain = match check(rt.alloc(), &tree) {
         Ok(domain) => domain,
         Err(error) => return Err(Fault::of_file(file, error)),
     };

@@ -5,7 +5,7 @@ use Rattle.std.proofs.Math.Seq.{get_or-append_seam}
 use Rattle.std.proofs.lemmas.List.{get_or_past}
 use Rattle.std.proofs.lemmas.Bool.{cases_lt}
 use Rattle.sml_domain.specs.declared.instr.Instr.{Instr}
-use Rattle.sml_domain.specs.declared.instr.Instr.TheVariants.{Set, Send, SendNone, If, End}
+use Rattle.sml_domain.specs.declared.instr.Instr.TheVariants.{Set, Send, SendNone, If, MoveTo, Terminate}
 use Rattle.sml_domain.specs.Program.{Program, Nothing, IfThen}
 use Rattle.sml_domain.specs.Trees.{formula, tree_at, with_instr, onto, trees_from, trees_of}
 use Rattle.sml_domain.specs.Domain.{Domain}
@@ -17,7 +17,8 @@ with_kept n xs ys (Set p v) k same h = refl
 with_kept n xs ys (Send t a args) k same h = refl
 with_kept n xs ys (SendNone set) k same h = refl
 with_kept n xs ys (If c a b) k same h = ap (λ t. IfThen (formula c) t (tree_at ys b) k) (same a h.0) ∙ ap (λ t. IfThen (formula c) (tree_at xs a) t k) (same b h.1)
-with_kept n xs ys (End s) k same h = refl
+with_kept n xs ys (MoveTo s) k same h = refl
+with_kept n xs ys (Terminate s) k same h = refl
 
 pub onto_kept : (n : ℕ) (xs ys : List Program) (is : List Instr) (k : Program) → ((j : ℕ) → j < n → tree_at ys j ≡ tree_at xs j) → NameBefore n is → onto ys is k ≡ onto xs is k
 onto_kept n xs ys [] k same h = refl

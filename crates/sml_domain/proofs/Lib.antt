@@ -4,5 +4,5 @@ pub mod Ranges
 pub mod Blocks
 pub mod Numbers
 pub mod Completes
-pub mod Laws
+pub mod Domains
 pub mod Example

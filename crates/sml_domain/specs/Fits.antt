@@ -4,7 +4,7 @@ use Rattle.std.specs.List.{list_any}
 use Rattle.sml_tree.specs.declared.file.Kind.{Kind}
 use Rattle.sml_domain.specs.Names.{same_name}
 use Rattle.sml_domain.specs.Values.{kind_of}
-use Rattle.sml_domain.specs.Program.{Operand, Fixed, Own, Given, Argument, Target, ToOne, ToMembers, Asked, OfOne, OfEach, OfAny, Formula, Both, Either, Not, Test, Program, Nothing, SetThen, SendThen, SendNoneThen, IfThen, EndIn}
+use Rattle.sml_domain.specs.Program.{Operand, Fixed, Own, Given, Argument, Target, ToOne, ToMembers, Asked, OfOne, OfEach, OfAny, Formula, Both, Either, Not, Test, Program, Nothing, SetThen, SendThen, SendNoneThen, IfThen, EndIn, TerminateIn}
 use Rattle.sml_domain.specs.Domain.{Domain, Class, Param}
 use Rattle.sml_domain.specs.Lookups.{params_at, members_at, has_state}
 
@@ -91,3 +91,4 @@ ProgramFits d c given (SendThen target action args rest) = (action < length d.ac
 ProgramFits d c given (SendNoneThen set rest) = (set < length d.groups) × (members_at d set ≡ []) × ProgramFits d c given rest
 ProgramFits d c given (IfThen f p q rest) = FormulaFits d f × ProgramFits d c given p × ProgramFits d c given q × ProgramFits d c given rest
 ProgramFits d c given (EndIn s) = has_state s c ≡ true
+ProgramFits d c given (TerminateIn s) = has_state s c ≡ true

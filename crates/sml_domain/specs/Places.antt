@@ -1,7 +1,7 @@
 -- Places in blocks.
 use Rattle.std.specs.Prelude.{◌≡◌, ◌<◌, ℕ, suc, ◌+◌, List, [], ◌∷◌, Option, Some, None, drop, slice_index_or}
 use Rattle.sml_domain.specs.declared.instr.Instr.{Instr}
-use Rattle.sml_domain.specs.declared.instr.Instr.TheVariants.{Set, Send, SendNone, If, End}
+use Rattle.sml_domain.specs.declared.instr.Instr.TheVariants.{Set, Send, SendNone, If, MoveTo, Terminate}
 use Rattle.sml_domain.specs.Program.{Program, Nothing}
 use Rattle.sml_domain.specs.Trees.{with_instr, onto, trees_of}
 
@@ -24,7 +24,8 @@ NamesBefore n (Set p v) = Unit {0}
 NamesBefore n (Send t a args) = Unit {0}
 NamesBefore n (SendNone set) = Unit {0}
 NamesBefore n (If c a b) = (a < n) × (b < n)
-NamesBefore n (End s) = Unit {0}
+NamesBefore n (MoveTo s) = Unit {0}
+NamesBefore n (Terminate s) = Unit {0}
 
 -- so do instructions
 abbrev pub NameBefore : ℕ → List Instr → Type 0

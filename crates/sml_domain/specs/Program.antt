@@ -39,3 +39,4 @@ pub data Program : Type 0 where
   SendNoneThen : (set : ℕ) (rest : Program) → Program
   IfThen : (condition : Formula) (yes no rest : Program) → Program
   EndIn : (state : ℕ) → Program
+  TerminateIn : (state : ℕ) → Program

@@ -11,7 +11,7 @@ use Rattle.sml_domain.specs.declared.instr.Cond.{Cond, And', Or', Not'}
 use Rattle.sml_domain.specs.declared.instr.Cond.TheVariants as conds
 use Rattle.sml_domain.specs.declared.instr.Instr.{Instr}
 use Rattle.sml_domain.specs.declared.instr.Instr.TheVariants as instrs
-use Rattle.sml_domain.specs.Program.{Operand, Fixed, Own, Given, Argument, Target, ToOne, ToMembers, Asked, OfOne, OfEach, OfAny, Formula, Both, Either, Not, Test, Program, Nothing, SetThen, SendThen, SendNoneThen, IfThen, EndIn}
+use Rattle.sml_domain.specs.Program.{Operand, Fixed, Own, Given, Argument, Target, ToOne, ToMembers, Asked, OfOne, OfEach, OfAny, Formula, Both, Either, Not, Test, Program, Nothing, SetThen, SendThen, SendNoneThen, IfThen, EndIn, TerminateIn}
 
 -- what an operand stands for
 abbrev pub operand : Numbered → Operand
@@ -51,7 +51,8 @@ with_instr known (instrs.Set p v) rest = SetThen p (operand v) rest
 with_instr known (instrs.Send t a args) rest = SendThen (target t) a (map argument args.items) rest
 with_instr known (instrs.SendNone set) rest = SendNoneThen set rest
 with_instr known (instrs.If c a b) rest = IfThen (formula c) (tree_at known a) (tree_at known b) rest
-with_instr known (instrs.End s) rest = EndIn s
+with_instr known (instrs.MoveTo s) rest = EndIn s
+with_instr known (instrs.Terminate s) rest = TerminateIn s
 
 -- instructions, and then what stands after them
 abbrev pub onto : List Program → List Instr → Program → Program

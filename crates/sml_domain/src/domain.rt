@@ -105,6 +105,27 @@ impl Domain {
         self.objects.len()
     }
 
+    /// The classes by their numbers.
+    pub fn classes(&self) -> &[Class]
+        ensures { result.now ≡ self.now.classes }
+    {
+        &self.classes
+    }
+
+    /// The sets by their numbers.
+    pub fn groups(&self) -> &[Group]
+        ensures { result.now ≡ self.now.groups }
+    {
+        &self.groups
+    }
+
+    /// The blocks by their numbers.
+    pub fn blocks(&self) -> &[Vec<Instr>]
+        ensures { map block_items result.now ≡ self.now.blocks }
+    {
+        &self.blocks
+    }
+
     /// The object with a name. The cost is the count of objects.
     pub fn object(&self, name: &Name) -> Option<ObjId>
         ensures is { result ≡ says.object_named self.now name.now }
@@ -246,7 +267,7 @@ impl Domain {
         self.block(o, s, a).is_some()
     }
 
-    /// The parameters of an object's class in order, each with its value. None where no object has
+    /// The parameters of an object's class in order, each with its value. Empty where no object has
     /// the number.
     pub fn class_parameters(&self, o: ObjId) -> &[Param]
         ensures is { result.now ≡ says.class_params_at self.now o }
@@ -272,7 +293,7 @@ impl Domain {
         }
     }
 
-    /// The members of a set in order. None where no set has the number.
+    /// The members of a set in order. Empty where no set has the number.
     pub fn members(&self, set: SetId) -> &[ObjId]
         ensures is { result.now ≡ says.members_at self.now set }
         ensures within { All (IsObject self.now) result.now }
@@ -283,7 +304,7 @@ impl Domain {
         }
     }
 
-    /// The instructions of a block in order. None where no block has the number.
+    /// The instructions of a block in order. Empty where no block has the number.
     pub fn instructions(&self, b: BlockId) -> &[Instr]
         ensures is { result.now ≡ instrs_at self.now.blocks b }
         ensures begins { EachBegins self.now }

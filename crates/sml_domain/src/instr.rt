@@ -77,6 +77,8 @@ pub enum Instr {
         yes: BlockId,
         no: BlockId,
     },
-    /// Ends the action in the state.
-    End(StateId),
+    /// Ends the action in the state: `move_to`.
+    MoveTo(StateId),
+    /// Ends the action in the state: `terminate_action`.
+    Terminate(StateId),
 }

@@ -2,10 +2,10 @@
 #![tactic(auto)]
 
 pub mod domain;
-pub mod domain_laws;
 pub mod error;
 pub mod ids;
 pub mod instr;
+pub mod laws;
 pub mod names;
 pub mod param;
 pub mod rows;

@@ -205,7 +205,7 @@ fn blocks(alloc: Global) -> Result<Vec<Vec<Instr>>, AllocError>
             args: shade
         },
         Instr::SendNone { set: SetId::new(1) },
-        Instr::End(StateId::new(IDLE)),
+        Instr::MoveTo(StateId::new(IDLE)),
     ]?;
     let all = vec![in alloc; Vec::new(alloc), count, Vec::new(alloc), go]?;
     Ok(all)

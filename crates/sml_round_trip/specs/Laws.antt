@@ -21,3 +21,7 @@ SaidByItsText = (file : List ItemData) → IsFileOf (file_text file) file ↔ (I
 abbrev pub RoundTrip : Type 0
 RoundTrip = (text : List ℕ) (file : List ItemData) → IsFileOf text file → IsShort (file_text file)
     → IsFileOf (file_text file) file × ((other : List ItemData) → IsFileOf (file_text file) other → file ≡ other)
+
+-- the names, ints and strings of a file that was read are those of tokens
+abbrev pub ReadFilesAreWritable : Type 0
+ReadFilesAreWritable = (text : List ℕ) (file : List ItemData) → IsFileOf text file → IsWritable file

@@ -1,6 +1,6 @@
 //! The laws of printing and reading.
 
-ghost use Rattle.sml_round_trip.specs.Laws.{SaidByItsText, RoundTrip};
+ghost use Rattle.sml_round_trip.specs.Laws.{SaidByItsText, RoundTrip, ReadFilesAreWritable};
 
 use sml_read::laws::laws_of_files;
 use sml_tree::laws::laws_of_grammar;
@@ -9,6 +9,7 @@ use sml_tree::laws::laws_of_grammar;
 pub fn laws_of_printing()
     ensures said { SaidByItsText }
     ensures round_trip { RoundTrip }
+    ensures writable { ReadFilesAreWritable }
 {
     laws_of_files();
     laws_of_grammar();

@@ -35,7 +35,7 @@ loop-step-preserved c =
     let P : Setup → Type 0 = λ m. Run m (opening m) (take (i.step-index + 1) c.args.steps.now) c.push.new.self.items w2 in
     record {
       in_range = subst (λ (m : Setup). AreInRange m.domain) (sym c.step-answer.ensures.setup) i.invariant.in_range;
-      run = subst P (sym c.step-answer.ensures.setup) (rw (more, item, pushed) (run_more _ _ _ _ _ _ _ _ i.invariant.run c.step-answer.ensures.step));
+      run = subst P (sym c.step-answer.ensures.setup) (rw (more, item, pushed) (run_more i.core.setup (opening i.core.setup) (take i.step-index c.args.steps.now) i.answers.items i.core.world w2 c.step-item.result c.step-answer.result i.invariant.run c.step-answer.ensures.step));
       setup = c.step-answer.ensures.setup ∙ i.invariant.setup;
       front = c.step-answer.ensures.front;
       legal = c.step-answer.ensures.legal;

@@ -15,3 +15,6 @@ returns-clause-round_trip c text file h short =
     let held = file_holds grammar.limits grammar.brackets text file h in
     let said = file_said grammar.limits file held.0 held.2 held.1 short in
     (said, λ other k. c.laws_of_files.ensures.one_file (file_text file) file other said k)
+
+pub returns-clause-writable : goal.returns-clause-writable
+returns-clause-writable c text file h = let grammar = c.laws_of_grammar.ensures in (file_holds grammar.limits grammar.brackets text file h).0

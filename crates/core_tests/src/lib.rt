@@ -1,0 +1,9 @@
+//! Machines over domains that were read and checked.
+#![tactic(auto)]
+
+#[cfg(test)]
+mod domain_of;
+#[cfg(test)]
+mod machine_tests;
+#[cfg(test)]
+mod schedule_tests;

@@ -1,0 +1,131 @@
+-- The numbers and parameters of a class of a file's domain.
+use Rattle.std.proofs.Common.{◌≡◌, ◌∙◌, sym, ap, refl, subst, ℕ, ◌<◌, ◌==◌, Bool, true, ◌||◌, List, [], ◌∷◌, ◌++◌, length, map, Option, None, Some, option_map, All, arith, eq-eqb, if◌then◌else◌}
+use Rattle.std.specs.Prelude.{IfSome, IsSomeAnd}
+use Rattle.std.specs.List.{Contains, list_any}
+use Rattle.std.proofs.lemmas.Simd.{map-map}
+use Rattle.std.proofs.lemmas.List.Elements.{All-map, Contains-append_left, Contains-append_right}
+use Rattle.sml_tree.specs.Syntax.{LiteralData, int, str, ItemData, class, ClassData, StateData, ActionData, ClassParamData, ActionParamData}
+use Rattle.sml_faults.specs.Lookup.{dead_name, adds_dead, actions, action_named, is_action}
+use Rattle.sml_faults.specs.Faults as faults
+use Rattle.sml_faults.specs.Inside.{HasAction}
+use Rattle.sml_faults.specs.ValueLaws.{CanBeIn}
+use Rattle.sml_faults.specs.Sound.{IsSound}
+use Rattle.sml_faults.proofs.Pairs.{any_at, found_any, contains_here, same_names}
+use Rattle.sml_faults.proofs.Named.{found_is}
+use Rattle.sml_domain.specs.Domain.{Domain, Class}
+use Rattle.sml_domain.specs.Names.{AreDistinct, distinct}
+use Rattle.sml_domain.specs.Values.{kind_of, value_of}
+use Rattle.sml_domain.specs.Lookups.{has_state, numbers_state}
+use Rattle.sml_domain.specs.Program.{Program}
+use Rattle.sml_domain.specs.Trees.{trees_of}
+use Rattle.sml_domain.specs.Sound.{IsOfKind, ParamFits, ClassParamFits, SignatureFits, name_of_param}
+use Rattle.sml_check.specs.Numbers.{Names, names_of, names_of_actions, number}
+use Rattle.sml_check.specs.Rows.{StateRow, ClassRow, state_row, state_shown, class_row, class_shown, added_state, bare_state, class_param_row, action_param_row, params_where, signature_row, number_where, initial_name}
+use Rattle.sml_check.specs.FileDomain.{IsDomainOf}
+use Rattle.sml_check.proofs.Numbered.{contains_map, distinct_from, all_from}
+use Rattle.sml_check.proofs.Apart.{apart_map}
+use Rattle.sml_check.proofs.States.{can_be, initial_is, last_is}
+use Rattle.sml_check.proofs.PlacedFiles.{named_action}
+use Rattle.sml_check.proofs.Ranges.{number_within}
+
+pub kinds_same : (l : LiteralData) → kind_of (value_of l) ≡ faults.kind_of l
+kinds_same (int n) = refl
+kinds_same (str s) = refl
+
+any_map : {X Y : Type 0} (f : X → Y) (p : Y → Bool) (xs : List X) → list_any p (map f xs) ≡ list_any (λ x. p (f x)) xs
+any_map f p [] = refl
+any_map f p (x ∷ xs) = ap (λ b. p (f x) || b) (any_map f p xs)
+
+-- a state of a class with the number of a row of it
+has_row : (known : List Program) (x : Class) (rows : List StateRow) (r : StateRow) (k : ℕ) → map (state_shown known) x.states ≡ rows → Contains rows r → r.number ≡ k → has_state k x ≡ true
+has_row known x rows r k e at same =
+    found_any (numbers_state k) x.states ∙ sym (any_map (state_shown known) (λ s. s.number == k) x.states) ∙ ap (list_any (λ s. s.number == k)) e
+    ∙ any_at (λ s. s.number == k) rows r at (eq-eqb r.number k same)
+
+module _ (file : List ItemData) (d : Domain) (is : IsDomainOf file d) (ok : IsSound file) (c : ClassData) (at : Contains file (class c)) (x : Class) (e : class_shown (trees_of d.blocks) x ≡ class_row (names_of file) c) where
+  abbrev n : Names
+  n = names_of file
+
+  -- ---- parameters
+
+  pub own_params : x.params ≡ map class_param_row c.params
+  own_params = ap (λ (r : ClassRow). r.params) e
+
+  pub params_fit : All ClassParamFits x.params
+  params_fit =
+      subst (All ClassParamFits) (sym own_params)
+      (All-map ClassParamFits class_param_row c.params (all_from (λ p. ClassParamFits (class_param_row p)) c.params (λ p p_at. kinds_same p.value ∙ ok.class_defaults_fit c at p p_at)))
+
+  pub params_apart : AreDistinct (map name_of_param x.params)
+  params_apart =
+      subst AreDistinct (sym (ap (map name_of_param) own_params ∙ map-map name_of_param class_param_row c.params))
+      (apart_map (λ (p : ClassParamData). p.name) c.params (ok.different.class_params c at))
+
+  -- ---- states
+
+  pub own_states : map (state_shown (trees_of d.blocks)) x.states ≡ map (state_row n c) c.states ++ added_state n c
+  own_states = ap (λ (r : ClassRow). r.states) e
+
+  abbrev IsOwn : List ℕ → Type 0
+  IsOwn s = has_state (number n.states s) x ≡ true
+
+  own_declared : (s : StateData) → Contains c.states s → IsOwn s.name
+  own_declared s in_it =
+      has_row (trees_of d.blocks) x (map (state_row n c) c.states ++ added_state n c) (state_row n c s) (number n.states s.name) own_states
+      (Contains-append_left (map (state_row n c) c.states) (added_state n c) (state_row n c s) (contains_map (state_row n c) c.states s in_it)) refl
+
+  own_added : adds_dead c ≡ true → IsOwn dead_name
+  own_added adds =
+      has_row (trees_of d.blocks) x (map (state_row n c) c.states ++ added_state n c) (bare_state n dead_name) (number n.states dead_name) own_states
+      (Contains-append_right (map (state_row n c) c.states) (added_state n c) (bare_state n dead_name)
+      (subst (λ b. Contains (if b then bare_state n dead_name ∷ [] else []) (bare_state n dead_name)) (sym adds) (contains_here (bare_state n dead_name) []))) refl
+
+  pub end_is : (s : List ℕ) → CanBeIn c s → has_state (number n.states s) x ≡ true
+  end_is = can_be c IsOwn own_declared own_added
+
+  pub dead_is : has_state x.dead x ≡ true
+  dead_is = subst (λ k. has_state k x ≡ true) (sym (ap (λ (r : ClassRow). r.dead) e)) (last_is c IsOwn own_declared own_added)
+
+  pub first_is : has_state x.initial x ≡ true
+  first_is =
+      subst (λ k. has_state k x ≡ true) (sym (ap (λ (r : ClassRow). r.initial) e)) (by (initial_name c) (initial_is c IsOwn own_declared own_added (ok.classes_have_states c at)))
+    where
+      by : (o : Option (List ℕ)) → IsSomeAnd o IsOwn → has_state (number_where n.states o) x ≡ true
+      by None h = absurd h
+      by (Some s) h = h
+
+  -- ---- signatures
+
+  default_fits : (a : ActionData) → HasAction file c a → (p : ActionParamData) → Contains a.params p → ParamFits (action_param_row p)
+  default_fits a has p p_at = by p.default (ok.action_defaults_fit c a has p p_at)
+    where
+      by : (o : Option LiteralData) → ((l : LiteralData) → o ≡ Some l → faults.kind_of l ≡ p.kind) → IfSome (option_map value_of o) (IsOfKind p.kind)
+      by None each = tt
+      by (Some l) each = kinds_same l ∙ each l refl
+
+  signature_fits : (y : List ℕ) → Contains (distinct (names_of_actions c)) y → SignatureFits d (signature_row n c y)
+  signature_fits y in_it =
+      let one = distinct_from (names_of_actions c) y in_it in
+      let has = named_action file c at y (subst (Contains (names_of_actions c)) (sym (same_names y one.0 one.2)) one.1) in
+      record {
+        action = subst (λ ns. number n.actions y < length ns) (sym is.actions) (number_within n.actions y has);
+        params = all_fit (action_named c y) refl;
+        apart = all_apart (action_named c y) refl;
+      }
+    where
+      all_fit : (o : Option ActionData) → action_named c y ≡ o → All ParamFits (params_where o)
+      all_fit None found = λ k p within. absurd (omega (within, arith))
+      all_fit (Some a) found =
+          All-map ParamFits action_param_row a.params
+          (all_from (λ p. ParamFits (action_param_row p)) a.params (default_fits a (record { class_in = at; action_in = (found_is (is_action y) (actions c) a found).0 })))
+
+      all_apart : (o : Option ActionData) → action_named c y ≡ o → AreDistinct (map name_of_param (params_where o))
+      all_apart None found = tt
+      all_apart (Some a) found =
+          subst AreDistinct (sym (map-map name_of_param action_param_row a.params))
+          (apart_map (λ (p : ActionParamData). p.name) a.params (ok.different.action_params c a (record { class_in = at; action_in = (found_is (is_action y) (actions c) a found).0 })))
+
+  pub signatures_fit : All (SignatureFits d) x.signatures
+  signatures_fit =
+      subst (All (SignatureFits d)) (sym (ap (λ (r : ClassRow). r.signatures) e))
+      (All-map (SignatureFits d) (signature_row n c) (distinct (names_of_actions c)) (all_from (λ y. SignatureFits d (signature_row n c y)) (distinct (names_of_actions c)) signature_fits))

@@ -1,0 +1,9 @@
+pub mod Numbers
+pub mod Programs
+pub mod Rows
+pub mod Placed
+pub mod Grown
+pub mod FileDomain
+pub mod Texts
+pub mod Written
+pub mod Laws

@@ -1,0 +1,37 @@
+//! A file's domain, or its first fault.
+ghost use Rattle.std.specs.Prelude.{◌≡◌, ◌⊎◌, Some, IfOk, IfErr};
+ghost use Rattle.sml_tree.specs.Content.{file_content};
+ghost use Rattle.sml_faults.specs.Lookup as look;
+ghost use Rattle.sml_faults.specs.Kinds.{all_faults, IsWellFormed};
+ghost use Rattle.sml_faults.specs.KindText.{memory_error};
+ghost use Rattle.sml_check.specs.Texts.{HasTexts};
+ghost use Rattle.sml_check.specs.FileDomain.{IsDomainOf};
+
+use crate::build::build;
+use sml_domain::domain::Domain;
+use sml_faults::{CheckError, first_fault};
+use sml_tree::file::SmlFile;
+use std::alloc::{Allocator, Global};
+
+/// The domain of a well-formed file. It asks that each string of the file has the bytes of a string of
+/// the language, as in every file that was read.
+///
+/// The cost is that of looking for a fault, and then the size of the tree, where the name of an object,
+/// a class, a set or a parameter counts as often as there are things that it may stand for. The actions
+/// of a class count as the square of their number.
+///
+/// # Errors
+///
+/// The fault of the lowest number, and of these the first in the text, with its name; or want of
+/// memory, which can stand in place of any other.
+pub fn check<A: Allocator + Clone>(alloc: Global, file: &SmlFile<A>) -> Result<Domain, CheckError>
+    requires { HasTexts (file_content file.now) }
+    ensures ok { IfOk result (λ d. IsWellFormed (file_content file.now) × IsDomainOf (file_content file.now) d) }
+    ensures err { IfErr result (λ e. (e ≡ memory_error) ⊎ (Some (e.kind, e.name) ≡ look.first (all_faults (file_content file.now)))) }
+{
+    first_fault(alloc, file)?;
+    match build(alloc, &file.items) {
+        Ok(domain) => Ok(domain),
+        Err(_) => Err(CheckError::memory()),
+    }
+}

@@ -1,0 +1,193 @@
+//! The classes of a domain, whose actions' blocks are laid out as they come.
+ghost use Rattle.std.specs.Prelude.{◌≡◌, ◌++◌, All, IfOk, OnOk, length, map};
+ghost use Rattle.std.specs.List.{AllByRecursion};
+ghost use Rattle.sml_tree.specs.Content.{action_content, state_content, class_content, item_content};
+ghost use Rattle.sml_domain.specs.Trees.{trees_of};
+ghost use Rattle.sml_check.specs.Numbers.{class_list, classes_in};
+ghost use Rattle.sml_check.specs.Placed.{ActionPlaced, StatePlaced, ClassPlaced, ItemPlaced, FilePlaced};
+ghost use Rattle.sml_check.specs.Grown.{Grows, ActionThere, StateThere, ClassThere};
+ghost use Rattle.sml_check.specs.Rows as rows;
+
+use crate::blocks::Blocks;
+use crate::layout::Scope;
+use crate::marks::{adds_dead, dead_name, initial_name, last_name};
+use crate::names::Names;
+use crate::params::class_params;
+use crate::signatures::signatures;
+use sml_domain::rows::{Action, Class, State};
+use sml_tree::file::Item;
+use std::alloc::{AllocError, Allocator, Global};
+
+// An action of a state.
+fn action_row<A: Allocator + Clone>(
+    alloc: Global,
+    blocks: &mut Blocks,
+    names: &Names,
+    class: &sml_tree::file::Class<A>,
+    action: &sml_tree::file::Action<A>,
+) -> Result<Action, AllocError>
+    requires { ActionPlaced names.now (class_content class.now) (action_content action.now) }
+    ensures grows { Grows blocks.old blocks.new }
+    ensures there { IfOk result (ActionThere (length blocks.new)) }
+    ensures is { IfOk result (λ x. rows.action_shown (trees_of blocks.new) x ≡ rows.action_row names.now (class_content class.now) (action_content action.now)) }
+{
+    let Some(number) = names.action(&action.name) else {
+        unreachable!();
+    };
+    let scope = Scope {
+        names,
+        class,
+        action,
+    };
+    let block = scope.block(alloc, blocks, &action.body)?;
+    Ok(Action { number, block })
+}
+
+// The actions of a state.
+fn action_rows<A: Allocator + Clone>(
+    alloc: Global,
+    blocks: &mut Blocks,
+    names: &Names,
+    class: &sml_tree::file::Class<A>,
+    actions: &Vec<sml_tree::file::Action<A>, A>,
+) -> Result<Vec<Action>, AllocError>
+    requires { All (ActionPlaced names.now (class_content class.now)) (map action_content actions.now.items) }
+    ensures grows { Grows blocks.old blocks.new }
+    ensures there { IfOk result (λ v. AllByRecursion (ActionThere (length blocks.new)) v.items) }
+    ensures is { IfOk result (λ v. map (rows.action_shown (trees_of blocks.new)) v.items ≡ map (rows.action_row names.now (class_content class.now)) (map action_content actions.now.items)) }
+{
+    let mut made = Vec::new(alloc);
+    for action in actions {
+        made.push(action_row(alloc, blocks, names, class, action)?)?;
+    }
+    Ok(made)
+}
+
+// A state of a class.
+fn state_row<A: Allocator + Clone>(
+    alloc: Global,
+    blocks: &mut Blocks,
+    names: &Names,
+    class: &sml_tree::file::Class<A>,
+    state: &sml_tree::file::State<A>,
+) -> Result<State, AllocError>
+    requires { StatePlaced names.now (class_content class.now) (state_content state.now) }
+    ensures grows { Grows blocks.old blocks.new }
+    ensures there { IfOk result (StateThere (length blocks.new)) }
+    ensures is { IfOk result (λ x. rows.state_shown (trees_of blocks.new) x ≡ rows.state_row names.now (class_content class.now) (state_content state.now)) }
+{
+    let number = names.state(&state.name);
+    let actions = action_rows(alloc, blocks, names, class, &state.actions)?;
+    Ok(State { number, actions })
+}
+
+// The states that a class declares.
+fn state_rows<A: Allocator + Clone>(
+    alloc: Global,
+    blocks: &mut Blocks,
+    names: &Names,
+    class: &sml_tree::file::Class<A>,
+) -> Result<Vec<State>, AllocError>
+    requires { All (StatePlaced names.now (class_content class.now)) (map state_content class.now.states.items) }
+    ensures grows { Grows blocks.old blocks.new }
+    ensures there { IfOk result (λ v. AllByRecursion (StateThere (length blocks.new)) v.items) }
+    ensures is { IfOk result (λ v. map (rows.state_shown (trees_of blocks.new)) v.items ≡ map (rows.state_row names.now (class_content class.now)) (map state_content class.now.states.items)) }
+{
+    let mut made = Vec::new(alloc);
+    for state in &class.states {
+        made.push(state_row(alloc, blocks, names, class, state)?)?;
+    }
+    Ok(made)
+}
+
+// The states of a class, with the one that is added.
+fn all_states<A: Allocator + Clone>(
+    alloc: Global,
+    blocks: &mut Blocks,
+    names: &Names,
+    class: &sml_tree::file::Class<A>,
+) -> Result<Vec<State>, AllocError>
+    requires { ClassPlaced names.now (class_content class.now) }
+    ensures grows { Grows blocks.old blocks.new }
+    ensures there { IfOk result (λ v. AllByRecursion (StateThere (length blocks.new)) v.items) }
+    ensures is { IfOk result (λ v. map (rows.state_shown (trees_of blocks.new)) v.items ≡ map (rows.state_row names.now (class_content class.now)) (map state_content class.now.states.items) ++ rows.added_state names.now (class_content class.now)) }
+{
+    let mut made = state_rows(alloc, blocks, names, class)?;
+    if adds_dead(class) {
+        let number = names.state(&dead_name());
+        made.push(State {
+            number,
+            actions: Vec::new(alloc),
+        })?;
+    }
+    Ok(made)
+}
+
+// A class.
+fn class_row<A: Allocator + Clone>(
+    alloc: Global,
+    blocks: &mut Blocks,
+    names: &Names,
+    class: &sml_tree::file::Class<A>,
+) -> Result<Class, AllocError>
+    requires { ClassPlaced names.now (class_content class.now) }
+    ensures grows { Grows blocks.old blocks.new }
+    ensures there { IfOk result (ClassThere (length blocks.new)) }
+    ensures is { IfOk result (λ x. rows.class_shown (trees_of blocks.new) x ≡ rows.class_row names.now (class_content class.now)) }
+{
+    let Some(first) = initial_name(class) else {
+        unreachable!();
+    };
+    let initial = names.state(&first);
+    let dead = names.state(&last_name(class));
+    let params = class_params(alloc, &class.params)?;
+    let signatures = signatures(alloc, names, class)?;
+    let states = all_states(alloc, blocks, names, class)?;
+    Ok(Class {
+        name: class.name,
+        associated: class.associated,
+        params,
+        states,
+        initial,
+        dead,
+        signatures,
+    })
+}
+
+// Adds a class, where an item is one.
+fn add_class<A: Allocator + Clone>(
+    alloc: Global,
+    blocks: &mut Blocks,
+    made: &mut Vec<Class>,
+    names: &Names,
+    item: &Item<A>,
+) -> Result<(), AllocError>
+    requires placed { ItemPlaced names.now (item_content item.now) }
+    requires there { AllByRecursion (ClassThere (length blocks.now)) made.now.items }
+    ensures grows { Grows blocks.old blocks.new }
+    ensures there { OnOk result (AllByRecursion (ClassThere (length blocks.new)) made.new.items) }
+    ensures is { OnOk result (map (rows.class_shown (trees_of blocks.new)) made.new.items ≡ map (rows.class_shown (trees_of blocks.old)) made.old.items ++ map (rows.class_row names.now) (class_list (item_content item.now))) }
+{
+    if let Item::Class(class) = item {
+        made.push(class_row(alloc, blocks, names, class)?)?;
+    }
+    Ok(())
+}
+
+/// The classes, whose blocks are put behind the others.
+pub fn class_rows<A: Allocator + Clone>(
+    alloc: Global,
+    blocks: &mut Blocks,
+    names: &Names,
+    items: &[Item<A>],
+) -> Result<Vec<Class>, AllocError>
+    requires { FilePlaced names.now (map item_content items.now) }
+    ensures there { IfOk result (λ v. AllByRecursion (ClassThere (length blocks.new)) v.items) }
+    ensures is { IfOk result (λ v. map (rows.class_shown (trees_of blocks.new)) v.items ≡ map (rows.class_row names.now) (classes_in (map item_content items.now))) }
+{
+    let mut made = Vec::new(alloc);
+    for item in items {
+        add_class(alloc, blocks, &mut made, names, item)?;
+    }
+    Ok(made)
+}
