@@ -21,9 +21,10 @@ usage: read_bench time ROUNDS         over made texts: one of 1 MiB, and sixteen
        read_bench time ROUNDS FILE    over the text of FILE
        read_bench write FILE CLASSES  writes a made text, for other readers
 
-The least time of so many rounds is printed, of reading into memory of Global and into an arena, of
-checking and of printing, with the speed in MB/s (a million bytes a second, of the texts that were read). A made
-text is legal. It has 4 KiB, and 20 KiB more for each class, and CLASSES is 3 to 51.";
+The least time of so many rounds is printed, with the speed in MB/s (a million bytes a second, of the
+texts that were read): of reading into memory of Global and into an arena, of looking for a fault, of
+checking, which looks for a fault and makes the domain, and of printing. A made text is legal. It has
+4 KiB, and 20 KiB more for each class, and CLASSES is 3 to 51.";
 
 fn main(rt: HostRuntime) -> Result<()> {
     let words: Vec<String> = env::args(&rt)?.collect(rt.alloc())?;

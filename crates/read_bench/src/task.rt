@@ -2,6 +2,8 @@
 
 use anyhow::{Result, anyhow};
 use bumpalo::Bump;
+use sml_check::check;
+use sml_checkable::laws::laws_of_read_files;
 use sml_faults::first_fault;
 use sml_print::write_to;
 use sml_read::read;
@@ -16,20 +18,29 @@ pub enum Task {
     Read,
     /// The same in an arena, which is reset.
     ReadInArena,
-    /// Files that were read before are checked.
+    /// In files that were read before the first fault is looked for.
+    FindFault,
+    /// Files that were read before are checked, and their domains are dropped.
     Check,
     /// Files that were read before are printed, into one text.
     Print,
 }
 
 /// All that is timed.
-pub const TASKS: [Task; 4] = [Task::Read, Task::ReadInArena, Task::Check, Task::Print];
+pub const TASKS: [Task; 5] = [
+    Task::Read,
+    Task::ReadInArena,
+    Task::FindFault,
+    Task::Check,
+    Task::Print,
+];
 
 impl Task {
     pub fn name(self) -> &'static str {
         match self {
             Task::Read => "read, Global",
             Task::ReadInArena => "read, arena",
+            Task::FindFault => "first fault",
             Task::Check => "check",
             Task::Print => "print",
         }
@@ -45,6 +56,7 @@ impl Task {
         match self {
             Task::Read => time_read(rt, texts),
             Task::ReadInArena => time_read_in_arena(rt, arena, texts),
+            Task::FindFault => time_finding_faults(rt, texts),
             Task::Check => time_checking(rt, texts),
             Task::Print => time_printing(rt, texts),
         }
@@ -64,12 +76,29 @@ fn time_read_in_arena<R: Clock>(rt: &R, arena: &mut Bump, texts: &[Vec<u8>]) -> 
     Ok(start.elapsed(rt)?)
 }
 
-fn time_checking<R: Clock + AllocGlobal>(rt: &R, texts: &[Vec<u8>]) -> Result<Duration> {
+fn time_finding_faults<R: Clock + AllocGlobal>(rt: &R, texts: &[Vec<u8>]) -> Result<Duration> {
     let files = files_of(rt.alloc(), texts)?;
     let start = Instant::now(rt)?;
     for file in &files {
         first_fault(rt.alloc(), file).map_err(|error| anyhow!("a file is refused: {error}"))?;
     }
+    Ok(start.elapsed(rt)?)
+}
+
+fn time_checking<R: Clock + AllocGlobal>(rt: &R, texts: &[Vec<u8>]) -> Result<Duration> {
+    let mut whole = Duration::ZERO;
+    for text in texts {
+        whole = whole.saturating_add(time_check(rt, text)?);
+    }
+    Ok(whole)
+}
+
+fn time_check<R: Clock + AllocGlobal>(rt: &R, text: &[u8]) -> Result<Duration> {
+    let file = read(rt.alloc(), text).map_err(|error| anyhow!("a text is refused: {error}"))?;
+    laws_of_read_files();
+    let start = Instant::now(rt)?;
+    let domain = check(rt.alloc(), &file).map_err(|error| anyhow!("a file is refused: {error}"))?;
+    drop(domain);
     Ok(start.elapsed(rt)?)
 }
 

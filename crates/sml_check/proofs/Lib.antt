@@ -5,6 +5,7 @@ pub mod Foldings
 pub mod Founds
 pub mod Shown
 pub mod Numbered
+pub mod Signing
 pub mod PlacedBlocks
 pub mod States
 pub mod PlacedFiles

@@ -119,3 +119,17 @@ distinct_from names n at = by (fold_from n names [] (any_name (distinct names) n
     by : (list_any (same_name n) [] ≡ true) ⊎ (list_any (same_name n) names ≡ true) → (m : List ℕ) × Contains names m × (same_name n m ≡ true)
     by (inl h) = cc
     by (inr h) = any_there (same_name n) names h
+
+-- a name is among the distinct ones just where it is among them
+pub distinct_any : (x : List ℕ) (names : List (List ℕ)) → list_any (same_name x) (distinct names) ≡ list_any (same_name x) names
+distinct_any x names = by (list_any (same_name x) names) (list_any (same_name x) (distinct names)) refl refl
+  where
+    none : (list_any (same_name x) [] ≡ true) ⊎ (list_any (same_name x) names ≡ true) → list_any (same_name x) names ≡ true
+    none (inl h) = cc
+    none (inr h) = h
+
+    by : (a b : Bool) → list_any (same_name x) names ≡ a → list_any (same_name x) (distinct names) ≡ b → b ≡ a
+    by true true e f = refl
+    by false false e f = refl
+    by true false e f = sym f ∙ fold_adds x names [] e
+    by false true e f = sym (none (fold_from x names [] f)) ∙ e

@@ -9,20 +9,18 @@ use Rattle.sml_tree.specs.declared.cond.Scope.TheVariants.{One, All as AllOf, An
 use Rattle.sml_tree.specs.declared.file.Kind.{Kind}
 use Rattle.sml_tree.specs.Syntax.{LiteralData, ArgData, lit, param, SendData, ItemData, class, object, group, ClassData, StateData, ActionData, ActionParamData}
 use Rattle.sml_faults.specs.Sites.{Site, asks, tests, sets, ends}
-use Rattle.sml_faults.specs.Lookup.{dead_name, adds_dead, actions, actions_of, action_named, is_action, is_class_param, is_action_param, of_set}
+use Rattle.sml_faults.specs.Lookup.{dead_name, adds_dead, actions, actions_of, is_class_param, is_action_param, of_set}
 use Rattle.sml_faults.specs.Inside.{HasAction, HasSite, DeclaresClass, DeclaresObject, DeclaresSet, Declares, SpeaksOf, Sends}
 use Rattle.sml_faults.specs.ValueLaws.{CanBeIn, IsParam, HasKind}
 use Rattle.sml_faults.specs.Kinds.{IsWellFormed}
 use Rattle.sml_faults.proofs.Rules.{keeps_rules}
 use Rattle.sml_faults.specs.Sound.{IsSound}
-use Rattle.sml_faults.proofs.Pairs.{any_at, named_same, same_names, or_true, contains_here, contains_all, not_false}
-use Rattle.sml_faults.proofs.Named.{found_is}
-use Rattle.sml_domain.specs.Names.{distinct}
+use Rattle.sml_faults.proofs.Pairs.{any_at, named_same, or_true, contains_here, contains_all, not_false}
 use Rattle.sml_check.specs.Numbers.{Names, class_list, object_list, group_list, classes_in, objects_in, groups_in, class_name, object_name, group_name, state_name, action_name, names_of_states, names_of_actions, added_names, names_of, place}
 use Rattle.sml_check.specs.Programs.{class_place, action_place}
-use Rattle.sml_check.specs.Placed.{IsWritten, HasNumber, ValuePlaced, PassedPlaced, TargetPlaced, AskedPlaced, RequestPlaced, DefaultWritten, DefaultsWritten, ActionPlaced, StatePlaced, SignaturePlaced, AddedPlaced, ClassPlaced, ItemPlaced, FilePlaced}
+use Rattle.sml_check.specs.Placed.{IsWritten, HasNumber, ValuePlaced, PassedPlaced, TargetPlaced, AskedPlaced, RequestPlaced, DefaultWritten, ActionPlaced, StatePlaced, SignaturePlaced, StateSigned, AddedPlaced, ClassPlaced, ItemPlaced, FilePlaced}
 use Rattle.sml_check.specs.Texts.{ArgWritten, HasTexts}
-use Rattle.sml_check.proofs.Numbered.{number_of_one, contains_map, distinct_has, distinct_from, place_there, all_from}
+use Rattle.sml_check.proofs.Numbered.{number_of_one, contains_map, distinct_has, place_there, all_from}
 use Rattle.sml_check.proofs.States.{can_be, initial_is, last_is}
 use Rattle.sml_check.proofs.PlacedBlocks.{SitePlaced, block_placed}
 
@@ -141,19 +139,14 @@ module _ (file : List ItemData) where
       actions = all_from (ActionPlaced names c) s.actions (λ a a_at. action_placed c at a (contains_all actions_of c.states s a in_it a_at));
     }
 
-    signature_placed : (c : ClassData) → Contains file (class c) → (x : List ℕ) → Contains (distinct (names_of_actions c)) x → SignaturePlaced names c x
-    signature_placed c at x in_it =
-        let one = distinct_from (names_of_actions c) x in_it in
-        record {
-          name = named_action c at x (subst (Contains (names_of_actions c)) (sym (same_names x one.0 one.2)) one.1);
-          params = by (action_named c x) refl;
-        }
-      where
-        by : (o : Option ActionData) → action_named c x ≡ o → IfSome o DefaultsWritten
-        by None is = tt
-        by (Some a) is =
-            let there = found_is (is_action x) (actions c) a is in
-            all_from DefaultWritten a.params (λ p p_at. default_written c a (record { class_in = at; action_in = there.0 }) p p_at)
+    signature_placed : (c : ClassData) → Contains file (class c) → (a : ActionData) → Contains (actions c) a → SignaturePlaced names a
+    signature_placed c at a in_it = record {
+      name = action_number c at a in_it;
+      defaults = all_from DefaultWritten a.params (default_written c a (record { class_in = at; action_in = in_it }));
+    }
+
+    state_signed : (c : ClassData) → Contains file (class c) → (s : StateData) → Contains c.states s → StateSigned names s
+    state_signed c at s in_it = all_from (SignaturePlaced names) s.actions (λ a a_at. signature_placed c at a (contains_all actions_of c.states s a in_it a_at))
 
     added_placed : (c : ClassData) → Contains file (class c) → (b : Bool) → adds_dead c ≡ b → AddedPlaced names b
     added_placed c at false is = tt
@@ -166,7 +159,7 @@ module _ (file : List ItemData) where
       added = added_placed c at (adds_dead c) refl;
       initial = initial_is c (HasNumber names.states) (state_number c at) (dead_number c at) (ok.classes_have_states c at);
       dead = last_is c (HasNumber names.states) (state_number c at) (dead_number c at);
-      signatures = all_from (SignaturePlaced names c) (distinct (names_of_actions c)) (signature_placed c at);
+      signatures = all_from (StateSigned names) c.states (state_signed c at);
     }
 
     item_placed : (i : ItemData) → Contains file i → ItemPlaced names i

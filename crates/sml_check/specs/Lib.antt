@@ -1,6 +1,7 @@
 pub mod Numbers
 pub mod Programs
 pub mod Rows
+pub mod Signed
 pub mod Placed
 pub mod Grown
 pub mod FileDomain

@@ -4,9 +4,8 @@ use Rattle.sml_tree.specs.declared.cond.Scope.{Scope}
 use Rattle.sml_tree.specs.declared.cond.Scope.TheVariants.{One, All as AllOf, Any}
 use Rattle.sml_domain.specs.Texts.{IsText}
 use Rattle.sml_tree.specs.Syntax.{LiteralData, int, str, ArgData, lit, param, PassedData, CondData, both, either, neither, test, SendData, InstrData, send, choose, assign, move_to, terminate, BlockData, done, step, ItemData, class, object, group, ClassData, StateData, ActionData, ClassParamData, ActionParamData}
-use Rattle.sml_faults.specs.Lookup.{dead_name, adds_dead, action_named}
-use Rattle.sml_domain.specs.Names.{distinct}
-use Rattle.sml_check.specs.Numbers.{Names, place, names_of_actions}
+use Rattle.sml_faults.specs.Lookup.{dead_name, adds_dead}
+use Rattle.sml_check.specs.Numbers.{Names, place}
 use Rattle.sml_check.specs.Rows.{initial_name, last_name}
 use Rattle.sml_check.specs.Programs.{class_place, action_place}
 
@@ -93,10 +92,14 @@ pub record StatePlaced (n : Names) (c : ClassData) (s : StateData) : Type 0 wher
   pub name : HasNumber n.states s.name
   pub actions : All (ActionPlaced n c) s.actions
 
--- the name of an action, with a number, and the defaults of its parameters
-pub record SignaturePlaced (n : Names) (c : ClassData) (x : List ℕ) : Type 0 where
-  pub name : HasNumber n.actions x
-  pub params : IfSome (action_named c x) DefaultsWritten
+-- an action with a number, and the defaults of its parameters
+pub record SignaturePlaced (n : Names) (a : ActionData) : Type 0 where
+  pub name : HasNumber n.actions a.name
+  pub defaults : DefaultsWritten a
+
+-- a state with such actions
+abbrev pub StateSigned : Names → StateData → Type 0
+StateSigned n s = All (SignaturePlaced n) s.actions
 
 -- an added state with a number
 abbrev pub AddedPlaced : Names → Bool → Type 0
@@ -110,7 +113,7 @@ pub record ClassPlaced (n : Names) (c : ClassData) : Type 0 where
   pub added : AddedPlaced n (adds_dead c)
   pub initial : IsSomeAnd (initial_name c) (HasNumber n.states)
   pub dead : HasNumber n.states (last_name c)
-  pub signatures : All (SignaturePlaced n c) (distinct (names_of_actions c))
+  pub signatures : All (StateSigned n) c.states
 
 -- an item whose names have numbers
 abbrev pub ItemPlaced : Names → ItemData → Type 0

@@ -17,8 +17,7 @@ use std::alloc::{Allocator, Global};
 /// the language, as in every file that was read.
 ///
 /// The cost is that of looking for a fault, and then the size of the tree, where the name of an object,
-/// a class, a set or a parameter counts as often as there are things that it may stand for. The actions
-/// of a class count as the square of their number.
+/// a class, a set or a parameter counts as often as there are things that it may stand for.
 ///
 /// # Errors
 ///

@@ -75,18 +75,6 @@ fn add_actions_of<A: Allocator + Clone>(
     Ok(())
 }
 
-/// The names of the actions of a class, each once.
-pub fn actions_of_class<A: Allocator + Clone>(
-    alloc: Global,
-    class: &Class<A>,
-) -> Result<NumberedNames, AllocError>
-    ensures { IfOk result (λ n. n ≡ distinct (numbers.names_of_actions (class_content class.now))) }
-{
-    let mut names = NumberedNames::new(alloc);
-    add_actions_of(&mut names, &class.states)?;
-    Ok(names)
-}
-
 // Numbers the names of the states of an item.
 #[tactic(auto, using(crate::proofs::Foldings::foldings))]
 fn add_item_states<A: Allocator + Clone>(

@@ -1,7 +1,15 @@
-use Rattle.std.proofs.Common.{All, subst, sym}
+use Rattle.std.proofs.Common.{◌∙◌, ap, []}
 use Rattle.sml_tree.specs.Content.{class_content}
-use Rattle.sml_check.specs.Placed.{SignaturePlaced}
+use Rattle.sml_faults.specs.Lookup.{actions}
+use Rattle.sml_check.specs.Signed.{Signed, with_actions}
+use Rattle.sml_check.proofs.Signing.{class_signed}
 use Rattle.sml_check.proofs.signatures.signatures.Goals as goal
 
-pub signatures_of-requires : goal.signatures_of-requires
-signatures_of-requires g c = subst (All (SignaturePlaced c.args.names.now (class_content c.args.class.now))) (sym c.in_ok-declared.ensures) c.requires
+pub returns : goal.returns
+returns g c =
+    let n = c.args.names.now in
+    let class = class_content c.args.class.now in
+    let new : Signed = record { declared = c.new.result; rows = c.new-2.result.items } in
+    ap (λ (s : Signed). s.rows)
+    (c.made.view_is ∙ c.in_ok-add_states.ensures ∙ ap (λ ns. with_actions n (record { declared = ns; rows = c.new-2.result.items }) (actions class)) c.new.ensures
+    ∙ ap (λ rs. with_actions n (record { declared = []; rows = rs }) (actions class)) c.new-2.ensures.items) ∙ class_signed n class
