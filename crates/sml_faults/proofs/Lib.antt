@@ -1,6 +1,7 @@
 pub mod Rests
 pub mod Places
 pub mod Judged
+pub mod InBlocks
 pub mod BlockRests
 pub mod Twice
 pub mod FaultKinds

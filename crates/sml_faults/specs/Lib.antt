@@ -4,6 +4,7 @@ pub mod Repeats
 pub mod Faults
 pub mod Heads
 pub mod Kinds
+pub mod InBlocks
 pub mod KindText
 pub mod Tables
 pub mod Inside

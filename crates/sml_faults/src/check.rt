@@ -30,6 +30,19 @@ const KINDS: [CheckKind; 15] = [
     CheckKind::AssociatedBody,
 ];
 
+// Those whose faults may stand elsewhere than in blocks.
+const OTHER_KINDS: [CheckKind; 9] = [
+    CheckKind::Duplicate,
+    CheckKind::NoState,
+    CheckKind::TwoInitial,
+    CheckKind::TwoDead,
+    CheckKind::UnknownClass,
+    CheckKind::UnknownObject,
+    CheckKind::KindMismatch,
+    CheckKind::ParamsDiffer,
+    CheckKind::AssociatedBody,
+];
+
 impl<'a, A: Allocator + Clone> Tables<'a, A> {
     // The first fault of a kind.
     fn fault_of(&self, kind: CheckKind) -> Option<Name>
@@ -66,11 +79,16 @@ impl<'a, A: Allocator + Clone> Tables<'a, A> {
         None
     }
 
-    // The first fault of the kind of lowest number.
+    // The first fault of the kind of lowest number. Where no block is at fault, the kinds that stand in
+    // blocks alone are passed over.
     fn fault(&self) -> Option<(CheckKind, Name)>
         ensures { result ≡ look.first (all_faults (file_content self.now.file.now)) }
     {
-        self.kinds_fault(&KINDS)
+        if self.has_faulty_item(&self.file.items) {
+            self.kinds_fault(&KINDS)
+        } else {
+            self.kinds_fault(&OTHER_KINDS)
+        }
     }
 }
 

@@ -5,6 +5,7 @@ mod actions;
 mod check;
 mod differing;
 mod heads;
+mod in_blocks;
 mod kind;
 mod laws;
 mod lookup;
