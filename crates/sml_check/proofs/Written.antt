@@ -1,5 +1,5 @@
 -- A file of items whose strings have the bytes of one.
-use Rattle.std.proofs.Common.{◌≡◌, subst, ℕ, List}
+use Rattle.std.proofs.Common.{subst, List}
 use Rattle.std.specs.Prelude.{IfSome}
 use Rattle.std.specs.List.{Contains, AllByRecursion}
 use Rattle.std.proofs.lemmas.List.Elements.{All-contains, All-from_recursion}

@@ -1,5 +1,4 @@
 -- Files whose strings have the bytes of one, told item by item.
-use Rattle.std.specs.Prelude.{List}
 use Rattle.std.specs.List.{AllByRecursion}
 use Rattle.sml_tree.specs.Syntax.{PassedData, ItemData, class, object, group, ClassData, ActionData}
 use Rattle.sml_faults.specs.Lookup.{actions}
