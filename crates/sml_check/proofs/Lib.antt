@@ -19,3 +19,5 @@ pub mod ObjectRows
 pub mod RequestRanges
 pub mod ProgramRanges
 pub mod Soundness
+pub mod NumberLaws
+pub mod Truths

@@ -25,7 +25,7 @@ use Rattle.sml_check.proofs.Numbered.{distinct_from, distinct_has, placed_any}
 use Rattle.sml_check.proofs.PlacedFiles.{named_action, class_there}
 use Rattle.sml_check.proofs.Ranges.{objects_apart, classes_apart}
 
-at_place : (o : Option ℕ) → is_some o ≡ true → o ≡ Some (place_or o)
+pub at_place : (o : Option ℕ) → is_some o ≡ true → o ≡ Some (place_or o)
 at_place None h = cc
 at_place (Some k) h = refl
 

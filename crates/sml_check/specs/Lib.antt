@@ -7,4 +7,6 @@ pub mod Grown
 pub mod FileDomain
 pub mod Texts
 pub mod Written
+pub mod Truth
 pub mod Laws
+pub mod Example

@@ -19,7 +19,7 @@ mod tests;
 mod values;
 
 pub use checked::check;
-pub use laws::one_domain;
+pub use laws::{laws_of_conditions, laws_of_numbers, one_domain};
 pub use sml_domain::domain::Domain;
 pub use sml_domain::error::TextError;
 pub use sml_domain::ids::{ActionId, BlockId, ClassId, ObjId, ParamId, SetId, StateId};

@@ -1,12 +1,19 @@
 //! Files that are built here and checked.
 
-ghost use Rattle.std.specs.Prelude.{IfOk};
+ghost use Rattle.std.specs.Prelude.{◌≡◌, ◌∷◌, [], true, false, IfOk};
+ghost use Rattle.std.specs.List.{list_all, list_any};
 ghost use Rattle.sml_tree.specs.Content.{action_content, class_content, file_content};
+ghost use Rattle.sml_domain.specs.Truth.{holds_of};
+ghost use Rattle.sml_check.specs.Numbers.{names_of};
+ghost use Rattle.sml_check.specs.Programs.{state_numbers, formula};
 ghost use Rattle.sml_check.specs.Texts.{HasTexts};
+ghost use Rattle.sml_check.specs.Truth.{holds_in};
 ghost use Rattle.sml_check.specs.Written.{ActionWritten, ClassWritten};
+ghost use Rattle.sml_check.specs.Example as example;
 
 use crate::{
-    ActionId, CheckKind, Instr, ObjId, Operand, SetId, StateId, Target, Value, check, one_domain,
+    ActionId, CheckKind, Instr, ObjId, Operand, SetId, StateId, Target, Value, check,
+    laws_of_conditions, laws_of_numbers, one_domain,
 };
 use sml_tree::block::Block;
 use sml_tree::file::{
@@ -123,6 +130,24 @@ fn checks_the_empty_file(rt: HostRuntime) -> Result<(), Fail> {
     };
     assert_eq!(rt; domain.objects(), 0);
     one_domain();
+    Ok(())
+}
+
+// What tests answer of a lamp that is off, by names and by numbers.
+fn answers_of_tests()
+    ensures left_out { state_numbers (names_of example.file) example.states ≡ 1 ∷ [] }
+    ensures named { list_all (holds_in example.file example.off) example.true_of_off ≡ true }
+    ensures not_named { list_any (holds_in example.file example.off) example.false_of_off ≡ false }
+    ensures numbered { list_all (λ f. holds_of example.members example.second (formula (names_of example.file) f)) example.true_of_off ≡ true }
+    ensures not_numbered { list_any (λ f. holds_of example.members example.second (formula (names_of example.file) f)) example.false_of_off ≡ false }
+{}
+
+#[test]
+fn leaves_out_states_that_nobody_declares(rt: HostRuntime) -> Result<(), Fail> {
+    answers_of_tests();
+    laws_of_conditions();
+    laws_of_numbers();
+    assert!(rt; check(rt.alloc(), &lamps(rt.alloc())?).is_ok());
     Ok(())
 }
 

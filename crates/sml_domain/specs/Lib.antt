@@ -6,6 +6,7 @@ pub mod Program
 pub mod Domain
 pub mod Trees
 pub mod Lookups
+pub mod Truth
 pub mod Places
 pub mod Completing
 pub mod Fits
