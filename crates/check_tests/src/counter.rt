@@ -250,3 +250,25 @@ fn values_that_are_written_out(rt: HostRuntime) -> Result<(), Fail> {
     assert!(rt; *string == Value::Text(Text::new(alloc, b"a b")?));
     Ok(())
 }
+
+// Two classes may declare one action with different parameters, and a class may list them in two states.
+#[test]
+fn parameters_by_class(rt: HostRuntime) -> Result<(), Fail> {
+    let alloc = rt.alloc();
+    let text =
+        b"class: J state: S action: GO (int A) class: K state: T action: GO (string B = \"b\") state: S action: GO (string B = \"b\") object: X is_of_class K object: Y is_of_class J";
+    let domain = domain_of(alloc, text)?;
+    let go = ActionId::new(0);
+    let Some([b]) = domain.parameters(ObjId::new(0), go) else {
+        panic!(rt; "other parameters at X");
+    };
+    assert_eq!(rt; b.name.as_bytes(), b"B".as_slice());
+    assert!(rt; b.kind == Kind::Str);
+    assert!(rt; b.value == Some(Value::Text(Text::new(alloc, b"b")?)));
+    let Some([a]) = domain.parameters(ObjId::new(1), go) else {
+        panic!(rt; "other parameters at Y");
+    };
+    assert_eq!(rt; a.name.as_bytes(), b"A".as_slice());
+    assert!(rt; a.kind == Kind::Int && a.value.is_none());
+    Ok(())
+}

@@ -16,6 +16,8 @@ mod first;
 #[cfg(test)]
 mod pair;
 #[cfg(test)]
+mod sets;
+#[cfg(test)]
 mod strings;
 #[cfg(test)]
 mod supplies;
