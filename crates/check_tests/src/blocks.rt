@@ -1,30 +1,31 @@
 //! Blocks with branches in one another, and how actions end.
 
 use crate::domain_of::domain_of;
-use sml_domain::ids::{ActionId, ObjId, StateId};
+use crate::shapes::{asks, instructions_of, is_move};
+use sml_domain::domain::Domain;
+use sml_domain::ids::{BlockId, ObjId};
 use sml_domain::instr::{Asked, Cond, Instr};
 use std::test::*;
+
+// Whether the first action moves to the added state, and the second ends in the declared one.
+fn ends_both_ways(domain: &Domain) -> bool {
+    let goes = match instructions_of(domain, 0, 0, 0) {
+        Some([Instr::MoveTo(state)]) => state.get() == 1,
+        _ => false,
+    };
+    let stops = match instructions_of(domain, 0, 0, 1) {
+        Some([Instr::Terminate(state)]) => state.get() == 0,
+        _ => false,
+    };
+    goes && stops
+}
 
 #[test]
 fn both_ways_to_end(rt: HostRuntime) -> Result<(), Fail> {
     let text =
         b"class: K state: S action: GO move_to DEAD action: STOP terminate_action /state=S object: X is_of_class K";
     let domain = domain_of(rt.alloc(), text)?;
-    let (x, s) = (ObjId::new(0), StateId::new(0));
-    let (Some(go), Some(stop)) = (
-        domain.block(x, s, ActionId::new(0)),
-        domain.block(x, s, ActionId::new(1)),
-    ) else {
-        panic!(rt; "no blocks of GO and STOP");
-    };
-    let [Instr::MoveTo(dead)] = domain.instructions(go) else {
-        panic!(rt; "other instructions of GO");
-    };
-    assert_eq!(rt; *dead, StateId::new(1));
-    let [Instr::Terminate(state)] = domain.instructions(stop) else {
-        panic!(rt; "other instructions of STOP");
-    };
-    assert_eq!(rt; *state, s);
+    assert!(rt; ends_both_ways(&domain));
     Ok(())
 }
 
@@ -49,78 +50,68 @@ object: M is_of_class LAMP
 object: B is_of_class BOSS
 ";
 
-#[test]
-fn branches_in_one_another(rt: HostRuntime) -> Result<(), Fail> {
-    let domain = domain_of(rt.alloc(), BRANCHES)?;
-    let Some(go) = domain.block(ObjId::new(2), StateId::new(2), ActionId::new(0)) else {
-        panic!(rt; "no block of GO");
-    };
-    let [Instr::If { yes, no, .. }] = domain.instructions(go) else {
-        panic!(rt; "other instructions of GO");
-    };
-    let [Instr::MoveTo(on)] = domain.instructions(*yes) else {
-        panic!(rt; "other instructions of the first branch");
-    };
-    assert_eq!(rt; *on, StateId::new(1));
-    let [
-        Instr::If {
-            cond: Cond::Test { asked, .. },
-            yes,
-            no,
-        },
-    ] = domain.instructions(*no)
-    else {
-        panic!(rt; "other instructions of the second branch");
-    };
-    assert_eq!(rt; *asked, Asked::One(ObjId::new(1)));
-    let [Instr::MoveTo(idle)] = domain.instructions(*yes) else {
-        panic!(rt; "other instructions of the inner first branch");
-    };
-    assert_eq!(rt; *idle, StateId::new(2));
-    let [Instr::MoveTo(dead)] = domain.instructions(*no) else {
-        panic!(rt; "other instructions of the inner second branch");
-    };
-    assert_eq!(rt; *dead, StateId::new(3));
-    Ok(())
+const L: usize = 0;
+
+const M: usize = 1;
+
+const B: usize = 2;
+
+const OFF: usize = 0;
+
+const ON: usize = 1;
+
+const IDLE: usize = 2;
+
+const DEAD: usize = 3;
+
+const GO: usize = 0;
+
+// Whether a condition asks for the first lamp in neither of two states.
+fn is_neither(cond: &Cond) -> bool {
+    match cond {
+        Cond::Test {
+            asked,
+            negated,
+            states,
+        } => {
+            *asked == Asked::One(ObjId::new(L))
+                && *negated
+                && matches!(states.as_slice(), [on, dead] if on.get() == ON && dead.get() == DEAD)
+        }
+        _ => false,
+    }
+}
+
+fn is_both(cond: &Cond) -> bool {
+    match cond {
+        Cond::And(left, right) => is_neither(left) && asks(right, Asked::One(ObjId::new(M)), ON),
+        _ => false,
+    }
+}
+
+fn is_inner(domain: &Domain, block: BlockId) -> bool {
+    match domain.instructions(block) {
+        [Instr::If { cond, yes, no }] => {
+            asks(cond, Asked::One(ObjId::new(M)), OFF)
+                && is_move(domain, *yes, IDLE)
+                && is_move(domain, *no, DEAD)
+        }
+        _ => false,
+    }
+}
+
+fn branches(domain: &Domain) -> bool {
+    match instructions_of(domain, B, IDLE, GO) {
+        Some([Instr::If { cond, yes, no }]) => {
+            is_both(cond) && is_move(domain, *yes, ON) && is_inner(domain, *no)
+        }
+        _ => false,
+    }
 }
 
 #[test]
-fn condition_of_both(rt: HostRuntime) -> Result<(), Fail> {
+fn branches_in_one_another(rt: HostRuntime) -> Result<(), Fail> {
     let domain = domain_of(rt.alloc(), BRANCHES)?;
-    let Some(go) = domain.block(ObjId::new(2), StateId::new(2), ActionId::new(0)) else {
-        panic!(rt; "no block of GO");
-    };
-    let Some(
-        Instr::If {
-            cond: Cond::And(left, right),
-            ..
-        },
-    ) = domain.instruction(go, 0)
-    else {
-        panic!(rt; "no and in GO");
-    };
-    let Cond::Test {
-        asked,
-        negated,
-        states,
-    } = &**left
-    else {
-        panic!(rt; "no test of L");
-    };
-    assert!(rt; *asked == Asked::One(ObjId::new(0)) && *negated);
-    assert_eq!(rt;
-        states.as_slice(),
-        [StateId::new(1), StateId::new(3)].as_slice()
-    );
-    let Cond::Test {
-        asked,
-        negated,
-        states,
-    } = &**right
-    else {
-        panic!(rt; "no test of M");
-    };
-    assert!(rt; *asked == Asked::One(ObjId::new(1)) && !*negated);
-    assert_eq!(rt; states.as_slice(), [StateId::new(1)].as_slice());
+    assert!(rt; branches(&domain));
     Ok(())
 }

@@ -1,10 +1,10 @@
 //! A counter, which keeps a number and a string and sends them to a sink.
 
 use crate::domain_of::{domain_of, numbers_actions, numbers_objects, numbers_states};
+use crate::shapes::{instructions_of, is_given, is_int, is_own, is_param, is_text, passes_own};
 use sml_domain::domain::Domain;
-use sml_domain::ids::{ActionId, BlockId, ClassId, ObjId, ParamId, SetId, StateId};
+use sml_domain::ids::{ActionId, ClassId, ObjId, SetId, StateId};
 use sml_domain::instr::{Instr, Operand, Target};
-use sml_domain::text::Text;
 use sml_domain::value::Value;
 use sml_tree::file::Kind;
 use sml_tree::name::Name;
@@ -42,233 +42,227 @@ const PUT: usize = 1;
 
 const SHOW: usize = 2;
 
-#[test]
-fn numbers_of_names(rt: HostRuntime) -> Result<(), Fail> {
-    let domain = domain_of(rt.alloc(), COUNTER)?;
-    assert_eq!(rt; domain.objects(), 2);
+fn has_numbers(domain: &Domain) -> bool {
     let objects: [&[u8]; 2] = [b"OUT", b"C"];
-    assert!(rt; numbers_objects(&domain, &objects));
     let states: [&[u8]; 3] = [b"READY", b"IDLE", b"DEAD"];
-    assert!(rt; numbers_states(&domain, &states));
     let actions: [&[u8]; 3] = [b"TAKE", b"PUT", b"SHOW"];
-    assert!(rt; numbers_actions(&domain, &actions));
-    let sink = domain.class(&Name::from_word(b"SINK"));
-    assert_eq!(rt; sink, Some(ClassId::new(0)));
-    let counter = domain.class(&Name::from_word(b"COUNTER"));
-    assert_eq!(rt; counter, Some(ClassId::new(1)));
-    assert!(rt; domain.set(&Name::from_word(b"OUT")).is_none());
-    assert!(rt; domain.members(SetId::new(0)).is_empty());
-    Ok(())
+    numbers_objects(domain, &objects)
+        && numbers_states(domain, &states)
+        && numbers_actions(domain, &actions)
+        && domain.class(&Name::from_word(b"SINK")) == Some(ClassId::new(0))
+        && domain.class(&Name::from_word(b"COUNTER")) == Some(ClassId::new(1))
+        && domain.set(&Name::from_word(b"OUT")).is_none()
+        && domain.members(SetId::new(0)).is_empty()
 }
 
-#[test]
-fn what_the_objects_are(rt: HostRuntime) -> Result<(), Fail> {
-    let domain = domain_of(rt.alloc(), COUNTER)?;
+fn has_sink(domain: &Domain) -> bool {
     let Some(out) = domain.object(&Name::from_word(b"OUT")) else {
-        panic!(rt; "no object OUT");
+        return false;
     };
+    let (ready, idle) = (StateId::new(READY), StateId::new(IDLE));
+    domain.class_of(out) == ClassId::new(0)
+        && domain.associated(out)
+        && domain.initial(out) == ready
+        && domain.dead(out) == StateId::new(DEAD)
+        && !domain.is_state(out, idle)
+        && domain.declares(out, ready, ActionId::new(TAKE))
+        && !domain.declares(out, ready, ActionId::new(PUT))
+        && domain.class_parameters(out).is_empty()
+        && domain.parameters(out, ActionId::new(PUT)).is_none()
+}
+
+fn has_counter(domain: &Domain) -> bool {
     let Some(c) = domain.object(&Name::from_word(b"C")) else {
-        panic!(rt; "no object C");
+        return false;
     };
-    assert!(rt; domain.has(c) && !domain.has(ObjId::new(2)));
-    assert_eq!(rt; domain.class_of(out), ClassId::new(0));
-    assert_eq!(rt; domain.class_of(c), ClassId::new(1));
-    assert!(rt; domain.associated(out) && !domain.associated(c));
-    let (ready, idle, dead) = (StateId::new(READY), StateId::new(IDLE), StateId::new(DEAD));
-    assert_eq!(rt; domain.initial(out), ready);
-    assert_eq!(rt; domain.initial(c), idle);
-    assert_eq!(rt; domain.dead(out), dead);
-    assert_eq!(rt; domain.dead(c), dead);
-    assert!(rt; domain.is_state(out, ready) && !domain.is_state(out, idle));
-    assert!(rt; domain.is_state(c, dead) && !domain.is_state(c, ready));
-    assert!(rt; domain.declares(out, ready, ActionId::new(TAKE)));
-    assert!(rt; domain.declares(c, idle, ActionId::new(PUT)));
-    assert!(rt; domain.declares(c, idle, ActionId::new(SHOW)));
-    assert!(rt; !domain.declares(c, dead, ActionId::new(SHOW)));
-    assert!(rt; !domain.declares(out, ready, ActionId::new(PUT)));
-    Ok(())
+    let (idle, dead) = (StateId::new(IDLE), StateId::new(DEAD));
+    domain.class_of(c) == ClassId::new(1)
+        && !domain.associated(c)
+        && domain.initial(c) == idle
+        && domain.dead(c) == dead
+        && domain.declares(c, idle, ActionId::new(PUT))
+        && domain.declares(c, idle, ActionId::new(SHOW))
+        && !domain.declares(c, dead, ActionId::new(SHOW))
+        && matches!(domain.parameters(c, ActionId::new(SHOW)), Some([]))
+        && domain.parameters(c, ActionId::new(TAKE)).is_none()
+}
+
+// Whether the class has its two parameters with their values.
+fn has_class_parameters(domain: &Domain) -> bool {
+    match domain.class_parameters(ObjId::new(C)) {
+        [n, p] => {
+            is_param(n, b"N", Kind::Int)
+                && is_int(&n.value, 3)
+                && is_param(p, b"P", Kind::Str)
+                && is_text(&p.value, b"x")
+        }
+        _ => false,
+    }
+}
+
+fn takes(domain: &Domain) -> bool {
+    match domain.parameters(ObjId::new(OUT), ActionId::new(TAKE)) {
+        Some([v, w]) => {
+            is_param(v, b"V", Kind::Int)
+                && v.value.is_none()
+                && is_param(w, b"W", Kind::Str)
+                && is_text(&w.value, b"none")
+        }
+        _ => false,
+    }
+}
+
+fn is_put(domain: &Domain) -> bool {
+    match domain.parameters(ObjId::new(C), ActionId::new(PUT)) {
+        Some([t, m]) => {
+            is_param(t, b"T", Kind::Int)
+                && is_int(&t.value, 5)
+                && is_param(m, b"M", Kind::Str)
+                && m.value.is_none()
+        }
+        _ => false,
+    }
 }
 
 #[test]
-fn parameters_of_classes(rt: HostRuntime) -> Result<(), Fail> {
-    let alloc = rt.alloc();
-    let domain = domain_of(alloc, COUNTER)?;
-    assert!(rt; domain.class_parameters(ObjId::new(OUT)).is_empty());
-    let [n, p] = domain.class_parameters(ObjId::new(C)) else {
-        panic!(rt; "other parameters of a counter");
-    };
-    assert_eq!(rt; n.name.as_bytes(), b"N".as_slice());
-    assert_eq!(rt; n.kind, Kind::Int);
-    assert!(rt; n.value == Some(Value::Int(3)));
-    assert_eq!(rt; p.name.as_bytes(), b"P".as_slice());
-    assert_eq!(rt; p.kind, Kind::Str);
-    assert!(rt; p.value == Some(Value::Text(Text::new(alloc, b"x")?)));
-    Ok(())
-}
-
-#[test]
-fn parameters_of_actions(rt: HostRuntime) -> Result<(), Fail> {
-    let alloc = rt.alloc();
-    let domain = domain_of(alloc, COUNTER)?;
-    let (out, c) = (ObjId::new(OUT), ObjId::new(C));
-    let Some([v, w]) = domain.parameters(out, ActionId::new(TAKE)) else {
-        panic!(rt; "other parameters of TAKE");
-    };
-    assert_eq!(rt; v.name.as_bytes(), b"V".as_slice());
-    assert!(rt; v.kind == Kind::Int && v.value.is_none());
-    assert_eq!(rt; w.name.as_bytes(), b"W".as_slice());
-    assert!(rt; w.kind == Kind::Str);
-    assert!(rt; w.value == Some(Value::Text(Text::new(alloc, b"none")?)));
-    let Some([t, m]) = domain.parameters(c, ActionId::new(PUT)) else {
-        panic!(rt; "other parameters of PUT");
-    };
-    assert_eq!(rt; t.name.as_bytes(), b"T".as_slice());
-    assert!(rt; t.kind == Kind::Int && t.value == Some(Value::Int(5)));
-    assert_eq!(rt; m.name.as_bytes(), b"M".as_slice());
-    assert!(rt; m.kind == Kind::Str && m.value.is_none());
-    let Some([]) = domain.parameters(c, ActionId::new(SHOW)) else {
-        panic!(rt; "parameters of SHOW");
-    };
-    assert!(rt; domain.parameters(c, ActionId::new(TAKE)).is_none());
-    assert!(rt; domain.parameters(out, ActionId::new(PUT)).is_none());
-    Ok(())
-}
-
-// The block of an action of the counter.
-fn block_of(domain: &Domain, action: usize) -> Option<BlockId> {
-    domain.block(ObjId::new(C), StateId::new(IDLE), ActionId::new(action))
-}
-
-// Whether a value is that of a parameter of the class.
-fn is_own(value: &Operand, place: usize) -> bool {
-    matches!(value, Operand::Own(param) if param.get() == place)
-}
-
-// Whether a value is that of a parameter of the action.
-fn is_given(value: &Operand, place: usize) -> bool {
-    matches!(value, Operand::Given(param) if param.get() == place)
-}
-
-#[test]
-fn block_of_put(rt: HostRuntime) -> Result<(), Fail> {
+fn sink_and_counter(rt: HostRuntime) -> Result<(), Fail> {
     let domain = domain_of(rt.alloc(), COUNTER)?;
-    let Some(block) = block_of(&domain, PUT) else {
-        panic!(rt; "no block of PUT");
-    };
-    let [
-        Instr::Set {
-            param: first,
-            value: t,
-        },
-        Instr::Set {
-            param: second,
-            value: m,
-        },
+    assert!(rt; has_numbers(&domain));
+    assert!(rt; has_sink(&domain));
+    assert!(rt; has_counter(&domain));
+    assert!(rt; has_class_parameters(&domain));
+    assert!(rt; takes(&domain));
+    assert!(rt; is_put(&domain));
+    Ok(())
+}
+
+// Whether an instruction gives a parameter of the class the value of one of the action.
+fn keeps(instr: &Instr, own: usize, given: usize) -> bool {
+    match instr {
+        Instr::Set { param, value } => param.get() == own && is_given(value, given),
+        _ => false,
+    }
+}
+
+// Whether an instruction sends the sink the string and the number, in this order.
+fn sends_both(instr: &Instr) -> bool {
+    match instr {
         Instr::Send {
             target,
             action,
             args,
-        },
-    ] = domain.instructions(block)
-    else {
-        panic!(rt; "other instructions of PUT");
-    };
-    assert_eq!(rt; *first, ParamId::new(0));
-    assert!(rt; is_given(t, 0));
-    assert_eq!(rt; *second, ParamId::new(1));
-    assert!(rt; is_given(m, 1));
-    assert_eq!(rt; *target, Target::One(ObjId::new(OUT)));
-    assert_eq!(rt; *action, ActionId::new(TAKE));
-    let [w, v] = args.as_slice() else {
-        panic!(rt; "other arguments for TAKE");
-    };
-    assert_eq!(rt; w.name.as_bytes(), b"W".as_slice());
-    assert!(rt; is_own(&w.value, 1));
-    assert_eq!(rt; v.name.as_bytes(), b"V".as_slice());
-    assert!(rt; is_own(&v.value, 0));
-    Ok(())
+        } => {
+            *target == Target::One(ObjId::new(OUT))
+                && action.get() == TAKE
+                && matches!(args.as_slice(), [w, v] if passes_own(w, b"W", 1) && passes_own(v, b"V", 0))
+        }
+        _ => false,
+    }
 }
 
-#[test]
-fn block_of_show(rt: HostRuntime) -> Result<(), Fail> {
-    let domain = domain_of(rt.alloc(), COUNTER)?;
-    let Some(block) = block_of(&domain, SHOW) else {
-        panic!(rt; "no block of SHOW");
-    };
-    let [
+// Whether an instruction sends the sink the number alone.
+fn sends_number(instr: &Instr) -> bool {
+    match instr {
         Instr::Send {
             target,
             action,
             args,
-        },
-    ] = domain.instructions(block)
-    else {
-        panic!(rt; "other instructions of SHOW");
-    };
-    assert_eq!(rt; *target, Target::One(ObjId::new(OUT)));
-    assert_eq!(rt; *action, ActionId::new(TAKE));
-    let [v] = args.as_slice() else {
-        panic!(rt; "other arguments for TAKE");
-    };
-    assert_eq!(rt; v.name.as_bytes(), b"V".as_slice());
-    assert!(rt; is_own(&v.value, 0));
-    assert!(rt; block_of(&domain, TAKE).is_none());
+        } => {
+            *target == Target::One(ObjId::new(OUT))
+                && action.get() == TAKE
+                && matches!(args.as_slice(), [v] if passes_own(v, b"V", 0))
+        }
+        _ => false,
+    }
+}
+
+fn puts(domain: &Domain) -> bool {
+    match instructions_of(domain, C, IDLE, PUT) {
+        Some([first, second, third]) => {
+            keeps(first, 0, 0) && keeps(second, 1, 1) && sends_both(third)
+        }
+        _ => false,
+    }
+}
+
+fn shows(domain: &Domain) -> bool {
+    match instructions_of(domain, C, IDLE, SHOW) {
+        Some([only]) => sends_number(only),
+        _ => false,
+    }
+}
+
+#[test]
+fn blocks_of_the_counter(rt: HostRuntime) -> Result<(), Fail> {
+    let domain = domain_of(rt.alloc(), COUNTER)?;
+    assert!(rt; puts(&domain));
+    assert!(rt; shows(&domain));
+    assert!(rt; instructions_of(&domain, C, IDLE, TAKE).is_none());
     Ok(())
 }
 
-// Values that are no parameters, and parameters that are not set in their order.
+// Whether an instruction gives a parameter of the class an int, by its place.
+fn sets_int(instr: &Instr, place: usize, int: i64) -> bool {
+    match instr {
+        Instr::Set {
+            param,
+            value: Operand::Fixed(Value::Int(n)),
+        } => param.get() == place && *n == int,
+        _ => false,
+    }
+}
+
+// Whether an instruction gives a parameter of the class a string, by its place.
+fn sets_text(instr: &Instr, place: usize, bytes: &[u8]) -> bool {
+    match instr {
+        Instr::Set {
+            param,
+            value: Operand::Fixed(Value::Text(text)),
+        } => { param.get() == place && text.as_bytes() == bytes }
+        _ => false,
+    }
+}
+
+fn has_written_values(domain: &Domain) -> bool {
+    let params = match domain.class_parameters(ObjId::new(0)) {
+        [p, n] => is_text(&p.value, b"") && is_int(&n.value, -7),
+        _ => false,
+    };
+    let block = match instructions_of(domain, 0, 0, 0) {
+        Some([first, second]) => sets_int(first, 1, 12) && sets_text(second, 0, b"a b"),
+        _ => false,
+    };
+    params && block
+}
+
 #[test]
 fn values_that_are_written_out(rt: HostRuntime) -> Result<(), Fail> {
-    let alloc = rt.alloc();
     let text =
         b"class: K parameters: string P = \"\", int N = -07 state: S action: GO set N = 12 set P = \"a b\" object: X is_of_class K";
-    let domain = domain_of(alloc, text)?;
-    let [p, n] = domain.class_parameters(ObjId::new(0)) else {
-        panic!(rt; "other parameters of the class");
-    };
-    assert!(rt; p.value == Some(Value::Text(Text::new(alloc, b"")?)));
-    assert!(rt; n.value == Some(Value::Int(-7)));
-    let Some(block) = domain.block(ObjId::new(0), StateId::new(0), ActionId::new(0)) else {
-        panic!(rt; "no block of GO");
-    };
-    let [
-        Instr::Set {
-            param: one,
-            value: Operand::Fixed(number),
-        },
-        Instr::Set {
-            param: other,
-            value: Operand::Fixed(string),
-        },
-    ] = domain.instructions(block)
-    else {
-        panic!(rt; "other instructions of GO");
-    };
-    assert_eq!(rt; *one, ParamId::new(1));
-    assert!(rt; *number == Value::Int(12));
-    assert_eq!(rt; *other, ParamId::new(0));
-    assert!(rt; *string == Value::Text(Text::new(alloc, b"a b")?));
+    let domain = domain_of(rt.alloc(), text)?;
+    assert!(rt; has_written_values(&domain));
     Ok(())
 }
 
-// Two classes may declare one action with different parameters, and a class may list them in two states.
+// Whether two classes declare one action, each with a parameter of its own.
+fn differs_by_class(domain: &Domain) -> bool {
+    let go = ActionId::new(0);
+    let x = match domain.parameters(ObjId::new(0), go) {
+        Some([b]) => is_param(b, b"B", Kind::Str) && is_text(&b.value, b"b"),
+        _ => false,
+    };
+    let y = match domain.parameters(ObjId::new(1), go) {
+        Some([a]) => is_param(a, b"A", Kind::Int) && a.value.is_none(),
+        _ => false,
+    };
+    x && y
+}
+
 #[test]
 fn parameters_by_class(rt: HostRuntime) -> Result<(), Fail> {
-    let alloc = rt.alloc();
     let text =
         b"class: J state: S action: GO (int A) class: K state: T action: GO (string B = \"b\") state: S action: GO (string B = \"b\") object: X is_of_class K object: Y is_of_class J";
-    let domain = domain_of(alloc, text)?;
-    let go = ActionId::new(0);
-    let Some([b]) = domain.parameters(ObjId::new(0), go) else {
-        panic!(rt; "other parameters at X");
-    };
-    assert_eq!(rt; b.name.as_bytes(), b"B".as_slice());
-    assert!(rt; b.kind == Kind::Str);
-    assert!(rt; b.value == Some(Value::Text(Text::new(alloc, b"b")?)));
-    let Some([a]) = domain.parameters(ObjId::new(1), go) else {
-        panic!(rt; "other parameters at Y");
-    };
-    assert_eq!(rt; a.name.as_bytes(), b"A".as_slice());
-    assert!(rt; a.kind == Kind::Int && a.value.is_none());
+    let domain = domain_of(rt.alloc(), text)?;
+    assert!(rt; differs_by_class(&domain));
     Ok(())
 }

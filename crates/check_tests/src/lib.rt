@@ -18,6 +18,8 @@ mod pair;
 #[cfg(test)]
 mod sets;
 #[cfg(test)]
+mod shapes;
+#[cfg(test)]
 mod strings;
 #[cfg(test)]
 mod supplies;

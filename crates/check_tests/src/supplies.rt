@@ -1,8 +1,10 @@
 //! Two supplies, switched on together by a run.
 
 use crate::domain_of::{domain_of, numbers_actions, numbers_objects, numbers_states};
+use crate::shapes::{asks, instructions_of, is_empty, is_move};
+use sml_domain::domain::Domain;
 use sml_domain::ids::{ActionId, ClassId, ObjId, SetId, StateId};
-use sml_domain::instr::{Asked, Cond, Instr, Target};
+use sml_domain::instr::{Asked, Instr, Target};
 use sml_tree::name::Name;
 use std::test::*;
 
@@ -51,200 +53,162 @@ const SWITCH_OFF: usize = 1;
 
 const CONFIGURE: usize = 2;
 
-#[test]
-fn numbers_of_names(rt: HostRuntime) -> Result<(), Fail> {
-    let domain = domain_of(rt.alloc(), SUPPLIES)?;
-    assert_eq!(rt; domain.objects(), 3);
+fn has_numbers(domain: &Domain) -> bool {
     let objects: [&[u8]; 3] = [b"HV1", b"HV2", b"RUN"];
-    assert!(rt; numbers_objects(&domain, &objects));
     let states: [&[u8]; 6] = [b"OFF", b"ON", b"NOT_READY", b"READY", b"ERROR", b"DEAD"];
-    assert!(rt; numbers_states(&domain, &states));
     let actions: [&[u8]; 3] = [b"SWITCH_ON", b"SWITCH_OFF", b"CONFIGURE"];
-    assert!(rt; numbers_actions(&domain, &actions));
-    let supply = domain.class(&Name::from_word(b"SUPPLY"));
-    assert_eq!(rt; supply, Some(ClassId::new(0)));
-    let run_type = domain.class(&Name::from_word(b"RUN_TYPE"));
-    assert_eq!(rt; run_type, Some(ClassId::new(1)));
-    let hv = domain.set(&Name::from_word(b"HV"));
-    assert_eq!(rt; hv, Some(SetId::new(0)));
-    Ok(())
+    numbers_objects(domain, &objects)
+        && numbers_states(domain, &states)
+        && numbers_actions(domain, &actions)
+        && domain.class(&Name::from_word(b"SUPPLY")) == Some(ClassId::new(0))
+        && domain.class(&Name::from_word(b"RUN_TYPE")) == Some(ClassId::new(1))
+        && domain.set(&Name::from_word(b"HV")) == Some(SetId::new(0))
+}
+
+// Whether names of one sort are none of another, and others none at all.
+fn keeps_names_apart(domain: &Domain) -> bool {
+    domain.object(&Name::from_word(b"HV")).is_none()
+        && domain.object(&Name::from_word(b"SUPPLY")).is_none()
+        && domain.class(&Name::from_word(b"HV1")).is_none()
+        && domain.set(&Name::from_word(b"HV1")).is_none()
+        && domain.state(&Name::from_word(b"SWITCH_ON")).is_none()
+        && domain.state(&Name::from_word(b"BROKEN")).is_none()
+        && domain.action(&Name::from_word(b"ON")).is_none()
+        && domain.action(&Name::from_word(b"NOPE")).is_none()
+}
+
+// Whether a number is that of no object and no set.
+fn is_out_of_range(domain: &Domain, number: usize) -> bool {
+    let object = ObjId::new(number);
+    !domain.has(object)
+        && domain.object_name(object).is_none()
+        && !domain.associated(object)
+        && !domain.is_state(object, StateId::new(OFF))
+        && domain.class_parameters(object).is_empty()
+        && domain
+            .parameters(object, ActionId::new(SWITCH_ON))
+            .is_none()
+        && domain.members(SetId::new(number)).is_empty()
+}
+
+fn is_supply(domain: &Domain, name: &Name) -> bool {
+    let Some(supply) = domain.object(name) else {
+        return false;
+    };
+    domain.has(supply)
+        && domain.class_of(supply) == ClassId::new(0)
+        && domain.associated(supply)
+        && domain.initial(supply) == StateId::new(OFF)
+        && domain.dead(supply) == StateId::new(DEAD)
+        && domain.is_state(supply, StateId::new(OFF))
+        && domain.is_state(supply, StateId::new(ON))
+        && domain.is_state(supply, StateId::new(DEAD))
+        && !domain.is_state(supply, StateId::new(NOT_READY))
+        && domain.class_parameters(supply).is_empty()
+}
+
+// Whether a supply is switched on where it is off, and off where it is on, and nothing else.
+fn is_switched(domain: &Domain, supply: ObjId) -> bool {
+    let (off, on, dead) = (StateId::new(OFF), StateId::new(ON), StateId::new(DEAD));
+    let (switch_on, switch_off) = (ActionId::new(SWITCH_ON), ActionId::new(SWITCH_OFF));
+    domain.declares(supply, off, switch_on)
+        && domain.declares(supply, on, switch_off)
+        && !domain.declares(supply, off, switch_off)
+        && !domain.declares(supply, on, switch_on)
+        && !domain.declares(supply, dead, switch_on)
+        && !domain.declares(supply, off, ActionId::new(CONFIGURE))
+        && matches!(domain.parameters(supply, switch_on), Some([]))
+        && matches!(domain.parameters(supply, switch_off), Some([]))
+        && domain
+            .parameters(supply, ActionId::new(CONFIGURE))
+            .is_none()
+        && matches!(
+            instructions_of(domain, supply.get(), OFF, SWITCH_ON),
+            Some([])
+        )
 }
 
 #[test]
-fn names_that_stand_for_nothing(rt: HostRuntime) -> Result<(), Fail> {
+fn two_supplies(rt: HostRuntime) -> Result<(), Fail> {
     let domain = domain_of(rt.alloc(), SUPPLIES)?;
-    assert!(rt; domain.object(&Name::from_word(b"HV")).is_none());
-    assert!(rt; domain.object(&Name::from_word(b"SUPPLY")).is_none());
-    assert!(rt; domain.class(&Name::from_word(b"HV1")).is_none());
-    assert!(rt; domain.set(&Name::from_word(b"HV1")).is_none());
-    assert!(rt; domain.state(&Name::from_word(b"SWITCH_ON")).is_none());
-    assert!(rt; domain.state(&Name::from_word(b"BROKEN")).is_none());
-    assert!(rt; domain.action(&Name::from_word(b"ON")).is_none());
-    assert!(rt; domain.action(&Name::from_word(b"NOPE")).is_none());
+    assert!(rt; has_numbers(&domain));
+    assert!(rt; keeps_names_apart(&domain));
+    assert!(rt; is_out_of_range(&domain, 3));
+    assert!(rt; is_out_of_range(&domain, usize::MAX));
+    assert!(rt; is_supply(&domain, &Name::from_word(b"HV1")));
+    assert!(rt; is_supply(&domain, &Name::from_word(b"hv2")));
+    assert!(rt; is_switched(&domain, ObjId::new(HV1)));
+    assert!(rt; is_switched(&domain, ObjId::new(HV2)));
     Ok(())
 }
 
-#[test]
-fn numbers_out_of_range(rt: HostRuntime) -> Result<(), Fail> {
-    let domain = domain_of(rt.alloc(), SUPPLIES)?;
-    assert!(rt; domain.has(ObjId::new(HV1)) && domain.has(ObjId::new(RUN)));
-    for number in [3, 64, usize::MAX] {
-        let object = ObjId::new(number);
-        assert!(rt; !domain.has(object) && domain.object_name(object).is_none());
-        assert!(rt; !domain.associated(object));
-        assert!(rt; !domain.is_state(object, StateId::new(OFF)));
-        assert!(rt; domain.class_parameters(object).is_empty());
-        assert!(rt;
-            domain
-                .parameters(object, ActionId::new(SWITCH_ON))
-                .is_none()
-        );
-        assert!(rt; domain.members(SetId::new(number)).is_empty());
-    }
-    for number in [6, usize::MAX] {
-        assert!(rt; domain.state_name(StateId::new(number)).is_none());
-        assert!(rt; domain.action_name(ActionId::new(number)).is_none());
-    }
-    Ok(())
-}
-
-#[test]
-fn what_a_supply_is(rt: HostRuntime) -> Result<(), Fail> {
-    let domain = domain_of(rt.alloc(), SUPPLIES)?;
-    for name in [Name::from_word(b"HV1"), Name::from_word(b"hv2")] {
-        let Some(supply) = domain.object(&name) else {
-            panic!(rt; "no supply {name}");
-        };
-        assert_eq!(rt; domain.class_of(supply), ClassId::new(0));
-        assert!(rt; domain.associated(supply));
-        assert_eq!(rt; domain.initial(supply), StateId::new(OFF));
-        assert_eq!(rt; domain.dead(supply), StateId::new(DEAD));
-        for (state, is_its) in [(OFF, true), (ON, true), (NOT_READY, false), (DEAD, true)] {
-            assert_eq!(rt; domain.is_state(supply, StateId::new(state)), is_its);
-        }
-        for (state, action, declared) in [
-            (OFF, SWITCH_ON, true),
-            (ON, SWITCH_OFF, true),
-            (OFF, SWITCH_OFF, false),
-            (ON, SWITCH_ON, false),
-            (DEAD, SWITCH_ON, false),
-            (OFF, CONFIGURE, false),
-        ] {
-            let (state, action) = (StateId::new(state), ActionId::new(action));
-            assert_eq!(rt; domain.declares(supply, state, action), declared);
-        }
-        assert!(rt; domain.class_parameters(supply).is_empty());
-    }
-    Ok(())
-}
-
-#[test]
-fn what_a_run_is(rt: HostRuntime) -> Result<(), Fail> {
-    let domain = domain_of(rt.alloc(), SUPPLIES)?;
+fn has_run(domain: &Domain) -> bool {
     let Some(run) = domain.object(&Name::from_word(b"RUN")) else {
-        panic!(rt; "no object RUN");
+        return false;
     };
-    assert_eq!(rt; domain.class_of(run), ClassId::new(1));
-    assert!(rt; !domain.associated(run));
-    assert_eq!(rt; domain.initial(run), StateId::new(NOT_READY));
-    assert_eq!(rt; domain.dead(run), StateId::new(DEAD));
-    for (state, is_its) in [
-        (NOT_READY, true),
-        (READY, true),
-        (ERROR, true),
-        (DEAD, true),
-        (ON, false),
-    ] {
-        assert_eq!(rt; domain.is_state(run, StateId::new(state)), is_its);
-    }
-    let configure = ActionId::new(CONFIGURE);
-    assert!(rt; domain.declares(run, StateId::new(NOT_READY), configure));
-    assert!(rt; !domain.declares(run, StateId::new(READY), configure));
-    assert!(rt; !domain.declares(run, StateId::new(OFF), ActionId::new(SWITCH_ON)));
-    assert!(rt; domain.class_parameters(run).is_empty());
-    Ok(())
+    let (not_ready, configure) = (StateId::new(NOT_READY), ActionId::new(CONFIGURE));
+    domain.class_of(run) == ClassId::new(1)
+        && !domain.associated(run)
+        && domain.initial(run) == not_ready
+        && domain.dead(run) == StateId::new(DEAD)
+        && domain.is_state(run, StateId::new(ERROR))
+        && domain.is_state(run, StateId::new(DEAD))
+        && !domain.is_state(run, StateId::new(ON))
+        && domain.declares(run, not_ready, configure)
+        && !domain.declares(run, StateId::new(READY), configure)
+        && !domain.declares(run, not_ready, ActionId::new(SWITCH_ON))
+        && matches!(domain.parameters(run, configure), Some([]))
+        && domain.parameters(run, ActionId::new(SWITCH_ON)).is_none()
 }
 
-#[test]
-fn actions_without_parameters(rt: HostRuntime) -> Result<(), Fail> {
-    let domain = domain_of(rt.alloc(), SUPPLIES)?;
-    let (hv2, run) = (ObjId::new(HV2), ObjId::new(RUN));
-    for (object, action) in [(hv2, SWITCH_ON), (hv2, SWITCH_OFF), (run, CONFIGURE)] {
-        let Some([]) = domain.parameters(object, ActionId::new(action)) else {
-            panic!(rt; "parameters of action {action}");
-        };
-    }
-    assert!(rt; domain.parameters(hv2, ActionId::new(CONFIGURE)).is_none());
-    assert!(rt; domain.parameters(run, ActionId::new(SWITCH_ON)).is_none());
-    Ok(())
-}
-
-#[test]
-fn members_in_order(rt: HostRuntime) -> Result<(), Fail> {
-    let domain = domain_of(rt.alloc(), SUPPLIES)?;
-    let members = [ObjId::new(HV1), ObjId::new(HV2)];
-    assert_eq!(rt; domain.members(SetId::new(0)), members.as_slice());
-    assert!(rt; domain.members(SetId::new(1)).is_empty());
-    Ok(())
-}
-
-#[test]
-fn block_of_configure(rt: HostRuntime) -> Result<(), Fail> {
-    let domain = domain_of(rt.alloc(), SUPPLIES)?;
-    let (state, action) = (StateId::new(NOT_READY), ActionId::new(CONFIGURE));
-    let Some(block) = domain.block(ObjId::new(RUN), state, action) else {
-        panic!(rt; "no block of CONFIGURE");
-    };
-    let [
+fn sends_to_all(instr: &Instr) -> bool {
+    match instr {
         Instr::Send {
             target,
             action,
             args,
-        },
-        Instr::If { cond, yes, no },
-        Instr::MoveTo(last),
-    ] = domain.instructions(block)
-    else {
-        panic!(rt; "other instructions of CONFIGURE");
-    };
-    assert_eq!(rt; *target, Target::Members(SetId::new(0)));
-    assert_eq!(rt; *action, ActionId::new(SWITCH_ON));
-    assert!(rt; args.is_empty());
-    let Cond::Test {
-        asked,
-        negated,
-        states,
-    } = cond
-    else {
-        panic!(rt; "no test of the supplies");
-    };
-    assert_eq!(rt; *asked, Asked::Each(SetId::new(0)));
-    assert!(rt; !*negated);
-    assert_eq!(rt; states.as_slice(), [StateId::new(ON)].as_slice());
-    let [Instr::MoveTo(ready)] = domain.instructions(*yes) else {
-        panic!(rt; "other instructions where all are on");
-    };
-    assert_eq!(rt; *ready, StateId::new(READY));
-    assert!(rt; domain.instructions(*no).is_empty());
-    assert_eq!(rt; *last, StateId::new(ERROR));
-    Ok(())
+        } => {
+            *target == Target::Members(SetId::new(0))
+                && action.get() == SWITCH_ON
+                && args.is_empty()
+        }
+        _ => false,
+    }
+}
+
+fn is_ready_where_all_are_on(domain: &Domain, instr: &Instr) -> bool {
+    match instr {
+        Instr::If { cond, yes, no } => {
+            asks(cond, Asked::Each(SetId::new(0)), ON)
+                && is_move(domain, *yes, READY)
+                && is_empty(domain, *no)
+        }
+        _ => false,
+    }
+}
+
+fn configures(domain: &Domain) -> bool {
+    match instructions_of(domain, RUN, NOT_READY, CONFIGURE) {
+        Some([first, second, Instr::MoveTo(last)]) => {
+            sends_to_all(first) && is_ready_where_all_are_on(domain, second) && last.get() == ERROR
+        }
+        _ => false,
+    }
+}
+
+// Whether the supplies are the members of the set, in their order.
+fn has_members(domain: &Domain) -> bool {
+    match domain.members(SetId::new(0)) {
+        [first, second] => first.get() == HV1 && second.get() == HV2,
+        _ => false,
+    }
 }
 
 #[test]
-fn blocks_of_devices(rt: HostRuntime) -> Result<(), Fail> {
+fn run_of_supplies(rt: HostRuntime) -> Result<(), Fail> {
     let domain = domain_of(rt.alloc(), SUPPLIES)?;
-    let (hv1, run) = (ObjId::new(HV1), ObjId::new(RUN));
-    let switch_on = ActionId::new(SWITCH_ON);
-    let Some(block) = domain.block(hv1, StateId::new(OFF), switch_on) else {
-        panic!(rt; "no block of SWITCH_ON");
-    };
-    assert!(rt; domain.instructions(block).is_empty());
-    assert!(rt; domain.instruction(block, 0).is_none());
-    assert!(rt; domain.block(hv1, StateId::new(ON), switch_on).is_none());
-    assert!(rt;
-        domain
-            .block(run, StateId::new(NOT_READY), switch_on)
-            .is_none()
-    );
+    assert!(rt; has_run(&domain));
+    assert!(rt; configures(&domain));
+    assert!(rt; has_members(&domain));
     Ok(())
 }
