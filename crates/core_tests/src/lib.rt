@@ -6,4 +6,8 @@ mod domain_of;
 #[cfg(test)]
 mod machine_tests;
 #[cfg(test)]
+mod mark_tests;
+#[cfg(test)]
+mod outputs;
+#[cfg(test)]
 mod schedule_tests;

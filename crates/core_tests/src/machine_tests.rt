@@ -286,6 +286,24 @@ fn forms_that_are_not_executed(rt: HostRuntime) -> Result<(), Fail> {
     Ok(())
 }
 
+// A form counts wherever it stands, behind others that are executed.
+#[test]
+fn forms_behind_others(rt: HostRuntime) -> Result<(), Fail> {
+    let later: [&[u8]; 6] = [
+        b"class: J state: S class: K /associated state: S",
+        b"class: J state: S class: K parameters: int N = 1 state: S",
+        b"class: K state: S action: GO action: RUN (int N)",
+        b"class: K state: S action: GO state: T action: RUN terminate_action /state=S",
+        b"class: K state: S action: GO do GO X terminate_action /state=S object: X is_of_class K",
+        b"class: K state: S object: X is_of_class K objectset: G { X }",
+    ];
+    for text in later {
+        let refused = Core::new(rt.alloc(), domain_of(rt.alloc(), text)?, 16, 1);
+        assert_eq!(rt; refused.err(), Some(CoreError::BadConfig));
+    }
+    Ok(())
+}
+
 // A marked state is the one in which an object begins.
 #[test]
 fn marked_states(rt: HostRuntime) -> Result<(), Fail> {

@@ -1,5 +1,6 @@
 //! Schedules on the first path, with readers and writers that fail.
-use crate::domain_of::first;
+use crate::domain_of::{domain_of, first};
+use crate::outputs::{core_of, output};
 use smi_core::{Core, LineError, ScheduleFault, Step, read_step, run_schedule};
 use std::alloc::{AllocError, Global};
 use std::io::{Error, Read, Write};
@@ -55,27 +56,16 @@ impl Read for Failing {
     }
 }
 
-fn core(alloc: Global, capacity: usize, max_starts: usize) -> Result<Core, Fail> {
-    match Core::new(alloc, first(alloc)?, capacity, max_starts) {
-        Ok(core) => Ok(core),
-        Err(error) => Err(Fail::from(error)),
-    }
-}
-
-// What a schedule writes on the first path.
-fn output(alloc: Global, text: &[u8]) -> Result<Vec<u8>, Fail> {
-    let mut core = core(alloc, 16, 1_000_000)?;
-    let mut reader = text;
-    let mut written = Vec::new(alloc);
-    match run_schedule(alloc, &mut core, &mut reader, &mut written) {
-        Ok(()) => Ok(written),
-        Err(fault) => Err(Fail::from(fault)),
-    }
+// A core of a lamp and its boss.
+fn core_of_first(alloc: Global) -> Result<Core, Fail> {
+    core_of(alloc, first(alloc)?)
 }
 
 #[test]
 fn first_path_by_lines(rt: HostRuntime) -> Result<(), Fail> {
-    assert_eq!(rt; output(rt.alloc(), FIRST_PATH)?.as_slice(), FIRST_OUTPUT);
+    let domain = first(rt.alloc())?;
+    let written = output(rt.alloc(), domain, FIRST_PATH)?;
+    assert_eq!(rt; written.as_slice(), FIRST_OUTPUT);
     Ok(())
 }
 
@@ -85,11 +75,20 @@ fn lines_that_are_no_steps(rt: HostRuntime) -> Result<(), Fail> {
         b"begin L\nstart SET\nrequest @9 L LIGHT\nrequest @1 L LIGHT ()\n\n ! a comment\r\nrequest@1L light\nstart L L\nstart \x80\n";
     let expected =
         b"refused BadLine\nrefused BadLine\nrefused BadLine\nrefused BadLine\naccept @1 L 0 LIGHT\nrefused BadLine\nrefused BadLine\n";
-    assert_eq!(rt; output(rt.alloc(), text)?.as_slice(), expected.as_slice());
-    assert_eq!(rt;
-        output(rt.alloc(), b"start L")?.as_slice(),
-        b"refused Empty\n".as_slice()
-    );
+    let written = output(rt.alloc(), first(rt.alloc())?, text)?;
+    assert_eq!(rt; written.as_slice(), expected.as_slice());
+    let written = output(rt.alloc(), first(rt.alloc())?, b"start L")?;
+    assert_eq!(rt; written.as_slice(), b"refused Empty\n".as_slice());
+    Ok(())
+}
+
+#[test]
+fn empty_domain(rt: HostRuntime) -> Result<(), Fail> {
+    let alloc = rt.alloc();
+    assert!(rt; output(alloc, domain_of(alloc, b"")?, b"")?.is_empty());
+    assert!(rt; output(alloc, domain_of(alloc, b"")?, b"\n ! nothing\n\t\r\n")?.is_empty());
+    let written = output(alloc, domain_of(alloc, b"")?, b"start L")?;
+    assert_eq!(rt; written.as_slice(), b"refused UnknownObject\n".as_slice());
     Ok(())
 }
 
@@ -112,7 +111,7 @@ fn steps_are_read(rt: HostRuntime) {
 fn a_front_is_written_at_a_fault_of_the_writer(rt: HostRuntime) -> Result<(), Fail> {
     let alloc = rt.alloc();
     for good_calls in 0..FIRST_OUTPUT.len() {
-        let mut core = core(alloc, 16, 1_000_000)?;
+        let mut core = core_of_first(alloc)?;
         let mut reader = FIRST_PATH;
         let mut writer = OneByte {
             taken: Vec::new(alloc),
@@ -129,7 +128,7 @@ fn a_front_is_written_at_a_fault_of_the_writer(rt: HostRuntime) -> Result<(), Fa
 fn a_front_is_written_at_a_fault_of_the_reader(rt: HostRuntime) -> Result<(), Fail> {
     let alloc = rt.alloc();
     for good_calls in 0..FIRST_PATH.len() {
-        let mut core = core(alloc, 16, 1_000_000)?;
+        let mut core = core_of_first(alloc)?;
         let mut reader = Failing {
             given: 0,
             good_calls,

@@ -1,0 +1,268 @@
+//! A counter, which keeps a number and a string and sends them to a sink.
+
+use crate::domain_of::{domain_of, numbers_actions, numbers_objects, numbers_states};
+use crate::shapes::{instructions_of, is_given, is_int, is_own, is_param, is_text, passes_own};
+use sml_domain::domain::Domain;
+use sml_domain::ids::{ActionId, ClassId, ObjId, SetId, StateId};
+use sml_domain::instr::{Instr, Operand, Target};
+use sml_domain::value::Value;
+use sml_tree::file::Kind;
+use sml_tree::name::Name;
+use std::test::*;
+
+const COUNTER: &[u8] = b"class: SINK /associated
+  state: READY
+    action: TAKE (int V, string W = \"none\")
+class: COUNTER
+  parameters: int N = 3, string P = \"x\"
+  state: IDLE
+    action: PUT (int T = 5, string M)
+      set N = T
+      set P = M
+      do TAKE (W = P, V = N) OUT
+    action: SHOW
+      do TAKE (V = N) OUT
+object: OUT is_of_class SINK
+object: C is_of_class COUNTER
+";
+
+const OUT: usize = 0;
+
+const C: usize = 1;
+
+const READY: usize = 0;
+
+const IDLE: usize = 1;
+
+const DEAD: usize = 2;
+
+const TAKE: usize = 0;
+
+const PUT: usize = 1;
+
+const SHOW: usize = 2;
+
+fn has_numbers(domain: &Domain) -> bool {
+    let objects: [&[u8]; 2] = [b"OUT", b"C"];
+    let states: [&[u8]; 3] = [b"READY", b"IDLE", b"DEAD"];
+    let actions: [&[u8]; 3] = [b"TAKE", b"PUT", b"SHOW"];
+    numbers_objects(domain, &objects)
+        && numbers_states(domain, &states)
+        && numbers_actions(domain, &actions)
+        && domain.class(&Name::from_word(b"SINK")) == Some(ClassId::new(0))
+        && domain.class(&Name::from_word(b"COUNTER")) == Some(ClassId::new(1))
+        && domain.set(&Name::from_word(b"OUT")).is_none()
+        && domain.members(SetId::new(0)).is_empty()
+}
+
+fn has_sink(domain: &Domain) -> bool {
+    let Some(out) = domain.object(&Name::from_word(b"OUT")) else {
+        return false;
+    };
+    let (ready, idle) = (StateId::new(READY), StateId::new(IDLE));
+    domain.class_of(out) == ClassId::new(0)
+        && domain.associated(out)
+        && domain.initial(out) == ready
+        && domain.dead(out) == StateId::new(DEAD)
+        && !domain.is_state(out, idle)
+        && domain.declares(out, ready, ActionId::new(TAKE))
+        && !domain.declares(out, ready, ActionId::new(PUT))
+        && domain.class_parameters(out).is_empty()
+        && domain.parameters(out, ActionId::new(PUT)).is_none()
+}
+
+fn has_counter(domain: &Domain) -> bool {
+    let Some(c) = domain.object(&Name::from_word(b"C")) else {
+        return false;
+    };
+    let (idle, dead) = (StateId::new(IDLE), StateId::new(DEAD));
+    domain.class_of(c) == ClassId::new(1)
+        && !domain.associated(c)
+        && domain.initial(c) == idle
+        && domain.dead(c) == dead
+        && domain.declares(c, idle, ActionId::new(PUT))
+        && domain.declares(c, idle, ActionId::new(SHOW))
+        && !domain.declares(c, dead, ActionId::new(SHOW))
+        && matches!(domain.parameters(c, ActionId::new(SHOW)), Some([]))
+        && domain.parameters(c, ActionId::new(TAKE)).is_none()
+}
+
+// Whether the class has its two parameters with their values.
+fn has_class_parameters(domain: &Domain) -> bool {
+    match domain.class_parameters(ObjId::new(C)) {
+        [n, p] => {
+            is_param(n, b"N", Kind::Int)
+                && is_int(&n.value, 3)
+                && is_param(p, b"P", Kind::Str)
+                && is_text(&p.value, b"x")
+        }
+        _ => false,
+    }
+}
+
+fn takes(domain: &Domain) -> bool {
+    match domain.parameters(ObjId::new(OUT), ActionId::new(TAKE)) {
+        Some([v, w]) => {
+            is_param(v, b"V", Kind::Int)
+                && v.value.is_none()
+                && is_param(w, b"W", Kind::Str)
+                && is_text(&w.value, b"none")
+        }
+        _ => false,
+    }
+}
+
+fn is_put(domain: &Domain) -> bool {
+    match domain.parameters(ObjId::new(C), ActionId::new(PUT)) {
+        Some([t, m]) => {
+            is_param(t, b"T", Kind::Int)
+                && is_int(&t.value, 5)
+                && is_param(m, b"M", Kind::Str)
+                && m.value.is_none()
+        }
+        _ => false,
+    }
+}
+
+#[test]
+fn sink_and_counter(rt: HostRuntime) -> Result<(), Fail> {
+    let domain = domain_of(rt.alloc(), COUNTER)?;
+    assert!(rt; has_numbers(&domain));
+    assert!(rt; has_sink(&domain));
+    assert!(rt; has_counter(&domain));
+    assert!(rt; has_class_parameters(&domain));
+    assert!(rt; takes(&domain));
+    assert!(rt; is_put(&domain));
+    Ok(())
+}
+
+// Whether an instruction gives a parameter of the class the value of one of the action.
+fn keeps(instr: &Instr, own: usize, given: usize) -> bool {
+    match instr {
+        Instr::Set { param, value } => param.get() == own && is_given(value, given),
+        _ => false,
+    }
+}
+
+// Whether an instruction sends the sink the string and the number, in this order.
+fn sends_both(instr: &Instr) -> bool {
+    match instr {
+        Instr::Send {
+            target,
+            action,
+            args,
+        } => {
+            *target == Target::One(ObjId::new(OUT))
+                && action.get() == TAKE
+                && matches!(args.as_slice(), [w, v] if passes_own(w, b"W", 1) && passes_own(v, b"V", 0))
+        }
+        _ => false,
+    }
+}
+
+// Whether an instruction sends the sink the number alone.
+fn sends_number(instr: &Instr) -> bool {
+    match instr {
+        Instr::Send {
+            target,
+            action,
+            args,
+        } => {
+            *target == Target::One(ObjId::new(OUT))
+                && action.get() == TAKE
+                && matches!(args.as_slice(), [v] if passes_own(v, b"V", 0))
+        }
+        _ => false,
+    }
+}
+
+fn puts(domain: &Domain) -> bool {
+    match instructions_of(domain, C, IDLE, PUT) {
+        Some([first, second, third]) => {
+            keeps(first, 0, 0) && keeps(second, 1, 1) && sends_both(third)
+        }
+        _ => false,
+    }
+}
+
+fn shows(domain: &Domain) -> bool {
+    match instructions_of(domain, C, IDLE, SHOW) {
+        Some([only]) => sends_number(only),
+        _ => false,
+    }
+}
+
+#[test]
+fn blocks_of_the_counter(rt: HostRuntime) -> Result<(), Fail> {
+    let domain = domain_of(rt.alloc(), COUNTER)?;
+    assert!(rt; puts(&domain));
+    assert!(rt; shows(&domain));
+    assert!(rt; instructions_of(&domain, C, IDLE, TAKE).is_none());
+    Ok(())
+}
+
+// Whether an instruction gives a parameter of the class an int, by its place.
+fn sets_int(instr: &Instr, place: usize, int: i64) -> bool {
+    match instr {
+        Instr::Set {
+            param,
+            value: Operand::Fixed(Value::Int(n)),
+        } => param.get() == place && *n == int,
+        _ => false,
+    }
+}
+
+// Whether an instruction gives a parameter of the class a string, by its place.
+fn sets_text(instr: &Instr, place: usize, bytes: &[u8]) -> bool {
+    match instr {
+        Instr::Set {
+            param,
+            value: Operand::Fixed(Value::Text(text)),
+        } => { param.get() == place && text.as_bytes() == bytes }
+        _ => false,
+    }
+}
+
+fn has_written_values(domain: &Domain) -> bool {
+    let params = match domain.class_parameters(ObjId::new(0)) {
+        [p, n] => is_text(&p.value, b"") && is_int(&n.value, -7),
+        _ => false,
+    };
+    let block = match instructions_of(domain, 0, 0, 0) {
+        Some([first, second]) => sets_int(first, 1, 12) && sets_text(second, 0, b"a b"),
+        _ => false,
+    };
+    params && block
+}
+
+#[test]
+fn values_that_are_written_out(rt: HostRuntime) -> Result<(), Fail> {
+    let text =
+        b"class: K parameters: string P = \"\", int N = -07 state: S action: GO set N = 12 set P = \"a b\" object: X is_of_class K";
+    let domain = domain_of(rt.alloc(), text)?;
+    assert!(rt; has_written_values(&domain));
+    Ok(())
+}
+
+// Whether two classes declare one action, each with a parameter of its own.
+fn differs_by_class(domain: &Domain) -> bool {
+    let go = ActionId::new(0);
+    let x = match domain.parameters(ObjId::new(0), go) {
+        Some([b]) => is_param(b, b"B", Kind::Str) && is_text(&b.value, b"b"),
+        _ => false,
+    };
+    let y = match domain.parameters(ObjId::new(1), go) {
+        Some([a]) => is_param(a, b"A", Kind::Int) && a.value.is_none(),
+        _ => false,
+    };
+    x && y
+}
+
+#[test]
+fn parameters_by_class(rt: HostRuntime) -> Result<(), Fail> {
+    let text =
+        b"class: J state: S action: GO (int A) class: K state: T action: GO (string B = \"b\") state: S action: GO (string B = \"b\") object: X is_of_class K object: Y is_of_class J";
+    let domain = domain_of(rt.alloc(), text)?;
+    assert!(rt; differs_by_class(&domain));
+    Ok(())
+}
