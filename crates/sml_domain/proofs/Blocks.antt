@@ -10,6 +10,7 @@ use Rattle.sml_domain.specs.Program.{Program, Nothing, IfThen}
 use Rattle.sml_domain.specs.Trees.{formula, tree_at, with_instr, onto, trees_from, trees_of}
 use Rattle.sml_domain.specs.Domain.{Domain}
 use Rattle.sml_domain.specs.Sound.{IsSound, EachBegins}
+use Rattle.sml_domain.specs.Laws.{BlockNamesBefore}
 use Rattle.sml_domain.specs.Places.{NamesBefore, NameBefore, AreOrdered, instrs_at, left_at}
 
 pub with_kept : (n : ℕ) (xs ys : List Program) (i : Instr) (k : Program) → ((j : ℕ) → j < n → tree_at ys j ≡ tree_at xs j) → NamesBefore n i → with_instr ys i k ≡ with_instr xs i k
@@ -65,3 +66,13 @@ left_first blocks b h = ⊎_elim
 
 pub left_of_sound : (d : Domain) → IsSound d → EachBegins d
 left_of_sound d s = λ b. left_first d.blocks b s.range.blocks
+
+-- ---- what blocks name
+
+pub names_before : (n : ℕ) (blocks : List (List Instr)) (i : ℕ) → AreOrdered n blocks → NameBefore (n + i) (instrs_at blocks i)
+names_before n [] i h = tt
+names_before n (b ∷ bs) zero h = let e : n ≡ n + 0 = omega arith in subst (λ k. NameBefore k b) e h.0
+names_before n (b ∷ bs) (suc i) h = let e : suc n + i ≡ n + suc i = omega arith in subst (λ k. NameBefore k (instrs_at bs i)) e (names_before (suc n) bs i h.1)
+
+pub before_of_sound : BlockNamesBefore
+before_of_sound d b s = let e : 0 + b ≡ b = omega arith in subst (λ k. NameBefore k (instrs_at d.blocks b)) e (names_before 0 d.blocks b s.range.blocks)

@@ -1,12 +1,12 @@
 -- The laws of domains.
-use Rattle.std.proofs.Common.{◌≡◌, ◌<◌, ◌↔◌, ℕ, List, [], ◌∷◌, Option, Some, None, length, slice_get, map, option_map, position, is_some, true, false, refl, sym, ap, subst}
+use Rattle.std.proofs.Common.{◌≡◌, ◌<◌, ◌↔◌, ℕ, List, [], ◌∷◌, Option, Some, None, length, slice_get, get_or, map, option_map, position, is_some, true, false, refl, sym, ap, subst}
 use Rattle.std.specs.Prelude.{IsSomeAnd, IfSome}
 use Rattle.std.specs.Option.{option_and_then, option_map_or}
 use Rattle.std.proofs.lemmas.Option.{slice_get_within}
 use Rattle.sml_domain.specs.Names.{same_name, AreDistinct}
 use Rattle.sml_domain.specs.Domain.{Domain, Class, State, Signature, Param}
 use Rattle.sml_domain.specs.Lookups.{name_of_object, class_number, class_at, numbers_state, state_in, has_state, is_signature, signature_in, params_of_action, block_in, tree_of_block}
-use Rattle.sml_domain.specs.Sound.{ClassFits, StateFits, SignatureFits, ObjectFits, FitsClass, TakesParams}
+use Rattle.sml_domain.specs.Sound.{IsSound, ClassFits, StateFits, SignatureFits, ObjectFits, FitsClass, TakesParams}
 use Rattle.sml_domain.specs.Fits.{param_kind}
 use Rattle.sml_domain.specs.Laws.{ObjectHasName, StateHasName, ActionHasName, ObjectHasClass, DeclaredBlockFits, DeclaredIsKnown, StateIsWithin, ActionIsWithin, BlockBegins, KindIsWithin}
 use Rattle.sml_domain.proofs.Numbers.{named_once}
@@ -61,6 +61,12 @@ state_of_class d (Some c) s h is = go (state_in s c) (found (StateFits d c) (num
     go : (o : Option State) → IfSome o (λ x. StateFits d c x × (numbers_state s x ≡ true)) → is_some o ≡ true → s < length d.states
     go None h e = absurd (cc e)
     go (Some x) h e = subst (λ n. n < length d.states) (same_number x.number s h.1) h.0.number
+
+-- the states that a class names
+pub named_within : (d : Domain) (k : ℕ) (c : Class) → IsSound d → k < length d.classes → c ≡ get_or d.classes k c → (c.initial < length d.states) × (c.dead < length d.states)
+named_within d k c sound lt e =
+    let fits : ClassFits d c = subst (ClassFits d) (sym e) (sound.range.classes k c lt) in
+    (state_of_class d (Some c) c.initial fits fits.initial, state_of_class d (Some c) c.dead fits fits.dead)
 
 pub state_is_within : StateIsWithin
 state_is_within d o s sound is = state_of_class d (class_at d o) s (class_fits d o sound) is

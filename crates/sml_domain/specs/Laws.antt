@@ -8,6 +8,7 @@ use Rattle.sml_domain.specs.Values.{kind_of}
 use Rattle.sml_domain.specs.Program.{Operand, Argument}
 use Rattle.sml_domain.specs.Domain.{Domain, Param}
 use Rattle.sml_domain.specs.Lookups.{object_named, state_named, action_named, name_of_object, class_at, is_state_of, params_at, block_at}
+use Rattle.sml_domain.specs.Places.{NameBefore, instrs_at}
 use Rattle.sml_domain.specs.Completing.{Passed, complete}
 use Rattle.sml_domain.specs.Fits.{kind_at, operand_kind, ArgumentsFit}
 use Rattle.sml_domain.specs.Sound.{IsSound, EachBegins, ClassFits, BlockFits, ParamFits, IsOfKind, name_of_param}
@@ -51,6 +52,10 @@ ActionIsWithin = (d : Domain) (o a : ℕ) → IsSound d → is_some (params_at d
 -- what is left of each block at its beginning is its tree
 abbrev pub BlockBegins : Type 0
 BlockBegins = (d : Domain) → IsSound d → EachBegins d
+
+-- the blocks that a block names have lower numbers
+abbrev pub BlockNamesBefore : Type 0
+BlockNamesBefore = (d : Domain) (b : ℕ) → IsSound d → NameBefore b (instrs_at d.blocks b)
 
 -- where there is the kind of a parameter there is the parameter
 abbrev pub KindIsWithin : Type 0

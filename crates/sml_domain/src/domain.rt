@@ -20,6 +20,8 @@ use std::marker::Model;
 /// Names are numbered in the order of their first declaration: classes, objects and sets each by
 /// themselves, and the names of states and those of actions once for the whole domain, with an
 /// added `DEAD` last.
+///
+/// No look-up takes memory. One that says nothing of its cost takes a constant time.
 #[derive(Drop)]
 pub struct Domain {
     objects: Vec<Object>,
@@ -226,6 +228,7 @@ impl Domain {
         requires { o < length self.now.objects }
         ensures is { Some result ≡ option_map says.initial_state (says.class_at self.now o) }
         ensures state { says.is_state_of self.now o result ≡ true }
+        ensures within { result < length self.now.states }
     {
         self.classes[self.class_of(o).get()].initial
     }
@@ -235,6 +238,7 @@ impl Domain {
         requires { o < length self.now.objects }
         ensures is { Some result ≡ option_map says.dead_state (says.class_at self.now o) }
         ensures state { says.is_state_of self.now o result ≡ true }
+        ensures within { result < length self.now.states }
     {
         self.classes[self.class_of(o).get()].dead
     }
@@ -304,7 +308,8 @@ impl Domain {
         }
     }
 
-    /// The instructions of a block in order. Empty where no block has the number.
+    /// The instructions of a block in order. Empty where no block has the number. The blocks that
+    /// they name have lower numbers.
     pub fn instructions(&self, b: BlockId) -> &[Instr]
         ensures is { result.now ≡ instrs_at self.now.blocks b }
         ensures begins { EachBegins self.now }

@@ -1,5 +1,5 @@
 //! What holds of every domain, as contracts of functions that do nothing.
-ghost use Rattle.sml_domain.specs.Laws.{ObjectHasName, StateHasName, ActionHasName, ObjectHasClass, DeclaredBlockFits, DeclaredIsKnown, StateIsWithin, ActionIsWithin, BlockBegins, KindIsWithin, CompletesEach, CompletesWithKinds};
+ghost use Rattle.sml_domain.specs.Laws.{ObjectHasName, StateHasName, ActionHasName, ObjectHasClass, DeclaredBlockFits, DeclaredIsKnown, StateIsWithin, ActionIsWithin, BlockBegins, BlockNamesBefore, KindIsWithin, CompletesEach, CompletesWithKinds};
 
 /// Numbers and names belong to each other, and what look-ups find is of the domain.
 pub fn laws_of_domains()
@@ -12,6 +12,7 @@ pub fn laws_of_domains()
     ensures states_within { StateIsWithin }
     ensures actions_within { ActionIsWithin }
     ensures begins { BlockBegins }
+    ensures before { BlockNamesBefore }
     ensures kinds { KindIsWithin }
 {}
 

@@ -369,3 +369,24 @@ fn answers_of_parameters_and_blocks(rt: HostRuntime) -> Result<(), Fail> {
     assert!(rt; domain.instruction(*yes, 1).is_none());
     Ok(())
 }
+
+#[test]
+fn shows_classes_sets_and_blocks(rt: HostRuntime) -> Result<(), Fail> {
+    let alloc = rt.alloc();
+    let domain = first(alloc, Text::new(alloc, b"white")?)?;
+    let [lamp, boss] = domain.classes() else {
+        panic!(rt; "not two classes");
+    };
+    assert!(rt; lamp.name == Name::from_word(b"LAMP") && lamp.associated);
+    assert!(rt; boss.name == Name::from_word(b"BOSS") && boss.states.len() == 2);
+    let [lamps, none] = domain.groups() else {
+        panic!(rt; "not two sets");
+    };
+    assert!(rt; lamps.members.len() == 1 && none.name == Name::from_word(b"NONE"));
+    assert_eq!(rt; domain.blocks().len(), 4);
+    assert!(rt; domain.class(&Name::from_word(b"LAMPS")).is_none());
+    assert!(rt; domain.set(&Name::from_word(b"LAMP")).is_none());
+    assert!(rt; domain.state(&Name::from_word(b"GO")).is_none());
+    assert!(rt; domain.action(&Name::from_word(b"OFF")).is_none());
+    Ok(())
+}

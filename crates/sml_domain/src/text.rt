@@ -56,7 +56,7 @@ fn is_text(bytes: &[u8]) -> bool
 }
 
 impl Text {
-    /// The text of these bytes.
+    /// The text of these bytes, which are copied. The cost is their count.
     ///
     /// # Errors
     ///

@@ -1,4 +1,5 @@
 use Rattle.sml_domain.proofs.Domains.{object_has_name, state_has_name, action_has_name, object_has_class, declared_block_fits, declared_is_known, state_is_within, action_is_within, block_begins, kind_is_within}
+use Rattle.sml_domain.proofs.Blocks.{before_of_sound}
 use Rattle.sml_domain.proofs.laws.laws_of_domains.Goals as goal
 
 pub returns-clause-objects : goal.returns-clause-objects
@@ -18,6 +19,9 @@ returns-clause-blocks c = declared_block_fits
 
 pub returns-clause-begins : goal.returns-clause-begins
 returns-clause-begins c = block_begins
+
+pub returns-clause-before : goal.returns-clause-before
+returns-clause-before c = before_of_sound
 
 pub returns-clause-kinds : goal.returns-clause-kinds
 returns-clause-kinds c = kind_is_within
