@@ -8,7 +8,7 @@ use Rattle.indexmap.specs.IndexMap.{IndexMap, get}
 use Rattle.sml_tree.specs.Syntax.{ItemData, class, object, group}
 use Rattle.sml_faults.specs.Lookup.{named, class_named, object_named, group_named}
 use Rattle.sml_faults.specs.Repeats.{is_class, is_object, is_group}
-use Rattle.sml_faults.specs.Tables.{place_of, class_item, object_item, group_item, item_at, or_else, Places}
+use Rattle.sml_faults.specs.Tables.{place_of, class_item, object_item, group_item, item_at, or_else, Places, IsNoted}
 
 pub place_push : {X : Type 0} (p : X → Bool) (xs : List X) (x : X) → place_of p (xs ++ x ∷ []) ≡ or_else (place_of p xs) (if p x then Some (length xs) else None)
 place_push p [] x = by (p x)
@@ -69,30 +69,17 @@ one_more f xs i x p was now more within is so_far noted here =
     noted ∙ ap (λ o. or_else o more) so_far ∙ ap (or_else (place_of p (map f (take i xs)))) (here ∙ ap (λ k. if p (f x) then Some k else None) (sym n))
     ∙ sym (ap (place_of p) all ∙ place_push p (map f (take i xs)) (f x))
 
--- or an item of another kind
-pub none_more : {X : Type 0} (f : X → ItemData) (xs : List X) (i : ℕ) (x : X) (p : ItemData → Bool) (was : Option ℕ) → i < length xs → x ≡ get_or xs i x →
-    was ≡ place_of p (map f (take i xs)) → p (f x) ≡ false → was ≡ place_of p (map f (take (i + 1) xs))
-none_more f xs i x p was within is so_far other = one_more f xs i x p was was None within is so_far (kept was) (sym (ap (λ b. if b then Some i else None) other))
-  where
-    kept : (o : Option ℕ) → o ≡ or_else o None
-    kept None = refl
-    kept (Some k) = refl
+-- what stays where nothing comes
+pub still : {X : Type 0} (o : Option X) → o ≡ or_else o None
+still None = refl
+still (Some x) = refl
 
--- one item more that has a name in this table
-pub places_noted : {X S : Type 0} (f : X → ItemData) (xs : List X) (i : ℕ) (x : X) (test : List ℕ → ItemData → Bool) (n : List ℕ) (m m1 m2 : IndexMap (List ℕ) ℕ S) →
-    i < length xs → x ≡ get_or xs i x → Places test (map f (take i xs)) m →
-    ((q : List ℕ) → get (pointwise nat_eq) m1 q ≡ or_else (get (pointwise nat_eq) m q) (if named q n then Some i else None)) → m2 ≡ m1 →
-    ((q : List ℕ) → test q (f x) ≡ named q n) → Places test (map f (take (i + 1) xs)) m2
-places_noted f xs i x test n m m1 m2 within is so_far noted same here = λ q.
-    one_more f xs i x (test q) (get (pointwise nat_eq) m q) (get (pointwise nat_eq) m2 q) (if named q n then Some i else None) within is (so_far q)
-    (ap (λ t. get (pointwise nat_eq) t q) same ∙ noted q) (sym (ap (λ b. if b then Some i else None) (here q)))
-
--- or that has none
-pub places_kept : {X S : Type 0} (f : X → ItemData) (xs : List X) (i : ℕ) (x : X) (test : List ℕ → ItemData → Bool) (m m2 : IndexMap (List ℕ) ℕ S) →
-    i < length xs → x ≡ get_or xs i x → Places test (map f (take i xs)) m → m2 ≡ m →
-    ((q : List ℕ) → test q (f x) ≡ false) → Places test (map f (take (i + 1) xs)) m2
-places_kept f xs i x test m m2 within is so_far same here = λ q.
-    ap (λ t. get (pointwise nat_eq) t q) same ∙ none_more f xs i x (test q) (get (pointwise nat_eq) m q) within is (so_far q) (here q)
+-- the places of items with one more
+pub places_noted : {X S : Type 0} (f : X → ItemData) (xs : List X) (i : ℕ) (x : X) (test : List ℕ → ItemData → Bool) (m m2 : IndexMap (List ℕ) ℕ S) →
+    i < length xs → x ≡ get_or xs i x → Places test (map f (take i xs)) m → IsNoted test (f x) i m m2 → Places test (map f (take (i + 1) xs)) m2
+places_noted f xs i x test m m2 within is so_far noted = λ q.
+    one_more f xs i x (test q) (get (pointwise nat_eq) m q) (get (pointwise nat_eq) m2 q) (if test q (f x) then Some i else None) within is (so_far q)
+    (noted q) refl
 
 -- the item that stands at a place
 pub item_there : {X Y : Type 0} (f : X → ItemData) (read : ItemData → Option Y) (xs ys : List X) (i : ℕ) (x : X) → ys ≡ xs → i < length ys → x ≡ get_or ys i x → item_at read (map f xs) i ≡ read (f x)

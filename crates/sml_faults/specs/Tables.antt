@@ -24,6 +24,11 @@ abbrev pub or_else : {X : Type 0} → Option X → Option X → Option X
 or_else None y = y
 or_else (Some x) y = Some x
 
+-- a table after one more item: its name has this place, unless it has one
+abbrev pub IsNoted : {S : Type 0} → (List ℕ → ItemData → Bool) → ItemData → ℕ → IndexMap (List ℕ) ℕ S → IndexMap (List ℕ) ℕ S → Type 0
+IsNoted test item place old new =
+    (q : List ℕ) → get (pointwise nat_eq) new q ≡ or_else (get (pointwise nat_eq) old q) (if test q item then Some place else None)
+
 -- the class that an item is
 abbrev pub class_item : ItemData → Option ClassData
 class_item (class c) = Some c

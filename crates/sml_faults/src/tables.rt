@@ -1,12 +1,12 @@
 //! The items of a file by their names.
-ghost use Rattle.std.specs.Prelude.{◌≡◌, ℕ, List, Some, None, OnOk, IfOk, option_map, nat_eq, if◌then◌else◌};
+ghost use Rattle.std.specs.Prelude.{◌≡◌, ℕ, List, Some, None, OnOk, IfOk, map, option_map, nat_eq, if◌then◌else◌};
 ghost use Rattle.std.specs.Cmp.Lexicographic.{pointwise};
 ghost use Rattle.indexmap.specs.IndexMap.{get};
 ghost use Rattle.sml_tree.specs.Content.{file_content, item_content, class_content, object_content, group_content};
 ghost use Rattle.sml_faults.specs.Lookup.{named, class_named, object_named, group_named};
 ghost use Rattle.sml_faults.specs.Tables as spec;
-ghost use Rattle.sml_faults.specs.Repeats.{is_class};
-ghost use Rattle.sml_faults.specs.Tables.{HasTables, ActionTables, or_else, place_of, item_at};
+ghost use Rattle.sml_faults.specs.Repeats.{is_class, is_object, is_group};
+ghost use Rattle.sml_faults.specs.Tables.{HasTables, IsNoted, ActionTables, or_else, place_of, item_at};
 
 use crate::actions::{ActionPlace, item_tables};
 use indexmap::IndexMap;
@@ -26,22 +26,55 @@ pub struct Tables<'a, A: Allocator + Clone> {
     ghost declared: { ActionTables (file_content file.now) actions.items },
 }
 
+// The places of some items by their names, a table for each kind of item.
+#[derive(Drop)]
+struct Places {
+    classes: IndexMap<Name, usize>,
+    objects: IndexMap<Name, usize>,
+    groups: IndexMap<Name, usize>,
+}
+
+impl Places {
+    // Gives an item's name its place among those of its kind, unless it has one.
+    fn note<A: Allocator + Clone>(&mut self, item: &Item<A>, place: usize) -> Result<(), AllocError>
+        ensures classes { OnOk result (IsNoted is_class (item_content item.now) place self.old.classes self.new.classes) }
+        ensures objects { OnOk result (IsNoted is_object (item_content item.now) place self.old.objects self.new.objects) }
+        ensures groups { OnOk result (IsNoted is_group (item_content item.now) place self.old.groups self.new.groups) }
+    {
+        match item {
+            Item::Class(class) => note(&mut self.classes, class.name, place),
+            Item::Object(object) => note(&mut self.objects, object.name, place),
+            Item::Group(group) => note(&mut self.groups, group.name, place),
+        }
+    }
+}
+
+// The places of a file's items.
+fn places_of<A: Allocator + Clone>(alloc: Global, items: &[Item<A>]) -> Result<Places, AllocError>
+    ensures { IfOk result (λ p. HasTables (map item_content items.now) p.classes p.objects p.groups) }
+{
+    let mut places = Places {
+        classes: IndexMap::new(alloc),
+        objects: IndexMap::new(alloc),
+        groups: IndexMap::new(alloc),
+    };
+    for (i, item) in items.iter().enumerate() {
+        places.note(item, i)?;
+    }
+    Ok(places)
+}
+
 impl<'a, A: Allocator + Clone> Tables<'a, A> {
     /// The tables of a file.
     pub fn new(alloc: Global, file: &'a SmlFile<A>) -> Result<Self, AllocError>
         ensures { IfOk result (λ t. t.file.now ≡ file.now) }
     {
-        let mut classes = IndexMap::new(alloc);
-        let mut objects = IndexMap::new(alloc);
-        let mut groups = IndexMap::new(alloc);
-        for (i, item) in file.items.iter().enumerate() {
-            match item {
-                Item::Class(class) => note(&mut classes, class.name, i)?,
-                Item::Object(object) => note(&mut objects, object.name, i)?,
-                Item::Group(group) => note(&mut groups, group.name, i)?,
-            }
-        }
         let actions = item_tables(alloc, &file.items)?;
+        let Places {
+            classes,
+            objects,
+            groups,
+        } = places_of(alloc, &file.items)?;
         Ok(Tables {
             file,
             classes,
