@@ -1,6 +1,6 @@
 //! Blocks with branches in one another, and how actions end.
 
-use crate::domain_of::domain_of;
+use crate::domain_of::has_domain;
 use crate::shapes::{asks, instructions_of, is_move};
 use sml_domain::domain::Domain;
 use sml_domain::ids::{BlockId, ObjId};
@@ -21,12 +21,10 @@ fn ends_both_ways(domain: &Domain) -> bool {
 }
 
 #[test]
-fn both_ways_to_end(rt: HostRuntime) -> Result<(), Fail> {
-    let text =
+fn both_ways_to_end(rt: HostRuntime) {
+    let text: &[u8] =
         b"class: K state: S action: GO move_to DEAD action: STOP terminate_action /state=S object: X is_of_class K";
-    let domain = domain_of(rt.alloc(), text)?;
-    assert!(rt; ends_both_ways(&domain));
-    Ok(())
+    assert!(rt; has_domain(rt.alloc(), text, ends_both_ways));
 }
 
 const BRANCHES: &[u8] = b"class: LAMP
@@ -110,8 +108,6 @@ fn branches(domain: &Domain) -> bool {
 }
 
 #[test]
-fn branches_in_one_another(rt: HostRuntime) -> Result<(), Fail> {
-    let domain = domain_of(rt.alloc(), BRANCHES)?;
-    assert!(rt; branches(&domain));
-    Ok(())
+fn branches_in_one_another(rt: HostRuntime) {
+    assert!(rt; has_domain(rt.alloc(), BRANCHES, branches));
 }

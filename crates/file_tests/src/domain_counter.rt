@@ -1,6 +1,7 @@
 //! A counter, which keeps a number and a string and sends them to a sink.
 
-use crate::domain_of::{domain_of, numbers_actions, numbers_objects, numbers_states};
+use crate::domain_of::{has_domain, numbers_actions, numbers_objects, numbers_states};
+use crate::example_domains::COUNTER;
 use crate::shapes::{instructions_of, is_given, is_int, is_own, is_param, is_text, passes_own};
 use sml_domain::domain::Domain;
 use sml_domain::ids::{ActionId, ClassId, ObjId, SetId, StateId};
@@ -9,22 +10,6 @@ use sml_domain::value::Value;
 use sml_tree::file::Kind;
 use sml_tree::name::Name;
 use std::test::*;
-
-const COUNTER: &[u8] = b"class: SINK /associated
-  state: READY
-    action: TAKE (int V, string W = \"none\")
-class: COUNTER
-  parameters: int N = 3, string P = \"x\"
-  state: IDLE
-    action: PUT (int T = 5, string M)
-      set N = T
-      set P = M
-      do TAKE (W = P, V = N) OUT
-    action: SHOW
-      do TAKE (V = N) OUT
-object: OUT is_of_class SINK
-object: C is_of_class COUNTER
-";
 
 const OUT: usize = 0;
 
@@ -124,16 +109,18 @@ fn is_put(domain: &Domain) -> bool {
     }
 }
 
+fn shows_sink_and_counter(domain: &Domain) -> bool {
+    has_numbers(domain)
+        && has_sink(domain)
+        && has_counter(domain)
+        && has_class_parameters(domain)
+        && takes(domain)
+        && is_put(domain)
+}
+
 #[test]
-fn sink_and_counter(rt: HostRuntime) -> Result<(), Fail> {
-    let domain = domain_of(rt.alloc(), COUNTER)?;
-    assert!(rt; has_numbers(&domain));
-    assert!(rt; has_sink(&domain));
-    assert!(rt; has_counter(&domain));
-    assert!(rt; has_class_parameters(&domain));
-    assert!(rt; takes(&domain));
-    assert!(rt; is_put(&domain));
-    Ok(())
+fn sink_and_counter(rt: HostRuntime) {
+    assert!(rt; has_domain(rt.alloc(), COUNTER, shows_sink_and_counter));
 }
 
 // Whether an instruction gives a parameter of the class the value of one of the action.
@@ -192,13 +179,13 @@ fn shows(domain: &Domain) -> bool {
     }
 }
 
+fn shows_blocks_of_the_counter(domain: &Domain) -> bool {
+    puts(domain) && shows(domain) && instructions_of(domain, C, IDLE, TAKE).is_none()
+}
+
 #[test]
-fn blocks_of_the_counter(rt: HostRuntime) -> Result<(), Fail> {
-    let domain = domain_of(rt.alloc(), COUNTER)?;
-    assert!(rt; puts(&domain));
-    assert!(rt; shows(&domain));
-    assert!(rt; instructions_of(&domain, C, IDLE, TAKE).is_none());
-    Ok(())
+fn blocks_of_the_counter(rt: HostRuntime) {
+    assert!(rt; has_domain(rt.alloc(), COUNTER, shows_blocks_of_the_counter));
 }
 
 // Whether an instruction gives a parameter of the class an int, by its place.
@@ -236,12 +223,10 @@ fn has_written_values(domain: &Domain) -> bool {
 }
 
 #[test]
-fn values_that_are_written_out(rt: HostRuntime) -> Result<(), Fail> {
-    let text =
+fn values_that_are_written_out(rt: HostRuntime) {
+    let text: &[u8] =
         b"class: K parameters: string P = \"\", int N = -07 state: S action: GO set N = 12 set P = \"a b\" object: X is_of_class K";
-    let domain = domain_of(rt.alloc(), text)?;
-    assert!(rt; has_written_values(&domain));
-    Ok(())
+    assert!(rt; has_domain(rt.alloc(), text, has_written_values));
 }
 
 // Whether two classes declare one action, each with a parameter of its own.
@@ -259,10 +244,8 @@ fn differs_by_class(domain: &Domain) -> bool {
 }
 
 #[test]
-fn parameters_by_class(rt: HostRuntime) -> Result<(), Fail> {
-    let text =
+fn parameters_by_class(rt: HostRuntime) {
+    let text: &[u8] =
         b"class: J state: S action: GO (int A) class: K state: T action: GO (string B = \"b\") state: S action: GO (string B = \"b\") object: X is_of_class K object: Y is_of_class J";
-    let domain = domain_of(rt.alloc(), text)?;
-    assert!(rt; differs_by_class(&domain));
-    Ok(())
+    assert!(rt; has_domain(rt.alloc(), text, differs_by_class));
 }

@@ -1,6 +1,6 @@
 //! Initial and dead states, marked, declared and added.
 
-use crate::domain_of::{domain_of, numbers_states};
+use crate::domain_of::{has_domain, numbers_states};
 use sml_domain::domain::Domain;
 use sml_domain::ids::{ActionId, ObjId, StateId};
 use sml_tree::name::Name;
@@ -22,7 +22,7 @@ fn is_dead_at_once(domain: &Domain, word: &[u8]) -> bool {
 }
 
 #[test]
-fn dead_from_the_beginning(rt: HostRuntime) -> Result<(), Fail> {
+fn dead_from_the_beginning(rt: HostRuntime) {
     let texts: [(&[u8], &[u8]); 3] = [
         (
             b"class: K state: S /initial_state /dead_state object: X is_of_class K",
@@ -35,10 +35,9 @@ fn dead_from_the_beginning(rt: HostRuntime) -> Result<(), Fail> {
         (b"class: K state: DEAD object: X is_of_class K", b"DEAD"),
     ];
     for (text, word) in texts {
-        let domain = domain_of(rt.alloc(), text)?;
-        assert!(rt; is_dead_at_once(&domain, word));
+        let is_so = has_domain(rt.alloc(), text, |domain| is_dead_at_once(domain, word));
+        assert!(rt; is_so);
     }
-    Ok(())
 }
 
 fn is_marked_beside_added(domain: &Domain) -> bool {
@@ -59,12 +58,10 @@ fn is_marked_beside_added(domain: &Domain) -> bool {
 }
 
 #[test]
-fn marked_beside_added(rt: HostRuntime) -> Result<(), Fail> {
-    let text =
+fn marked_beside_added(rt: HostRuntime) {
+    let text: &[u8] =
         b"class: K state: S state: GONE /dead_state state: U class: L state: T state: S /initial_state object: X is_of_class K object: Y is_of_class L";
-    let domain = domain_of(rt.alloc(), text)?;
-    assert!(rt; is_marked_beside_added(&domain));
-    Ok(())
+    assert!(rt; has_domain(rt.alloc(), text, is_marked_beside_added));
 }
 
 fn is_added_beside_declared(domain: &Domain) -> bool {
@@ -85,12 +82,10 @@ fn is_added_beside_declared(domain: &Domain) -> bool {
 }
 
 #[test]
-fn added_beside_declared(rt: HostRuntime) -> Result<(), Fail> {
-    let text =
+fn added_beside_declared(rt: HostRuntime) {
+    let text: &[u8] =
         b"class: K state: S class: L state: T state: DEAD action: GO state: U object: X is_of_class K object: Y is_of_class L";
-    let domain = domain_of(rt.alloc(), text)?;
-    assert!(rt; is_added_beside_declared(&domain));
-    Ok(())
+    assert!(rt; has_domain(rt.alloc(), text, is_added_beside_declared));
 }
 
 // Whether the marked state is the dead one, and an unmarked DEAD a state like any other.
@@ -102,10 +97,8 @@ fn is_declared_and_not_marked(domain: &Domain) -> bool {
 }
 
 #[test]
-fn declared_and_not_marked(rt: HostRuntime) -> Result<(), Fail> {
-    let text =
+fn declared_and_not_marked(rt: HostRuntime) {
+    let text: &[u8] =
         b"class: K state: DEAD state: S /initial_state state: GONE /dead_state object: X is_of_class K";
-    let domain = domain_of(rt.alloc(), text)?;
-    assert!(rt; is_declared_and_not_marked(&domain));
-    Ok(())
+    assert!(rt; has_domain(rt.alloc(), text, is_declared_and_not_marked));
 }

@@ -1,25 +1,13 @@
 //! Domains with a set that has no members, and with nothing at all.
 
-use crate::domain_of::{domain_of, numbers_actions, numbers_objects, numbers_states};
+use crate::domain_of::{has_domain, numbers_actions, numbers_objects, numbers_states};
+use crate::example_domains::EMPTY;
 use crate::shapes::{asks, instructions_of, is_empty, is_move};
 use sml_domain::domain::Domain;
 use sml_domain::ids::{ActionId, ClassId, ObjId, SetId, StateId};
 use sml_domain::instr::{Asked, Cond, Instr, Target};
 use sml_tree::name::Name;
 use std::test::*;
-
-const EMPTY: &[u8] = b"class: T
-  state: S
-    action: GO
-      if ( any_in E in_state S or not all_in E in_state S ) then
-        move_to BAD
-      endif
-      move_to GOOD
-  state: GOOD
-  state: BAD
-object: X is_of_class T
-objectset: E { }
-";
 
 const X: usize = 0;
 
@@ -94,13 +82,13 @@ fn goes(domain: &Domain) -> bool {
     }
 }
 
+fn shows_empty_set(domain: &Domain) -> bool {
+    has_numbers(domain) && has_object(domain) && goes(domain)
+}
+
 #[test]
-fn empty_set(rt: HostRuntime) -> Result<(), Fail> {
-    let domain = domain_of(rt.alloc(), EMPTY)?;
-    assert!(rt; has_numbers(&domain));
-    assert!(rt; has_object(&domain));
-    assert!(rt; goes(&domain));
-    Ok(())
+fn empty_set(rt: HostRuntime) {
+    assert!(rt; has_domain(rt.alloc(), EMPTY, shows_empty_set));
 }
 
 // Whether an instruction tests nobody for states that nobody declares.
@@ -133,14 +121,15 @@ fn tests_nobody(domain: &Domain) -> bool {
     }
 }
 
+fn shows_tests_of_nobody(domain: &Domain) -> bool {
+    domain.state(&Name::from_word(b"NOWHERE")).is_none() && tests_nobody(domain)
+}
+
 #[test]
-fn tests_of_nobody(rt: HostRuntime) -> Result<(), Fail> {
-    let text =
+fn tests_of_nobody(rt: HostRuntime) {
+    let text: &[u8] =
         b"class: T state: S action: GO if (any_in E in_state {NOWHERE, S, NEVER}) then endif if (all_in E not_in_state NOWHERE) then endif object: X is_of_class T objectset: E {}";
-    let domain = domain_of(rt.alloc(), text)?;
-    assert!(rt; domain.state(&Name::from_word(b"NOWHERE")).is_none());
-    assert!(rt; tests_nobody(&domain));
-    Ok(())
+    assert!(rt; has_domain(rt.alloc(), text, shows_tests_of_nobody));
 }
 
 fn sends_to_nobody(domain: &Domain) -> bool {
@@ -152,14 +141,15 @@ fn sends_to_nobody(domain: &Domain) -> bool {
     }
 }
 
+fn shows_requests_to_nobody(domain: &Domain) -> bool {
+    domain.action(&Name::from_word(b"NOPE")).is_none() && sends_to_nobody(domain)
+}
+
 #[test]
-fn requests_to_nobody(rt: HostRuntime) -> Result<(), Fail> {
-    let text =
+fn requests_to_nobody(rt: HostRuntime) {
+    let text: &[u8] =
         b"class: T state: S action: GO do NOPE (N = 1) all_in E do GO all_in E object: X is_of_class T objectset: E {}";
-    let domain = domain_of(rt.alloc(), text)?;
-    assert!(rt; domain.action(&Name::from_word(b"NOPE")).is_none());
-    assert!(rt; sends_to_nobody(&domain));
-    Ok(())
+    assert!(rt; has_domain(rt.alloc(), text, shows_requests_to_nobody));
 }
 
 fn has_nothing(domain: &Domain) -> bool {
@@ -173,11 +163,9 @@ fn has_nothing(domain: &Domain) -> bool {
 }
 
 #[test]
-fn empty_domain(rt: HostRuntime) -> Result<(), Fail> {
+fn empty_domain(rt: HostRuntime) {
     let texts: [&[u8]; 3] = [b"", b" \t\r\n", b"! nothing"];
     for text in texts {
-        let domain = domain_of(rt.alloc(), text)?;
-        assert!(rt; has_nothing(&domain));
+        assert!(rt; has_domain(rt.alloc(), text, has_nothing));
     }
-    Ok(())
 }

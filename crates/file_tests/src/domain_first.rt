@@ -1,27 +1,13 @@
 //! A lamp and its boss.
 
-use crate::domain_of::{domain_of, numbers_actions, numbers_objects, numbers_states};
+use crate::domain_of::{has_domain, numbers_actions, numbers_objects, numbers_states};
+use crate::example_domains::FIRST;
 use crate::shapes::instructions_of;
 use sml_domain::domain::Domain;
 use sml_domain::ids::{ActionId, ClassId, ObjId, StateId};
 use sml_domain::instr::{Instr, Target};
 use sml_tree::name::Name;
 use std::test::*;
-
-const FIRST: &[u8] = b"class: LAMP
-  state: OFF
-    action: LIGHT
-      move_to ON
-  state: ON
-class: BOSS
-  state: IDLE
-    action: GO
-      do LIGHT L
-      move_to DONE
-  state: DONE
-object: L is_of_class LAMP
-object: B is_of_class BOSS
-";
 
 const L: usize = 0;
 
@@ -120,14 +106,16 @@ fn ends(domain: &Domain) -> bool {
         && domain.instruction(block, 2).is_none()
 }
 
+fn shows_lamp_and_boss(domain: &Domain) -> bool {
+    has_numbers(domain)
+        && has_lamp(domain)
+        && has_boss(domain)
+        && lights(domain)
+        && goes(domain)
+        && ends(domain)
+}
+
 #[test]
-fn lamp_and_boss(rt: HostRuntime) -> Result<(), Fail> {
-    let domain = domain_of(rt.alloc(), FIRST)?;
-    assert!(rt; has_numbers(&domain));
-    assert!(rt; has_lamp(&domain));
-    assert!(rt; has_boss(&domain));
-    assert!(rt; lights(&domain));
-    assert!(rt; goes(&domain));
-    assert!(rt; ends(&domain));
-    Ok(())
+fn lamp_and_boss(rt: HostRuntime) {
+    assert!(rt; has_domain(rt.alloc(), FIRST, shows_lamp_and_boss));
 }

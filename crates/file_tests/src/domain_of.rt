@@ -1,23 +1,34 @@
 //! The domains of texts, and how their names are numbered.
 
-use sml_check::check;
+use sml_check::{CheckError, CheckKind, check};
 use sml_checkable::laws::laws_of_read_files;
 use sml_domain::domain::Domain;
 use sml_domain::ids::{ActionId, ObjId, StateId};
 use sml_read::read;
 use std::alloc::Global;
-use std::test::Fail;
 
-/// The domain that a text says.
-pub fn domain_of(alloc: Global, text: &[u8]) -> Result<Domain, Fail> {
+// What `check` answers of a text, or none where it is not read.
+fn checked(alloc: Global, text: &[u8]) -> Option<Result<Domain, CheckError>> {
     laws_of_read_files();
-    let file = match read(alloc, text) {
-        Ok(file) => file,
-        Err(error) => return Err(Fail::from(error)),
-    };
-    match check(alloc, &file) {
-        Ok(domain) => Ok(domain),
-        Err(error) => Err(Fail::from(error.kind)),
+    let file = read(alloc, text).ok()?;
+    Some(check(alloc, &file))
+}
+
+/// Whether a text has a domain, and this is so of it.
+pub fn has_domain<F: FnOnce(&Domain) -> bool>(alloc: Global, text: &[u8], is_so: F) -> bool
+    requires { F.IsAlwaysCallable is_so }
+{
+    match checked(alloc, text) {
+        Some(Ok(domain)) => is_so(&domain),
+        _ => false,
+    }
+}
+
+/// Whether a text is read, and `check` tells this fault of it.
+pub fn is_refused(alloc: Global, text: &[u8], kind: CheckKind, name: &[u8]) -> bool {
+    match &checked(alloc, text) {
+        Some(Err(error)) => error.kind == kind && error.name.as_bytes() == name,
+        _ => false,
     }
 }
 

@@ -1,26 +1,13 @@
 //! Two objects that ask one another.
 
-use crate::domain_of::{domain_of, numbers_actions, numbers_objects, numbers_states};
+use crate::domain_of::{has_domain, numbers_actions, numbers_objects, numbers_states};
+use crate::example_domains::PAIR;
 use crate::shapes::{asks, instructions_of, is_empty};
 use sml_domain::domain::Domain;
 use sml_domain::ids::{ActionId, ClassId, ObjId, StateId};
 use sml_domain::instr::{Asked, Instr};
 use sml_tree::name::Name;
 use std::test::*;
-
-const PAIR: &[u8] = b"class: LEFT
-  state: S
-    action: GO
-      if ( B in_state S ) then
-      endif
-class: RIGHT
-  state: S
-    action: GO
-      if ( A in_state S ) then
-      endif
-object: A is_of_class LEFT
-object: B is_of_class RIGHT
-";
 
 const A: usize = 0;
 
@@ -70,13 +57,15 @@ fn asks_other(domain: &Domain, own: usize, other: usize) -> bool {
     }
 }
 
+fn shows_pair_of_objects(domain: &Domain) -> bool {
+    has_numbers(domain)
+        && is_half(domain, &Name::from_word(b"A"), 0)
+        && is_half(domain, &Name::from_word(b"B"), 1)
+        && asks_other(domain, A, B)
+        && asks_other(domain, B, A)
+}
+
 #[test]
-fn pair_of_objects(rt: HostRuntime) -> Result<(), Fail> {
-    let domain = domain_of(rt.alloc(), PAIR)?;
-    assert!(rt; has_numbers(&domain));
-    assert!(rt; is_half(&domain, &Name::from_word(b"A"), 0));
-    assert!(rt; is_half(&domain, &Name::from_word(b"B"), 1));
-    assert!(rt; asks_other(&domain, A, B));
-    assert!(rt; asks_other(&domain, B, A));
-    Ok(())
+fn pair_of_objects(rt: HostRuntime) {
+    assert!(rt; has_domain(rt.alloc(), PAIR, shows_pair_of_objects));
 }

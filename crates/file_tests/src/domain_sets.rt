@@ -1,6 +1,6 @@
 //! Sets whose members stand in an order of their own.
 
-use crate::domain_of::{domain_of, numbers_objects};
+use crate::domain_of::{has_domain, numbers_objects};
 use sml_domain::domain::Domain;
 use sml_domain::ids::SetId;
 use sml_tree::name::Name;
@@ -21,12 +21,13 @@ fn has_members(domain: &Domain) -> bool {
         && domain.members(SetId::new(2)).is_empty()
 }
 
+fn shows_members_as_written(domain: &Domain) -> bool {
+    has_numbers(domain) && has_members(domain)
+}
+
 #[test]
-fn members_as_written(rt: HostRuntime) -> Result<(), Fail> {
-    let text =
+fn members_as_written(rt: HostRuntime) {
+    let text: &[u8] =
         b"objectset: G { C, A } object: A is_of_class K objectset: H { B } class: K state: S object: B is_of_class K object: C is_of_class K";
-    let domain = domain_of(rt.alloc(), text)?;
-    assert!(rt; has_numbers(&domain));
-    assert!(rt; has_members(&domain));
-    Ok(())
+    assert!(rt; has_domain(rt.alloc(), text, shows_members_as_written));
 }

@@ -1,33 +1,13 @@
 //! Two supplies, switched on together by a run.
 
-use crate::domain_of::{domain_of, numbers_actions, numbers_objects, numbers_states};
+use crate::domain_of::{has_domain, numbers_actions, numbers_objects, numbers_states};
+use crate::example_domains::SUPPLIES;
 use crate::shapes::{asks, instructions_of, is_empty, is_move};
 use sml_domain::domain::Domain;
 use sml_domain::ids::{ActionId, ClassId, ObjId, SetId, StateId};
 use sml_domain::instr::{Asked, Instr, Target};
 use sml_tree::name::Name;
 use std::test::*;
-
-const SUPPLIES: &[u8] = b"class: SUPPLY /associated
-  state: OFF /initial_state
-    action: SWITCH_ON
-  state: ON
-    action: SWITCH_OFF
-class: RUN_TYPE
-  state: NOT_READY /initial_state
-    action: CONFIGURE
-      do SWITCH_ON all_in HV
-      if ( all_in HV in_state ON ) then
-        move_to READY
-      endif
-      move_to ERROR
-  state: READY
-  state: ERROR
-object: HV1 is_of_class SUPPLY
-object: HV2 is_of_class SUPPLY
-object: RUN is_of_class RUN_TYPE
-objectset: HV { HV1, HV2 }
-";
 
 const HV1: usize = 0;
 
@@ -128,18 +108,20 @@ fn is_switched(domain: &Domain, supply: ObjId) -> bool {
         )
 }
 
+fn shows_two_supplies(domain: &Domain) -> bool {
+    has_numbers(domain)
+        && keeps_names_apart(domain)
+        && is_out_of_range(domain, 3)
+        && is_out_of_range(domain, usize::MAX)
+        && is_supply(domain, &Name::from_word(b"HV1"))
+        && is_supply(domain, &Name::from_word(b"hv2"))
+        && is_switched(domain, ObjId::new(HV1))
+        && is_switched(domain, ObjId::new(HV2))
+}
+
 #[test]
-fn two_supplies(rt: HostRuntime) -> Result<(), Fail> {
-    let domain = domain_of(rt.alloc(), SUPPLIES)?;
-    assert!(rt; has_numbers(&domain));
-    assert!(rt; keeps_names_apart(&domain));
-    assert!(rt; is_out_of_range(&domain, 3));
-    assert!(rt; is_out_of_range(&domain, usize::MAX));
-    assert!(rt; is_supply(&domain, &Name::from_word(b"HV1")));
-    assert!(rt; is_supply(&domain, &Name::from_word(b"hv2")));
-    assert!(rt; is_switched(&domain, ObjId::new(HV1)));
-    assert!(rt; is_switched(&domain, ObjId::new(HV2)));
-    Ok(())
+fn two_supplies(rt: HostRuntime) {
+    assert!(rt; has_domain(rt.alloc(), SUPPLIES, shows_two_supplies));
 }
 
 fn has_run(domain: &Domain) -> bool {
@@ -204,11 +186,11 @@ fn has_members(domain: &Domain) -> bool {
     }
 }
 
+fn shows_run_of_supplies(domain: &Domain) -> bool {
+    has_run(domain) && configures(domain) && has_members(domain)
+}
+
 #[test]
-fn run_of_supplies(rt: HostRuntime) -> Result<(), Fail> {
-    let domain = domain_of(rt.alloc(), SUPPLIES)?;
-    assert!(rt; has_run(&domain));
-    assert!(rt; configures(&domain));
-    assert!(rt; has_members(&domain));
-    Ok(())
+fn run_of_supplies(rt: HostRuntime) {
+    assert!(rt; has_domain(rt.alloc(), SUPPLIES, shows_run_of_supplies));
 }

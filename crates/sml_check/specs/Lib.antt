@@ -9,4 +9,3 @@ pub mod Texts
 pub mod Written
 pub mod Truth
 pub mod Laws
-pub mod Example

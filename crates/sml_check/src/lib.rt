@@ -14,8 +14,6 @@ mod marks;
 mod names;
 mod params;
 mod signatures;
-#[cfg(test)]
-mod tests;
 mod values;
 
 pub use checked::check;

@@ -5,4 +5,3 @@ pub mod Blocks
 pub mod Numbers
 pub mod Completes
 pub mod Domains
-pub mod Example

@@ -12,4 +12,3 @@ pub mod Completing
 pub mod Fits
 pub mod Sound
 pub mod Laws
-pub mod Example

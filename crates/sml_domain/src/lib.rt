@@ -9,7 +9,5 @@ pub mod laws;
 pub mod names;
 pub mod param;
 pub mod rows;
-#[cfg(test)]
-mod tests;
 pub mod text;
 pub mod value;

@@ -1,0 +1,43 @@
+//! Tests of files: their texts, trees, faults and domains.
+#![tactic(auto)]
+
+#[cfg(test)]
+mod checked;
+#[cfg(test)]
+mod domain_blocks;
+#[cfg(test)]
+mod domain_counter;
+#[cfg(test)]
+mod domain_dead_states;
+#[cfg(test)]
+mod domain_empty;
+#[cfg(test)]
+mod domain_first;
+#[cfg(test)]
+mod domain_lamps;
+#[cfg(test)]
+mod domain_look_ups;
+#[cfg(test)]
+mod domain_of;
+#[cfg(test)]
+mod domain_pair;
+#[cfg(test)]
+mod domain_sets;
+#[cfg(test)]
+mod domain_supplies;
+#[cfg(test)]
+mod example_domains;
+#[cfg(test)]
+mod fault_domains;
+#[cfg(test)]
+mod fault_edges;
+#[cfg(test)]
+mod fault_kinds;
+#[cfg(test)]
+mod fault_pairs;
+#[cfg(test)]
+mod shapes;
+#[cfg(test)]
+mod strings;
+#[cfg(test)]
+mod told;
