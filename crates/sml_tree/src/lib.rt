@@ -5,6 +5,7 @@ pub mod block;
 pub mod cond;
 pub mod file;
 pub mod laws;
+mod lists;
 pub mod literal;
 pub mod name;
 #[cfg(test)]
