@@ -8,7 +8,5 @@ pub mod laws;
 mod lists;
 pub mod literal;
 pub mod name;
-#[cfg(test)]
-mod tests;
 pub mod token_kind;
 pub mod words;

@@ -1,7 +1,7 @@
 //! A text that is read and checked.
 
-use crate::laws::laws_of_read_files;
 use sml_check::check;
+use sml_checkable::laws::laws_of_read_files;
 use sml_domain::domain::Domain;
 use sml_domain::param::Param;
 use sml_domain::value::Value;
