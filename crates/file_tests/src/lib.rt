@@ -24,6 +24,8 @@ mod domain_pair;
 #[cfg(test)]
 mod domain_sets;
 #[cfg(test)]
+mod domain_string;
+#[cfg(test)]
 mod domain_supplies;
 #[cfg(test)]
 mod example_domains;
@@ -38,6 +40,12 @@ mod fault_pairs;
 #[cfg(test)]
 mod shapes;
 #[cfg(test)]
+mod small_heaps;
+#[cfg(test)]
 mod strings;
 #[cfg(test)]
+mod text;
+#[cfg(test)]
 mod told;
+#[cfg(test)]
+mod tree;

@@ -222,16 +222,18 @@ fn sign_at(c: u8) -> Front
 fn scan(source: Source, text: &[u8]) -> Front
     ensures { result ≡ front source text.now }
 {
-    match text {
-        [] => Front::End,
-        [c, ..] if is_blank(*c) => Front::Skip(1),
-        [b'!', rest @ ..] => Front::Skip(line_length(rest) + 1),
-        [c, rest @ ..] if is_letter(*c) => word_at(rest),
-        [c, ..] if is_digit(*c) => int_at(false, text),
-        [b'-', rest @ ..] => int_at(true, rest),
-        [b'"', rest @ ..] => string_at(rest),
-        [b'@', rest @ ..] => session_at(source, rest),
-        [c, ..] => sign_at(*c),
+    let [c, rest @ ..] = text else {
+        return Front::End;
+    };
+    match *c {
+        c if is_blank(c) => Front::Skip(1),
+        b'!' => Front::Skip(line_length(rest) + 1),
+        c if is_letter(c) => word_at(rest),
+        c if is_digit(c) => int_at(false, text),
+        b'-' => int_at(true, rest),
+        b'"' => string_at(rest),
+        b'@' => session_at(source, rest),
+        c => sign_at(c),
     }
 }
 

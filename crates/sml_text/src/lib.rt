@@ -5,7 +5,5 @@ pub mod decimal;
 pub mod front;
 pub mod laws;
 pub mod source;
-#[cfg(test)]
-mod tests;
 pub mod tokens;
 pub mod writing;

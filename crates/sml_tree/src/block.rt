@@ -1,9 +1,10 @@
 //! Instructions.
 ghost use Rattle.std.specs.Prelude.{◌≡◌, ◌↔◌, ◌<◌, ◌^◌, ◌-◌, min, map, IfOk, IsTrue};
-ghost use Rattle.sml_tree.specs.Content.{passed_content, instr_content, block_content};
-ghost use Rattle.sml_tree.specs.Syntax.{block_depth, instr_depth};
+ghost use Rattle.sml_tree.specs.Content.{arg_content, passed_content, instr_content, block_content};
+ghost use Rattle.sml_tree.specs.Syntax.{send, assign, move_to, terminate, block_depth, instr_depth};
 
 use crate::cond::Cond;
+use crate::lists::{add, room_for};
 use crate::literal::{Arg, Passed};
 use crate::name::Name;
 use std::alloc::{AllocError, Allocator};
@@ -40,9 +41,16 @@ pub struct Block<A: Allocator + Clone> {
 
 impl<A: Allocator + Clone> Instr<A> {
     /// The same instruction in other memory.
+    pub fn copy_in<B: Allocator + Clone>(&self, alloc: B) -> Result<Instr<B>, AllocError>
+        ensures { IfOk result (λ i. instr_content i ≡ instr_content self.now) }
+    {
+        self.copy_by(&alloc)
+    }
+
+    // The same instruction in this memory.
     #[cycle(copy)]
     #[tactic(auto, using(crate::proofs::Blocks::instr_equations))]
-    pub fn copy_in<B: Allocator + Clone>(&self, alloc: B) -> Result<Instr<B>, AllocError>
+    fn copy_by<B: Allocator + Clone>(&self, alloc: &B) -> Result<Instr<B>, AllocError>
         ensures { IfOk result (λ i. instr_content i ≡ instr_content self.now) }
     {
         match self {
@@ -58,14 +66,14 @@ impl<A: Allocator + Clone> Instr<A> {
                 target: *target,
             }),
             Instr::If { cond, yes, no } => {
-                let cond = cond.copy_in(alloc.clone()?)?;
-                let yes = yes.copy_in(alloc.clone()?)?;
-                let no = no.copy_in(alloc)?;
+                let cond = cond.copy_by(alloc)?;
+                let yes = yes.copy_by(alloc)?;
+                let no = no.copy_by(alloc)?;
                 Ok(Instr::If { cond, yes, no })
             }
             Instr::Set { param, value } => Ok(Instr::Set {
                 param: *param,
-                value: value.copy_in(alloc)?,
+                value: value.copy_in(alloc.clone()?)?,
             }),
             Instr::MoveTo(state) => Ok(Instr::MoveTo(*state)),
             Instr::Terminate(state) => Ok(Instr::Terminate(*state)),
@@ -84,45 +92,75 @@ impl<A: Allocator + Clone> Instr<A> {
                 args,
                 all,
                 target,
-            } => match other {
-                Instr::Do {
-                    action: action_b,
-                    args: args_b,
-                    all: all_b,
-                    target: target_b,
-                } => *action == *action_b
-                    && *all == *all_b
-                    && *target == *target_b
-                    && same_args(args, args_b),
-                Instr::If { .. } | Instr::Set { .. } | Instr::MoveTo(_) | Instr::Terminate(_) =>
-                    false,
-            },
+            } => other.is_do(action, args, *all, target),
             Instr::If { cond, yes, no } => match other {
                 Instr::If {
                     cond: cond_b,
                     yes: yes_b,
                     no: no_b,
                 } => cond.same(cond_b) && yes.same(yes_b) && no.same(no_b),
-                Instr::Do { .. } | Instr::Set { .. } | Instr::MoveTo(_) | Instr::Terminate(_) =>
-                    false,
+                _ => false,
             },
-            Instr::Set { param, value } => match other {
-                Instr::Set {
-                    param: param_b,
-                    value: value_b,
-                } => param == param_b && value.same(value_b),
-                Instr::Do { .. } | Instr::If { .. } | Instr::MoveTo(_) | Instr::Terminate(_) =>
-                    false,
-            },
-            Instr::MoveTo(a) => match other {
-                Instr::MoveTo(b) => a == b,
-                Instr::Do { .. } | Instr::If { .. } | Instr::Set { .. } | Instr::Terminate(_) =>
-                    false,
-            },
-            Instr::Terminate(a) => match other {
-                Instr::Terminate(b) => a == b,
-                Instr::Do { .. } | Instr::If { .. } | Instr::Set { .. } | Instr::MoveTo(_) => false,
-            },
+            Instr::Set { param, value } => other.is_set(param, value),
+            Instr::MoveTo(state) => other.is_move_to(state),
+            Instr::Terminate(state) => other.is_terminate(state),
+        }
+    }
+
+    // Whether it sends this action with these arguments there.
+    fn is_do<B: Allocator + Clone>(
+        &self,
+        action: &Name,
+        args: &Vec<Passed<B>, B>,
+        all: bool,
+        target: &Name,
+    ) -> bool
+        ensures { IsTrue result ↔ (send (record { action = action.now; args = map passed_content args.now.items; all = all; target = target.now }) ≡ instr_content self.now) }
+    {
+        match self {
+            Instr::Do {
+                action: own_action,
+                args: own_args,
+                all: own_all,
+                target: own_target,
+            } => *action == *own_action
+                && all == *own_all
+                && *target == *own_target
+                && same_args(args, own_args),
+            _ => false,
+        }
+    }
+
+    // Whether it sets this parameter to this value.
+    fn is_set<B: Allocator + Clone>(&self, param: &Name, value: &Arg<B>) -> bool
+        ensures { IsTrue result ↔ (assign param.now (arg_content value.now) ≡ instr_content self.now) }
+    {
+        match self {
+            Instr::Set {
+                param: own_param,
+                value: own_value,
+            } => *param == *own_param && value.same(own_value),
+            _ => false,
+        }
+    }
+
+    // Whether it moves to this state.
+    fn is_move_to(&self, state: &Name) -> bool
+        ensures { IsTrue result ↔ (move_to state.now ≡ instr_content self.now) }
+    {
+        match self {
+            Instr::MoveTo(own) => state == own,
+            _ => false,
+        }
+    }
+
+    // Whether it ends its action in this state.
+    fn is_terminate(&self, state: &Name) -> bool
+        ensures { IsTrue result ↔ (terminate state.now ≡ instr_content self.now) }
+    {
+        match self {
+            Instr::Terminate(own) => state == own,
+            _ => false,
         }
     }
 
@@ -141,14 +179,21 @@ impl<A: Allocator + Clone> Instr<A> {
 
 impl<A: Allocator + Clone> Block<A> {
     /// The same instructions in other memory.
+    pub fn copy_in<B: Allocator + Clone>(&self, alloc: B) -> Result<Block<B>, AllocError>
+        ensures { IfOk result (λ b. block_content b ≡ block_content self.now) }
+    {
+        self.copy_by(&alloc)
+    }
+
+    // The same instructions in this memory.
     #[cycle(copy)]
     #[tactic(auto, using(crate::proofs::Blocks::instr_equations))]
-    pub fn copy_in<B: Allocator + Clone>(&self, alloc: B) -> Result<Block<B>, AllocError>
+    pub(crate) fn copy_by<B: Allocator + Clone>(&self, alloc: &B) -> Result<Block<B>, AllocError>
         ensures { IfOk result (λ b. block_content b ≡ block_content self.now) }
     {
         let mut instrs = Vec::new(alloc.clone()?);
         for instr in &self.instrs {
-            instrs.push(instr.copy_in(alloc.clone()?)?)?;
+            add(&mut instrs, instr.copy_by(alloc))?;
         }
         Ok(Block { instrs })
     }
@@ -187,13 +232,13 @@ impl<A: Allocator + Clone> Block<A> {
 // The same arguments in other memory.
 fn copy_args<A: Allocator + Clone, B: Allocator + Clone>(
     args: &Vec<Passed<A>, A>,
-    alloc: B,
+    alloc: &B,
 ) -> Result<Vec<Passed<B>, B>, AllocError>
     ensures { IfOk result (λ v. map passed_content v.items ≡ map passed_content args.now.items) }
 {
-    let mut copies = Vec::with_capacity(alloc.clone()?, args.len())?;
+    let mut copies = room_for(alloc, args.len())?;
     for passed in args {
-        copies.push(passed.copy_in(alloc.clone()?)?)?;
+        add(&mut copies, passed.copy_in(alloc.clone()?))?;
     }
     Ok(copies)
 }

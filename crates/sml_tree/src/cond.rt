@@ -1,5 +1,5 @@
 //! Conditions.
-ghost use Rattle.std.specs.Prelude.{◌≡◌, ◌↔◌, IfOk, IsTrue};
+ghost use Rattle.std.specs.Prelude.{◌≡◌, ◌↔◌, IfOk, Ok, IsTrue};
 ghost use Rattle.sml_tree.specs.Content.{cond_content};
 
 use crate::name::{Name, same_names};
@@ -32,23 +32,25 @@ impl<A: Allocator + Clone> Cond<A> {
     pub fn copy_in<B: Allocator + Clone>(&self, alloc: B) -> Result<Cond<B>, AllocError>
         ensures { IfOk result (λ c. cond_content c ≡ cond_content self.now) }
     {
+        self.copy_by(&alloc)
+    }
+
+    // The same condition in this memory.
+    pub(crate) fn copy_by<B: Allocator + Clone>(&self, alloc: &B) -> Result<Cond<B>, AllocError>
+        ensures { IfOk result (λ c. cond_content c ≡ cond_content self.now) }
+    {
         match self {
             Cond::And(a, b) => {
-                let left = a.copy_in(alloc.clone()?)?;
-                let left = Box::new(alloc.clone()?, left)?;
-                let right = b.copy_in(alloc.clone()?)?;
-                Ok(Cond::And(left, Box::new(alloc, right)?))
+                let left = boxed(a.copy_by(alloc), alloc)?;
+                let right = boxed(b.copy_by(alloc), alloc)?;
+                Ok(Cond::And(left, right))
             }
             Cond::Or(a, b) => {
-                let left = a.copy_in(alloc.clone()?)?;
-                let left = Box::new(alloc.clone()?, left)?;
-                let right = b.copy_in(alloc.clone()?)?;
-                Ok(Cond::Or(left, Box::new(alloc, right)?))
+                let left = boxed(a.copy_by(alloc), alloc)?;
+                let right = boxed(b.copy_by(alloc), alloc)?;
+                Ok(Cond::Or(left, right))
             }
-            Cond::Not(a) => {
-                let inner = a.copy_in(alloc.clone()?)?;
-                Ok(Cond::Not(Box::new(alloc, inner)?))
-            }
+            Cond::Not(a) => Ok(Cond::Not(boxed(a.copy_by(alloc), alloc)?)),
             Cond::Test {
                 scope,
                 name,
@@ -58,7 +60,7 @@ impl<A: Allocator + Clone> Cond<A> {
                 scope: *scope,
                 name: *name,
                 negated: *negated,
-                states: Vec::from_slice(alloc, states)?,
+                states: Vec::from_slice(alloc.clone()?, states)?,
             }),
         }
     }
@@ -88,12 +90,19 @@ impl<A: Allocator + Clone> Cond<A> {
                 let same_question = *scope == *other_scope && *negated == *other_negated;
                 same_question && same_tested(name, states, other_name, other_states)
             }
-            (Cond::And(..), Cond::Or(..) | Cond::Not(_) | Cond::Test { .. }) => false,
-            (Cond::Or(..), Cond::And(..) | Cond::Not(_) | Cond::Test { .. }) => false,
-            (Cond::Not(_), Cond::And(..) | Cond::Or(..) | Cond::Test { .. }) => false,
-            (Cond::Test { .. }, Cond::And(..) | Cond::Or(..) | Cond::Not(_)) => false,
+            _ => false,
         }
     }
+}
+
+// A copy in a box, where there was memory for both.
+fn boxed<A: Allocator + Clone>(
+    copy: Result<Cond<A>, AllocError>,
+    alloc: &A,
+) -> Result<Box<Cond<A>, A>, AllocError>
+    ensures { IfOk result (λ b. copy ≡ Ok b.value) }
+{
+    Ok(Box::new(alloc.clone()?, copy?)?)
 }
 
 // Whether two tests ask the same name for the same states.

@@ -5,9 +5,8 @@ pub mod block;
 pub mod cond;
 pub mod file;
 pub mod laws;
+mod lists;
 pub mod literal;
 pub mod name;
-#[cfg(test)]
-mod tests;
 pub mod token_kind;
 pub mod words;

@@ -5,14 +5,16 @@ use Rattle.sml_tree.proofs.Mapped.{map_more, map_all}
 use Rattle.sml_tree.proofs.Sizes.{item_smaller}
 use Rattle.sml_tree.proofs.block.+copy.Goals as goal
 
-pub Block::copy_in-copy_in-requires : goal.Block::copy_in-copy_in-requires
-Block::copy_in-copy_in-requires g t c = λ κs within. (omega (arith, item_smaller c.args.self.now _ c.loop-instr.instr-index c.instr-item.result c.deref-instr-items.ensures.value c.loop-instr-test.true c.instr-item.is, c.decreases), within)
+pub Block::copy_by-copy_by-requires : goal.Block::copy_by-copy_by-requires
+Block::copy_by-copy_by-requires g t c = λ κs within. (omega (arith, item_smaller c.args.self.now _ c.loop-instr.instr-index c.instr-item.result c.deref-instr-items.ensures.value c.loop-instr-test.true c.instr-item.is, c.decreases), within)
 
-pub Block::copy_in-loop-instr-preserved : goal.Block::copy_in-loop-instr-preserved
-Block::copy_in-loop-instr-preserved g t c = rw c.in_ok-push.ensures.items (map_more instr_content instr_content _ _ _ _ _ c.loop-instr.invariant c.loop-instr-test.true c.instr-item.is c.in_ok-copy_in.ensures)
+pub Block::copy_by-loop-instr-preserved : goal.Block::copy_by-loop-instr-preserved
+Block::copy_by-loop-instr-preserved g t c =
+    let added = c.in_ok-add.ensures in
+    rw added.2 (map_more instr_content instr_content _ _ _ _ _ c.loop-instr.invariant c.loop-instr-test.true c.instr-item.is (rw added.1 at c.copy_by.ensures))
 
-pub Block::copy_in-returns : goal.Block::copy_in-returns
-Block::copy_in-returns g t c = ap block_of (map_all instr_content instr_content _ _ _ c.loop-instr.invariant c.loop-instr-test.false ∙ ap (map instr_content) c.deref-instr-items.ensures.value)
+pub Block::copy_by-returns : goal.Block::copy_by-returns
+Block::copy_by-returns g t c = ap block_of (map_all instr_content instr_content _ _ _ c.loop-instr.invariant c.loop-instr-test.false ∙ ap (map instr_content) c.deref-instr-items.ensures.value)
 
-pub Instr::copy_in-returns-in_ok-no-in-If : goal.Instr::copy_in-returns-in_ok-no-in-If
-Instr::copy_in-returns-in_ok-no-in-If g t c = If_same _ _ _ _ _ _ _ c.in-If.is c.in_ok-cond-in-If.ensures c.in_ok-yes-in-If.ensures c.in_ok-no-in-If.ensures
+pub Instr::copy_by-returns-in_ok-no-in-If : goal.Instr::copy_by-returns-in_ok-no-in-If
+Instr::copy_by-returns-in_ok-no-in-If g t c = If_same _ _ _ _ _ _ _ c.in-If.is c.in_ok-cond-in-If.ensures c.in_ok-yes-in-If.ensures c.in_ok-no-in-If.ensures

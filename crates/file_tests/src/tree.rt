@@ -1,10 +1,12 @@
-use crate::block::{Block, Instr};
-use crate::cond::{Cond, Scope};
-use crate::file::{Action, Class, Item, Object, SmlFile, State};
-use crate::literal::{Arg, Literal, Passed};
-use crate::name::Name;
-use crate::token_kind::TokenKind;
-use crate::words::{is_reserved, word_kind};
+//! Names, words, and trees that are copied and compared.
+
+use sml_tree::block::{Block, Instr};
+use sml_tree::cond::{Cond, Scope};
+use sml_tree::file::{Action, Class, Item, Object, SmlFile, State};
+use sml_tree::literal::{Arg, Literal, Passed};
+use sml_tree::name::Name;
+use sml_tree::token_kind::TokenKind;
+use sml_tree::words::{is_reserved, word_kind};
 use std::alloc::Global;
 use std::test::Fail;
 

@@ -1,0 +1,309 @@
+//! Tokens, and the writing of bytes and numbers.
+
+use sml_text::decimal::{tell_i64, tell_u64};
+use sml_text::front::{Front, front_at};
+use sml_text::source::{Sign, Source};
+use sml_text::tokens::{Lexeme, Token, first_bad, next_token};
+use sml_text::writing::{WriteFault, put, tell};
+use std::alloc::{AllocError, Global};
+use std::io::{Error, Write};
+use std::test::Fail;
+
+fn int(value: i64, length: usize) -> Front {
+    Front::Int { value, length }
+}
+
+// The first of these rows in whose text something else stands in front.
+fn other_front(source: Source, rows: &[(&[u8], Front)]) -> Option<usize> {
+    rows.iter()
+        .position(|(text, front)| front_at(source, text) != *front)
+}
+
+// A string of so many bytes between its quotes.
+fn string_of(alloc: Global, length: u32) -> Result<Vec<u8>, AllocError> {
+    let mut text = Vec::from_slice(alloc, b"\"")?;
+    for _ in 0..length {
+        text.push(b'x')?;
+    }
+    text.push(b'"')?;
+    Ok(text)
+}
+
+#[test]
+fn skips_blanks_and_comments(rt: HostRuntime) {
+    let rows: [(&[u8], Front); 9] = [
+        (b"", Front::End),
+        (b"  A", Front::Skip(1)),
+        (b"\t", Front::Skip(1)),
+        (b"\r", Front::Skip(1)),
+        (b"\n", Front::Skip(1)),
+        (b"! a \"comment\"\nA", Front::Skip(13)),
+        (b"! to the end", Front::Skip(12)),
+        (b"!\rA\nB", Front::Skip(3)),
+        (b"!\x00\xff", Front::Skip(3)),
+    ];
+    assert_eq!(rt; other_front(Source::Domain, &rows), None);
+}
+
+#[test]
+fn reads_words(rt: HostRuntime) {
+    let longest = [b'w'; 64];
+    let too_long = [b'w'; 65];
+    let rows: [(&[u8], Front); 6] = [
+        (b"class:", Front::Word(5)),
+        (b"A-5", Front::Word(1)),
+        (b"z_9Z", Front::Word(4)),
+        (b"_A", Front::Bad),
+        (&longest, Front::Word(64)),
+        (&too_long, Front::Bad),
+    ];
+    assert_eq!(rt; other_front(Source::Domain, &rows), None);
+    assert_eq!(rt; first_bad(Source::Domain, &too_long), Some(0));
+}
+
+#[test]
+fn reads_ints(rt: HostRuntime) {
+    let rows: [(&[u8], Front); 17] = [
+        (b"0", int(0, 1)),
+        (b"-0", int(0, 2)),
+        (b"007 ", int(7, 3)),
+        (b"5-3", int(5, 1)),
+        (b"-3", int(-3, 2)),
+        (b"9223372036854775807", int(i64::MAX, 19)),
+        (b"-9223372036854775808", int(i64::MIN, 20)),
+        (b"0000000000000000000000000000000000000042", int(42, 40)),
+        (b"9223372036854775808", Front::Bad),
+        (b"-9223372036854775809", Front::Bad),
+        (b"18446744073709551616", Front::Bad),
+        (b"99999999999999999999999", Front::Bad),
+        (b"-", Front::Bad),
+        (b"--5", Front::Bad),
+        (b"5a", Front::Bad),
+        (b"5_", Front::Bad),
+        (b"-5a", Front::Bad),
+    ];
+    assert_eq!(rt; other_front(Source::Domain, &rows), None);
+}
+
+#[test]
+fn reads_strings(rt: HostRuntime) -> Result<(), Fail> {
+    let rows: [(&[u8], Front); 7] = [
+        (b"\"\"", Front::Str(0)),
+        (b"\"a\"b", Front::Str(1)),
+        (b"\"! ~\"", Front::Str(3)),
+        (b"\"abc", Front::Bad),
+        (b"\"a\nb\"", Front::Bad),
+        (b"\"\x7f\"", Front::Bad),
+        (b"\"\x80\"", Front::Bad),
+    ];
+    assert_eq!(rt; other_front(Source::Domain, &rows), None);
+    for (length, front) in [(255, Front::Str(255)), (256, Front::Bad), (300, Front::Bad)] {
+        let text = string_of(rt.alloc(), length)?;
+        assert!(rt;
+            front_at(Source::Domain, &text) == front,
+            "of {length} bytes"
+        );
+    }
+    Ok(())
+}
+
+#[test]
+fn reads_signs(rt: HostRuntime) {
+    let rows: [(&[u8], Front); 10] = [
+        (b":", Front::Sign(Sign::Colon)),
+        (b",,", Front::Sign(Sign::Comma)),
+        (b"=", Front::Sign(Sign::Equals)),
+        (b"(", Front::Sign(Sign::OpenBracket)),
+        (b")", Front::Sign(Sign::CloseBracket)),
+        (b"{", Front::Sign(Sign::OpenBrace)),
+        (b"}", Front::Sign(Sign::CloseBrace)),
+        (b"/", Front::Sign(Sign::Slash)),
+        (b";", Front::Bad),
+        (b"\x00", Front::Bad),
+    ];
+    assert_eq!(rt; other_front(Source::Domain, &rows), None);
+}
+
+#[test]
+fn sessions_stand_in_lines_alone(rt: HostRuntime) {
+    let rows: [(&[u8], Front); 6] = [
+        (b"@1", Front::Session(1)),
+        (b"@8RUN", Front::Session(8)),
+        (b"@12", Front::Session(1)),
+        (b"@0", Front::Bad),
+        (b"@9", Front::Bad),
+        (b"@", Front::Bad),
+    ];
+    assert_eq!(rt; other_front(Source::Line, &rows), None);
+    assert_eq!(rt; front_at(Source::Domain, b"@1"), Front::Bad);
+}
+
+// The place behind the first token of a line.
+fn behind_token(text: &[u8]) -> Option<usize> {
+    let (_, _, place) = next_token(Source::Line, text, 0)?;
+    Some(place)
+}
+
+#[test]
+fn knows_what_stands_and_its_size(rt: HostRuntime) {
+    let rows: [(&[u8], Option<usize>, Option<usize>); 6] = [
+        (b"", None, None),
+        (b";", None, Some(0)),
+        (b" A", Some(2), None),
+        (b"\"abc\"", Some(5), None),
+        (b"-7", Some(2), None),
+        (b"@1", Some(2), None),
+    ];
+    for (i, (text, behind, bad)) in rows.into_iter().enumerate() {
+        assert!(rt;
+            behind_token(text) == behind && first_bad(Source::Line, text) == bad,
+            "at {i}"
+        );
+    }
+}
+
+#[test]
+fn gives_one_token_after_another(rt: HostRuntime) -> Result<(), Fail> {
+    let wanted = [
+        (Lexeme::Word(b"start"), 100),
+        (Lexeme::Session(1), 106),
+        (Lexeme::Int(2), 108),
+        (Lexeme::Int(-4), 110),
+        (Lexeme::Str(b"a b"), 120),
+        (Lexeme::Sign(Sign::Slash), 125),
+    ];
+    let mut rest = b"start @12 -4 ! rest\n\"a b\"/".as_slice();
+    let mut place = 100;
+    for (lexeme, at) in wanted {
+        let Some((token, after, behind)) = next_token(Source::Line, rest, place) else {
+            panic!(rt; "a token stands at {at}");
+        };
+        assert!(rt; token == Token { lexeme, at }, "at {at}");
+        rest = after;
+        place = behind;
+    }
+    assert!(rt; next_token(Source::Line, rest, place).is_none());
+    assert!(rt; next_token(Source::Domain, b"@1", 0).is_none());
+    Ok(())
+}
+
+#[test]
+fn finds_the_first_bad_place(rt: HostRuntime) {
+    let rows: [(Source, &[u8], Option<usize>); 11] = [
+        (Source::Domain, b"", None),
+        (Source::Domain, b"class:A state:S 0 \"x\" ! \xff", None),
+        (Source::Domain, b"A 9A", Some(2)),
+        (Source::Domain, b"A  \"abc", Some(3)),
+        (Source::Domain, b"5--3", Some(1)),
+        (Source::Domain, b"5-3", None),
+        (Source::Domain, b"5 -5a", Some(2)),
+        (Source::Domain, b"\n@1", Some(1)),
+        (Source::Line, b"\n@1", None),
+        (Source::Line, b"@12@9", Some(3)),
+        (Source::Domain, b"!\r;\n;", Some(4)),
+    ];
+    for (i, (source, text, bad)) in rows.into_iter().enumerate() {
+        assert!(rt; first_bad(source, text) == bad, "at {i}");
+    }
+}
+
+// Takes one byte a call, and fails at a call or takes nothing there.
+#[derive(Drop)]
+struct Slow {
+    taken: Vec<u8>,
+    good_calls: usize,
+    by_error: bool,
+    calls: usize,
+}
+
+impl Write for Slow {
+    fn write(&mut self, buf: &[u8]) -> std::io::Result<usize> {
+        self.calls = self.calls.saturating_add(1);
+        if self.taken.len() >= self.good_calls {
+            return if self.by_error {
+                Err(Error::from(AllocError))
+            } else {
+                Ok(0)
+            };
+        }
+        let [first, ..] = buf else {
+            return Ok(0);
+        };
+        self.taken.push(*first)?;
+        Ok(1)
+    }
+
+    fn flush(&mut self) -> std::io::Result<()> {
+        Ok(())
+    }
+}
+
+fn one_byte_writer(alloc: Global, good_calls: usize, by_error: bool) -> Slow {
+    Slow {
+        taken: Vec::new(alloc),
+        good_calls,
+        by_error,
+        calls: 0,
+    }
+}
+
+// Whether a writer that is good for so many calls takes as many bytes, and is called no more after it fails.
+fn takes_a_front(alloc: Global, good_calls: usize, by_error: bool) -> bool {
+    let bytes = b"journal".as_slice();
+    let mut writer = one_byte_writer(alloc, good_calls, by_error);
+    let result = put(&mut writer, bytes);
+    let taken = good_calls.min(7);
+    let wanted = if good_calls >= 7 {
+        Ok(())
+    } else {
+        Err(WriteFault)
+    };
+    result == wanted
+        && writer.taken.as_slice() == bytes.split_at(taken).0
+        && writer.calls == (taken + 1).min(7)
+}
+
+#[test]
+fn puts_all_or_a_front(rt: HostRuntime) {
+    for good_calls in 0..9usize {
+        assert!(rt;
+            takes_a_front(rt.alloc(), good_calls, true),
+            "an error after {good_calls}"
+        );
+        assert!(rt;
+            takes_a_front(rt.alloc(), good_calls, false),
+            "no byte after {good_calls}"
+        );
+    }
+}
+
+#[test]
+fn a_fault_stays(rt: HostRuntime) {
+    let mut writer = one_byte_writer(rt.alloc(), 3, true);
+    let mut failed = false;
+    tell(&mut writer, &mut failed, b"ab");
+    assert!(rt; !failed);
+    tell(&mut writer, &mut failed, b"cd");
+    assert!(rt; failed);
+    tell(&mut writer, &mut failed, b"ef");
+    tell_u64(&mut writer, &mut failed, 7);
+    tell_i64(&mut writer, &mut failed, -7);
+    assert!(rt; failed && writer.taken.as_slice() == b"abc".as_slice());
+    assert_eq!(rt; writer.calls, 4);
+}
+
+#[test]
+fn writes_numbers(rt: HostRuntime) {
+    let mut text = Vec::new(rt.alloc());
+    let mut failed = false;
+    for number in [0, 10, u64::MAX] {
+        tell_u64(&mut text, &mut failed, number);
+        tell(&mut text, &mut failed, b" ");
+    }
+    for number in [0, -1, i64::MIN, i64::MAX] {
+        tell_i64(&mut text, &mut failed, number);
+        tell(&mut text, &mut failed, b" ");
+    }
+    let wanted = b"0 10 18446744073709551615 0 -1 -9223372036854775808 9223372036854775807 ";
+    assert!(rt; !failed && text.as_slice() == wanted.as_slice());
+}
