@@ -2,9 +2,6 @@
 #![tactic(auto)]
 
 #[cfg(test)]
-mod print_tests;
-
-#[cfg(test)]
 mod tests {
     use bumpalo::Bump;
     use linked_list_allocator::LocalHeap;
