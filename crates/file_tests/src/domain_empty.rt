@@ -1,7 +1,7 @@
 //! Domains with a set that has no members, and with nothing at all.
 
 use crate::domain_of::{has_domain, numbers_actions, numbers_objects, numbers_states};
-use crate::example_domains::EMPTY;
+use crate::example_domains::EMPTY_SET;
 use crate::shapes::{asks, instructions_of, is_empty, is_move};
 use sml_domain::domain::Domain;
 use sml_domain::ids::{ActionId, ClassId, ObjId, SetId, StateId};
@@ -88,7 +88,7 @@ fn shows_empty_set(domain: &Domain) -> bool {
 
 #[test]
 fn empty_set(rt: HostRuntime) {
-    assert!(rt; has_domain(rt.alloc(), EMPTY, shows_empty_set));
+    assert!(rt; has_domain(rt.alloc(), EMPTY_SET, shows_empty_set));
 }
 
 // Whether an instruction tests nobody for states that nobody declares.

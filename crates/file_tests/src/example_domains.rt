@@ -1,6 +1,6 @@
-//! The example domains.
+//! Domains that several tests read.
 
-/// A lamp, and a boss who lights it.
+/// Two classes and an object of each.
 pub const FIRST: &[u8] = b"class: LAMP
   state: OFF
     action: LIGHT
@@ -16,7 +16,7 @@ object: L is_of_class LAMP
 object: B is_of_class BOSS
 ";
 
-/// Two supplies, switched on together by a run.
+/// Power supplies in a set, and what runs them.
 pub const SUPPLIES: &[u8] = b"class: SUPPLY /associated
   state: OFF /initial_state
     action: SWITCH_ON
@@ -38,7 +38,7 @@ object: RUN is_of_class RUN_TYPE
 objectset: HV { HV1, HV2 }
 ";
 
-/// A counter, which keeps a number and a string and sends them to a sink.
+/// Parameters of classes and actions.
 pub const COUNTER: &[u8] = b"class: SINK /associated
   state: READY
     action: TAKE (int V, string W = \"none\")
@@ -55,7 +55,7 @@ object: OUT is_of_class SINK
 object: C is_of_class COUNTER
 ";
 
-/// Two objects that ask one another.
+/// Two objects that ask each other.
 pub const PAIR: &[u8] = b"class: LEFT
   state: S
     action: GO
@@ -70,8 +70,8 @@ object: A is_of_class LEFT
 object: B is_of_class RIGHT
 ";
 
-/// An object that asks a set without members.
-pub const EMPTY: &[u8] = b"class: T
+/// A set without members.
+pub const EMPTY_SET: &[u8] = b"class: T
   state: S
     action: GO
       if ( any_in E in_state S or not all_in E in_state S ) then
@@ -83,3 +83,27 @@ pub const EMPTY: &[u8] = b"class: T
 object: X is_of_class T
 objectset: E { }
 ";
+
+/// An object that asks a set of itself.
+pub const OWN_SET: &[u8] = b"class: K
+  state: S
+    action: GO
+      if ( all_in G in_state S ) then
+      endif
+object: X is_of_class K
+objectset: G { X }
+";
+
+/// A state with both marks, and a condition, as they are printed.
+pub const CANONICAL: &[u8] = b"class: RT
+  state: A /initial_state /dead_state
+    action: GO (int T = -7)
+      if ( not X in_state ON or Y in_state OFF and Z not_in_state { ON, OFF } ) then
+        set N = T
+      endif
+      move_to A
+";
+
+/// The same in one line, in small letters, with brackets, braces and an `else` that say nothing.
+pub const ONE_LINE: &[u8] =
+    b"class:rt state:a/dead_state/initial_state action:go(int t=-07)if(not(x in_state{on})or y in_state off and z not_in_state{on,off})then set n=t else endif move_to A";

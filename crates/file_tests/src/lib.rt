@@ -4,6 +4,8 @@
 #[cfg(test)]
 mod checked;
 #[cfg(test)]
+mod conditions;
+#[cfg(test)]
 mod domain_blocks;
 #[cfg(test)]
 mod domain_counter;
@@ -38,6 +40,12 @@ mod fault_kinds;
 #[cfg(test)]
 mod fault_pairs;
 #[cfg(test)]
+mod limits;
+#[cfg(test)]
+mod printing;
+#[cfg(test)]
+mod reading;
+#[cfg(test)]
 mod shapes;
 #[cfg(test)]
 mod small_heaps;
@@ -45,6 +53,8 @@ mod small_heaps;
 mod strings;
 #[cfg(test)]
 mod text;
+#[cfg(test)]
+mod texts;
 #[cfg(test)]
 mod told;
 #[cfg(test)]

@@ -1,5 +1,6 @@
 //! Texts read into several memories.
 
+use crate::example_domains::{ONE_LINE, SUPPLIES};
 use bumpalo::Bump;
 use linked_list_allocator::LocalHeap;
 use sml_read::{ReadError, ReadErrorKind, read};
@@ -12,30 +13,6 @@ const LAMP: &[u8] = b"class: LAMP
   state: ON
 object: L is_of_class LAMP
 ";
-
-const SUPPLIES: &[u8] = b"class: SUPPLY /associated
-  state: OFF /initial_state
-    action: SWITCH_ON
-  state: ON
-    action: SWITCH_OFF
-class: RUN_TYPE
-  state: NOT_READY /initial_state
-    action: CONFIGURE
-      do SWITCH_ON all_in HV
-      if ( all_in HV in_state ON ) then
-        move_to READY
-      endif
-      move_to ERROR
-  state: READY
-  state: ERROR
-object: HV1 is_of_class SUPPLY
-object: HV2 is_of_class SUPPLY
-object: RUN is_of_class RUN_TYPE
-objectset: HV { HV1, HV2 }
-";
-
-const ONE_LINE: &[u8] =
-    b"class:rt state:a/dead_state/initial_state action:go(int t=-07)if(not(x in_state{on})or y in_state off and z not_in_state{on,off})then set n=t else endif move_to A";
 
 fn is(error: Option<ReadError>, kind: ReadErrorKind, offset: usize) -> bool {
     error == Some(ReadError { kind, offset })

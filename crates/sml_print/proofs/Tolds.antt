@@ -1,40 +1,11 @@
 -- Several writes as one.
 use Rattle.std.proofs.Common.{◌≡◌, ◌∙◌, sym, ap, refl, ℕ, zero, suc, ◌<◌, ◌≤◌, ◌+◌, List, [], ◌∷◌, ◌++◌, Option, Bool, true, false, ◌==◌, subst, length, get_or, take, flat_map, map, codes, arith, append_assoc, append-nil}
 use Rattle.std.proofs.lemmas.Bool.Decides.{nat_tests}
-use Rattle.std.proofs.lemmas.Bool.Decides.{nat_tests}
-use Rattle.std.proofs.lemmas.Bool.Decides.{nat_tests}
 use Rattle.std.proofs.lemmas.List.{take_more, take_all}
 use Rattle.std.proofs.lemmas.List.Concat.{flat_map-append}
 use Rattle.std.proofs.KnownBytes.{Appends-nil}
-use Rattle.std.proofs.KnownBytes.{Appends-nil}
-use Rattle.std.proofs.KnownBytes.{Appends-nil}
-use Rattle.std.proofs.KnownBytes.{Appends-nil}
 use Rattle.sml_text.specs.Written.{Told}
 use Rattle.sml_text.proofs.Writes.{told_both}
-use Rattle.sml_tree.specs.Syntax.{InstrData, ClassParamData}
-use Rattle.sml_tree.specs.Content.{block_of}
-use Rattle.sml_print.specs.Blocks.{instr_text, block_text, else_text}
-use Rattle.sml_print.specs.Items.{params_text}
-use Rattle.sml_tree.specs.Syntax.{InstrData, ClassParamData}
-use Rattle.sml_tree.specs.Content.{block_of}
-use Rattle.sml_print.specs.Blocks.{instr_text, block_text, else_text}
-use Rattle.sml_print.specs.Items.{params_text}
-use Rattle.sml_tree.specs.Syntax.{InstrData, ClassParamData}
-use Rattle.sml_tree.specs.Content.{block_of}
-use Rattle.sml_print.specs.Blocks.{instr_text, block_text, else_text}
-use Rattle.sml_print.specs.Items.{params_text}
-use Rattle.sml_tree.specs.Syntax.{InstrData, ClassParamData}
-use Rattle.sml_tree.specs.Content.{block_of}
-use Rattle.sml_print.specs.Blocks.{instr_text, block_text, else_text}
-use Rattle.sml_print.specs.Items.{params_text}
-use Rattle.sml_tree.specs.Syntax.{InstrData, ClassParamData}
-use Rattle.sml_tree.specs.Content.{block_of}
-use Rattle.sml_print.specs.Blocks.{instr_text, block_text, else_text}
-use Rattle.sml_print.specs.Items.{params_text}
-use Rattle.sml_tree.specs.Syntax.{InstrData, ClassParamData}
-use Rattle.sml_tree.specs.Content.{block_of}
-use Rattle.sml_print.specs.Blocks.{instr_text, block_text, else_text}
-use Rattle.sml_print.specs.Items.{params_text}
 use Rattle.sml_tree.specs.Syntax.{InstrData, ClassParamData}
 use Rattle.sml_tree.specs.Content.{block_of}
 use Rattle.sml_print.specs.Blocks.{instr_text, block_text, else_text}

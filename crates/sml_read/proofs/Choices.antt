@@ -1,17 +1,66 @@
 -- What is read of an `if`, by the tokens and parts that were read of it.
-use Rattle.std.proofs.Common.{◌≡◌, ◌+◌, ℕ, List, ◌∷◌, refl, ap, ◌∙◌, length, arith, Err}
-use Rattle.sml_tree.specs.declared.token_kind.TokenKind.TheVariants.{Then, Endif, OpenBracket, CloseBracket}
+use Rattle.std.proofs.Common.{◌≡◌, ◌+◌, ℕ, List, [], ◌∷◌, refl, ap, ◌∙◌, length, nat_lt, true, false, Result, Ok, Err, arith}
+use Rattle.sml_tree.specs.declared.token_kind.TokenKind.TheVariants.{If, Then, Else, Endif, OpenBracket, CloseBracket}
 use Rattle.sml_tree.specs.Piece.{Piece}
 use Rattle.sml_tree.specs.Syntax as said
 use Rattle.sml_tree.specs.Syntax.{InstrData, CondData}
 use Rattle.sml_tree.specs.Content.{block_of}
-use Rattle.sml_tree.specs.Form.{Block, Branch, Arm, Cond, Two, Counted, Fine}
+use Rattle.sml_tree.specs.Grammar.{way}
+use Rattle.sml_tree.specs.Form.{Block, Branch, Arm, Cond, Value, Form, B, P, Fine, word, part, gives, ◌>>=◌, ◌>>◌}
 use Rattle.sml_tree.specs.Form as of
 use Rattle.sml_read.specs.declared.fault.Stop.{Stop}
 use Rattle.sml_read.specs.declared.fault.Stop.TheVariants as stop
-use Rattle.sml_read.specs.Reads.{Stops, ReadsToken}
-use Rattle.sml_read.proofs.Steps.{Taken}
+use Rattle.sml_read.specs.declared.fault.Fault.TheVariants.{TooDeep}
+use Rattle.sml_read.specs.Reads.{Reads, ReadsFront, Refuses, Stops, SeesKind, ReadsToken}
+use Rattle.sml_read.proofs.Steps.{Taken, seen}
 use Rattle.sml_read.proofs.Heads.{Read}
+use Rattle.sml_read.proofs.Trails.{only_way, token_refused}
+
+-- what stands behind `then`
+abbrev arms_rest : (d : ℕ) → Piece → Form (Value (Arm d)) (P of.Blocks ∷ P of.Elses ∷ B Endif ∷ [])
+arms_rest d t = do
+  inner ← part (Block (d + 1))
+  other ← part (of.Else (d + 1))
+  word Endif
+  gives (record { yes_part = inner; no_part = other })
+
+-- what stands behind the bracket
+abbrev branch_rest : (d : ℕ) → Piece → Form (Value (Branch d)) (P of.Conds ∷ B CloseBracket ∷ P of.Arms ∷ [])
+branch_rest d t = do
+  condition ← part (Cond 0 0)
+  word CloseBracket
+  arms ← part (Arm d)
+  gives (said.choose condition.formula (block_of arms.yes_part) (block_of arms.no_part))
+
+-- `then` does not stand there
+pub arms_word_err : (d : ℕ) (old new : List Piece) (e : Stop) → ReadsToken Then old new (Err e) → Stops (Arm d) old e
+arms_word_err d old new e none = token_refused (Arm d) Then Fine _ (arms_rest d) old old new e (only_way (Arm d) (way Then Fine (arms_rest d)) refl refl old) none
+
+-- the first block is refused
+pub arms_yes_err : (d : ℕ) (old u : List Piece) (t : Piece) (e : Stop) → Taken Then t old u → Stops (Block (d + 1)) u e → Stops (Arm d) old e
+arms_yes_err d old u t stop.Memory first a = tt
+arms_yes_err d old u t (stop.Fault f) first a = λ g more k. rw (first.0, first.1) (a g _ _)
+
+-- the bracket does not stand there
+pub branch_word_err : (d : ℕ) (old new : List Piece) (e : Stop) → ReadsToken OpenBracket old new (Err e) → Stops (Branch d) old e
+branch_word_err d old new e none = token_refused (Branch d) OpenBracket Fine _ (branch_rest d) old old new e (only_way (Branch d) (way OpenBracket Fine (branch_rest d)) refl refl old) none
+
+-- the condition is refused
+pub branch_cond_err : (d : ℕ) (old u : List Piece) (t : Piece) (e : Stop) → Taken OpenBracket t old u → Stops (Cond 0 0) u e → Stops (Branch d) old e
+branch_cond_err d old u t stop.Memory first a = tt
+branch_cond_err d old u t (stop.Fault f) first a = λ g more k. rw (first.0, first.1) (a g _ _)
+
+-- the second bracket does not stand there
+pub branch_sign_err : (d count : ℕ) (old u x new : List Piece) (t : Piece) (formula : CondData) (e : Stop) → Taken OpenBracket t old u
+    → Read (Cond 0 0) (record { formula = formula; count = count }) u x → ReadsToken CloseBracket x new (Err e) → Stops (Branch d) old e
+branch_sign_err d count old u x new t formula stop.Memory first a none = tt
+branch_sign_err d count old u x new t formula (stop.Fault f) first a none = λ g more k. rw (first.0, first.1) (a.1 g _ _ ∙ none g _ _ _)
+
+-- the blocks are refused
+pub branch_arms_err : (d count : ℕ) (old u x y : List Piece) (t s : Piece) (formula : CondData) (e : Stop) → Taken OpenBracket t old u
+    → Read (Cond 0 0) (record { formula = formula; count = count }) u x → Taken CloseBracket s x y → Stops (Arm d) y e → Stops (Branch d) old e
+branch_arms_err d count old u x y t s formula stop.Memory first a close b = tt
+branch_arms_err d count old u x y t s formula (stop.Fault f) first a close b = λ g more k. rw (first.0, first.1) (a.1 g _ _ ∙ rw close.0 (rw close.1 (b g _ _)))
 
 pub arms_ok : (d : ℕ) (old u x y new : List Piece) (t e : Piece) (yes' no' : List InstrData) → old ≡ t ∷ u → t.kind ≡ Then → Read (Block (d + 1)) yes' u x
     → Read (of.Else (d + 1)) no' x y → Taken Endif e y new → Read (Arm d) (record { yes_part = yes'; no_part = no' }) old new
@@ -35,3 +84,21 @@ pub branch_ok : (d count : ℕ) (old u x y new : List Piece) (t c : Piece) (form
     → Read (Branch d) (said.choose formula (block_of yes') (block_of no')) old new
 branch_ok d count old u x y new t c formula yes' no' first kind a close b =
     (omega (arith, ap length first, a.0, ap length close.0, b.0), λ g more k. rw (first, kind) (a.1 g _ _ ∙ rw close.0 (rw close.1 (b.1 g _ _))))
+
+-- an `if` inside too many others
+pub if_deep : (d : ℕ) (t : Piece) (old new : List Piece) → old ≡ t ∷ new → SeesKind If old → nat_lt d 16 ≡ false → Refuses (Block d) old (TooDeep t.at)
+if_deep d t old new e sees full = let kind = seen If t old new e sees in λ g more k. rw (e, kind, full) refl
+
+-- an `if` and what follows it
+pub if_front : {X : Type 0} (view : X → InstrData) (d : ℕ) (r : Result X Stop) (t : Piece) (old u new : List Piece) → old ≡ t ∷ u → SeesKind If old → nat_lt d 16 ≡ true
+    → Reads (Branch d) view u new r → ReadsFront (Block d) (Block d) (λ x v. view x ∷ v) old new r
+if_front view d (Ok x) t old u new e sees room a = let kind = seen If t old u e sees in (omega (arith, ap length e, a.0), λ g more k. rw (e, kind, room) (a.1 g _ _))
+if_front view d (Err stop.Memory) t old u new e sees room a = tt
+if_front view d (Err (stop.Fault f)) t old u new e sees room a = let kind = seen If t old u e sees in λ g more k. rw (e, kind, room) (a g _ _)
+
+-- an `else` and its block
+pub else_block : {X : Type 0} (view : X → List InstrData) (d : ℕ) (r : Result X Stop) (t : Piece) (old u new : List Piece) → old ≡ t ∷ u → t.kind ≡ Else
+    → Reads (Block d) view u new r → Reads (of.Else d) view old new r
+else_block view d (Ok x) t old u new e kind a = (omega (arith, ap length e, a.0), λ g more k. rw (e, kind) (a.1 g _ _))
+else_block view d (Err stop.Memory) t old u new e kind a = tt
+else_block view d (Err (stop.Fault f)) t old u new e kind a = λ g more k. rw (e, kind) (a g _ _)

@@ -1,3 +1,4 @@
+pub mod Asked
 pub mod Bracketed
 pub mod Chains
 pub mod Choices
@@ -8,9 +9,14 @@ pub mod Heads
 pub mod Late
 pub mod Lists
 pub mod Naming
+pub mod NextNames
 pub mod Only
+pub mod Params
+pub mod Passing
 pub mod Sound
 pub mod Refused
 pub mod Sorts
 pub mod Steps
+pub mod Stopped
 pub mod Tables
+pub mod Trails

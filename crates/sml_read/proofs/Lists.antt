@@ -36,6 +36,11 @@ pub read_end : (n next : Part) (f : Value next → Value n) (none : Value next) 
     → Leads n next f old mid → Passes next none mid new → f none ≡ v → Passes n v old new
 read_end n next f none v old mid new a b e g more k = a g more k ∙ b g more (λ w. k (f w)) ∙ ap (λ w. run g more (k w) new) e
 
+-- what stands behind others is refused
+pub read_err : (n mid : Part) (f : Value mid → Value n) (old middle : List Piece) (e : Stop) → Leads n mid f old middle → Stops mid middle e → Stops n old e
+read_err n mid f old middle stop.Memory a b = tt
+read_err n mid f old middle (stop.Fault x) a b = λ g more k. a g more k ∙ b g more (λ v. k (f v))
+
 -- one thing read behind others in a list that a sign closes
 pub read_more_to : (n mid next : Part) (close : TokenKind) (f : Value mid → Value n) (h : Value next → Value mid) (all : Value next → Value n) (old middle new : List Piece)
     → LeadsTo n mid close f old middle → Leads mid next h middle new → ((v : Value next) → f (h v) ≡ all v) → LeadsTo n next close all old new

@@ -17,7 +17,7 @@ Front d i old new = (length new < length old) × Leads (Block d) (Block d) (λ v
 abbrev pub Taken : TokenKind → Piece → List Piece → List Piece → Type 0
 Taken kind t old new = (old ≡ t ∷ new) × (t.kind ≡ kind)
 
-seen : (kind : TokenKind) (t : Piece) (old new : List Piece) → old ≡ t ∷ new → SeesKind kind old → t.kind ≡ kind
+pub seen : (kind : TokenKind) (t : Piece) (old new : List Piece) → old ≡ t ∷ new → SeesKind kind old → t.kind ≡ kind
 seen kind t old new e h = subst (λ (l : List Piece). SeesKind kind l) e h
 
 pub moves : (d : ℕ) (i : InstrData) (w : List ℕ) (t n : Piece) (old mid new : List Piece) → old ≡ t ∷ mid → SeesKind MoveTo old → Taken Name n mid new → w ≡ name n → i ≡ move_to w → Front d i old new

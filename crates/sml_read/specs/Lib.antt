@@ -1,6 +1,8 @@
 pub mod Arms
+pub mod Asks
 pub mod Counts
 pub mod Faults
+pub mod Heads
 pub mod Held
 pub mod Left
 pub mod Lists
@@ -8,3 +10,4 @@ pub mod Machine
 pub mod Promise
 pub mod Reads
 pub mod Refusal
+pub mod Trails

@@ -77,10 +77,7 @@ impl Reader<'_> {
         ensures read { Reads (Passed' before) passed_content self.old self.new result }
         ensures room { IfOk result (λ p. before < 16) }
     {
-        if !matches!(self.peek(), Some(TokenKind::Name)) {
-            return Err(self.refusal());
-        }
-        let held = self.take();
+        let held = self.expect(TokenKind::Name)?;
         if before >= MAX_ARGS {
             return Err(Stop::Fault(Fault::TooMany(held.at())));
         }
@@ -213,10 +210,7 @@ impl Reader<'_> {
         requires { depth < 16 }
         ensures { Reads (Branch depth) instr_content self.old self.new result }
     {
-        if !matches!(self.peek(), Some(TokenKind::OpenBracket)) {
-            return Err(self.refusal());
-        }
-        self.take();
+        self.expect(TokenKind::OpenBracket)?;
         let mut tests = 0;
         let cond = self.condition(alloc, 0, &mut tests)?;
         self.expect(TokenKind::CloseBracket)?;
@@ -230,10 +224,7 @@ impl Reader<'_> {
         requires { depth < 16 }
         ensures { Reads (Arm depth) arms_content self.old self.new result }
     {
-        if !matches!(self.peek(), Some(TokenKind::Then)) {
-            return Err(self.refusal());
-        }
-        self.take();
+        self.expect(TokenKind::Then)?;
         let yes = self.block(alloc, depth + 1)?;
         let no = self.otherwise(alloc, depth + 1)?;
         self.expect(TokenKind::Endif)?;

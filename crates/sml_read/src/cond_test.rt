@@ -2,8 +2,8 @@
 ghost use Rattle.std.specs.Prelude.{◌≡◌, ◌≤◌, ◌<◌, ◌+◌, ◌∷◌, List, [], IfOk, OnOk, IsSome};
 ghost use Rattle.sml_tree.specs.Form.{Sense, StateList, Names, MoreName, Unit' as Operand};
 ghost use Rattle.sml_tree.specs.Content.{cond_content};
-ghost use Rattle.sml_tree.specs.declared.token_kind.TokenKind.TheVariants as kinds;
 ghost use Rattle.sml_read.specs.Reads.{Reads, ReadsNext, SeesKind};
+ghost use Rattle.sml_read.specs.Asks.{first_of, ReadsAsked};
 
 use crate::fault::{Fault, Stop};
 use crate::make;
@@ -58,11 +58,9 @@ impl Reader<'_> {
     fn names<A: Allocator + Clone>(&mut self, alloc: &A) -> Result<Vec<Name, A>, Stop>
         ensures { Reads Names (λ v. v.items) self.old self.new result }
     {
-        if !matches!(self.peek(), Some(TokenKind::Name)) {
-            return Err(self.refusal());
-        }
+        let first = self.expect(TokenKind::Name)?;
         let mut names = Vec::new(alloc.clone()?);
-        names.push(self.take().name())?;
+        names.push(first.name())?;
         while let Some(state) = self.next_name(names.len())? {
             names.push(state)?;
         }
@@ -89,71 +87,39 @@ impl Reader<'_> {
         }
     }
 
-    /// A test of one object, whose name stands in front.
-    pub fn test_of_one<A: Allocator + Clone>(
-        &mut self,
-        alloc: &A,
-        depth: u32,
-        tests: &mut u32,
-    ) -> Result<Cond<A>, Stop>
-        requires at_name { SeesKind kinds.Name self.old }
-        requires tests { tests.old ≤ 64 }
-        ensures read { Reads (Operand depth tests.old) (λ c. record { formula = cond_content c; count = tests.new }) self.old self.new result }
-        ensures room { OnOk result (tests.new ≤ 64) }
+    /// Whom a test asks, whose first token stands in front, with so many tests before it.
+    fn asked(&mut self, scope: Scope, tests: u32) -> Result<Name, Stop>
+        requires { SeesKind (first_of scope) self.old }
+        ensures read { ReadsAsked scope tests self.old self.new result }
+        ensures room { IfOk result (λ name. tests < 64) }
     {
         let held = self.take();
-        if *tests >= MAX_TESTS {
+        if tests >= MAX_TESTS {
             return Err(Stop::Fault(Fault::TooMany(held.at())));
         }
-        let negated = self.sense()?;
-        let states = self.state_list(alloc)?;
-        *tests += 1;
-        Ok(make::test(Scope::One, held.name(), negated, states))
+        match scope {
+            Scope::One => Ok(held.name()),
+            Scope::All | Scope::Any => Ok(self.expect(TokenKind::Name)?.name()),
+        }
     }
 
-    /// A test of all of a set, whose word stands in front.
-    pub fn test_of_all<A: Allocator + Clone>(
+    /// A test of one object, or of all or any of a set, whose first token stands in front.
+    pub fn test<A: Allocator + Clone>(
         &mut self,
         alloc: &A,
+        scope: Scope,
         depth: u32,
         tests: &mut u32,
     ) -> Result<Cond<A>, Stop>
-        requires at_all { SeesKind kinds.AllIn self.old }
+        requires at_test { SeesKind (first_of scope) self.old }
         requires tests { tests.old ≤ 64 }
         ensures read { Reads (Operand depth tests.old) (λ c. record { formula = cond_content c; count = tests.new }) self.old self.new result }
         ensures room { OnOk result (tests.new ≤ 64) }
     {
-        let held = self.take();
-        if *tests >= MAX_TESTS {
-            return Err(Stop::Fault(Fault::TooMany(held.at())));
-        }
-        let name = self.expect(TokenKind::Name)?.name();
+        let name = self.asked(scope, *tests)?;
         let negated = self.sense()?;
         let states = self.state_list(alloc)?;
         *tests += 1;
-        Ok(make::test(Scope::All, name, negated, states))
-    }
-
-    /// A test of any of a set, whose word stands in front.
-    pub fn test_of_any<A: Allocator + Clone>(
-        &mut self,
-        alloc: &A,
-        depth: u32,
-        tests: &mut u32,
-    ) -> Result<Cond<A>, Stop>
-        requires at_any { SeesKind kinds.AnyIn self.old }
-        requires tests { tests.old ≤ 64 }
-        ensures read { Reads (Operand depth tests.old) (λ c. record { formula = cond_content c; count = tests.new }) self.old self.new result }
-        ensures room { OnOk result (tests.new ≤ 64) }
-    {
-        let held = self.take();
-        if *tests >= MAX_TESTS {
-            return Err(Stop::Fault(Fault::TooMany(held.at())));
-        }
-        let name = self.expect(TokenKind::Name)?.name();
-        let negated = self.sense()?;
-        let states = self.state_list(alloc)?;
-        *tests += 1;
-        Ok(make::test(Scope::Any, name, negated, states))
+        Ok(make::test(scope, name, negated, states))
     }
 }

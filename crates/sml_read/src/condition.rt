@@ -9,7 +9,7 @@ ghost use Rattle.sml_read.specs.Reads.{Reads, SeesKind};
 use crate::fault::{Fault, Stop};
 use crate::make;
 use crate::reader::Reader;
-use sml_tree::cond::Cond;
+use sml_tree::cond::{Cond, Scope};
 use sml_tree::token_kind::TokenKind;
 use std::alloc::Allocator;
 
@@ -33,9 +33,9 @@ impl Reader<'_> {
         match self.peek() {
             Some(TokenKind::Not) => self.negation(alloc, depth, tests),
             Some(TokenKind::OpenBracket) => self.bracket(alloc, depth, tests),
-            Some(TokenKind::Name) => self.test_of_one(alloc, depth, tests),
-            Some(TokenKind::AllIn) => self.test_of_all(alloc, depth, tests),
-            Some(TokenKind::AnyIn) => self.test_of_any(alloc, depth, tests),
+            Some(TokenKind::Name) => self.test(alloc, Scope::One, depth, tests),
+            Some(TokenKind::AllIn) => self.test(alloc, Scope::All, depth, tests),
+            Some(TokenKind::AnyIn) => self.test(alloc, Scope::Any, depth, tests),
             _ => Err(self.refusal()),
         }
     }
@@ -87,7 +87,6 @@ impl Reader<'_> {
 
     /// Operands with `and` between them.
     #[cycle(conditions)]
-    #[tactic(auto, using(crate::proofs::Chains::conj_run))]
     fn conjunction<A: Allocator + Clone>(
         &mut self,
         alloc: &A,
@@ -127,7 +126,6 @@ impl Reader<'_> {
 
     /// A condition inside so many open `not`s and brackets.
     #[cycle(conditions)]
-    #[tactic(auto, using(crate::proofs::Chains::cond_run))]
     pub fn condition<A: Allocator + Clone>(
         &mut self,
         alloc: &A,

@@ -59,12 +59,7 @@ impl Reader<'_> {
         ensures next { ReadsFront (file_part counts.old) (file_part counts.new) (λ i v. item_content i ∷ v) self.old self.new result }
         ensures within { OnOk result (IsWithin counts.new) }
     {
-        let held = self.take();
-        if counts.classes >= MAX_CLASSES {
-            return Err(Stop::Fault(Fault::TooMany(held.at())));
-        }
-        self.expect(TokenKind::Colon)?;
-        let name = self.expect(TokenKind::Name)?.name();
+        let name = self.head(counts.classes, MAX_CLASSES)?;
         let associated = self.associated()?;
         let params = self.class_params(alloc)?;
         let states = self.states(alloc)?;
@@ -84,12 +79,7 @@ impl Reader<'_> {
         ensures next { ReadsFront (file_part counts.old) (file_part counts.new) (λ i v. item_content i ∷ v) self.old self.new result }
         ensures within { OnOk result (IsWithin counts.new) }
     {
-        let held = self.take();
-        if counts.objects >= MAX_OBJECTS {
-            return Err(Stop::Fault(Fault::TooMany(held.at())));
-        }
-        self.expect(TokenKind::Colon)?;
-        let name = self.expect(TokenKind::Name)?.name();
+        let name = self.head(counts.objects, MAX_OBJECTS)?;
         self.expect(TokenKind::IsOfClass)?;
         let class = self.expect(TokenKind::Name)?.name();
         counts.objects += 1;
@@ -135,12 +125,7 @@ impl Reader<'_> {
         ensures next { ReadsFront (file_part counts.old) (file_part counts.new) (λ i v. item_content i ∷ v) self.old self.new result }
         ensures within { OnOk result (IsWithin counts.new) }
     {
-        let held = self.take();
-        if counts.sets >= MAX_SETS {
-            return Err(Stop::Fault(Fault::TooMany(held.at())));
-        }
-        self.expect(TokenKind::Colon)?;
-        let name = self.expect(TokenKind::Name)?.name();
+        let name = self.head(counts.sets, MAX_SETS)?;
         self.expect(TokenKind::OpenBrace)?;
         let members = self.members(alloc)?;
         self.expect(TokenKind::CloseBrace)?;

@@ -41,7 +41,6 @@ impl Reader<'_> {
     }
 
     /// A parameter of a class, which has so many before it.
-    #[tactic(auto, using(crate::proofs::Sorts::class_param_run))]
     fn class_param<A: Allocator + Clone>(
         &mut self,
         alloc: &A,
@@ -89,7 +88,6 @@ impl Reader<'_> {
     }
 
     /// A parameter of an action, which has so many before it.
-    #[tactic(auto, using(crate::proofs::Sorts::action_param_run))]
     fn action_param<A: Allocator + Clone>(
         &mut self,
         alloc: &A,

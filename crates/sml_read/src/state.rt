@@ -5,7 +5,7 @@ ghost use Rattle.sml_tree.specs.Content.{action_content, state_content};
 ghost use Rattle.sml_tree.specs.declared.token_kind.TokenKind.TheVariants as kinds;
 ghost use Rattle.sml_read.specs.Reads.{Reads, ReadsNext, ReadsFront, SeesKind};
 
-use crate::fault::{Fault, Stop};
+use crate::fault::Stop;
 use crate::reader::Reader;
 use sml_tree::file::{Action, State};
 use sml_tree::token_kind::TokenKind;
@@ -32,12 +32,7 @@ impl Reader<'_> {
         ensures next { ReadsFront (Action' before) (Action' (before + 1)) (λ a v. action_content a ∷ v) self.old self.new result }
         ensures room { OnOk result (before < 32) }
     {
-        let held = self.take();
-        if before >= MAX_ACTIONS {
-            return Err(Stop::Fault(Fault::TooMany(held.at())));
-        }
-        self.expect(TokenKind::Colon)?;
-        let name = self.expect(TokenKind::Name)?.name();
+        let name = self.head(before, MAX_ACTIONS)?;
         let params = self.action_params(alloc)?;
         let body = self.block(alloc, 0)?;
         Ok(Action { name, params, body })
@@ -146,12 +141,7 @@ impl Reader<'_> {
         ensures next { ReadsFront (State' before) (State' (before + 1)) (λ s v. state_content s ∷ v) self.old self.new result }
         ensures room { OnOk result (before < 32) }
     {
-        let held = self.take();
-        if before >= MAX_STATES {
-            return Err(Stop::Fault(Fault::TooMany(held.at())));
-        }
-        self.expect(TokenKind::Colon)?;
-        let name = self.expect(TokenKind::Name)?.name();
+        let name = self.head(before, MAX_STATES)?;
         let marks = self.marks()?;
         let actions = self.actions(alloc)?;
         Ok(State {

@@ -3,7 +3,7 @@ use Rattle.sml_text.proofs.Writes.{told_as}
 use Rattle.sml_tree.specs.Content.{arg_content, instr_content, block_content, block_of}
 use Rattle.sml_tree.specs.Syntax.{assign, move_to, terminate}
 use Rattle.sml_tree.proofs.Blocks.{instr_content-If}
-use Rattle.sml_print.proofs.Instrs.{says_Set, says_MoveTo, says_Terminate}
+use Rattle.sml_print.proofs.Instrs.{says_Do, says_Set, says_MoveTo, says_Terminate}
 use Rattle.sml_print.specs.Blocks.{instr_text, block_text}
 use Rattle.sml_print.proofs.Tolds.{flat_more, flat_all, block_flat, else_some, else_none, told_nothing}
 use Rattle.sml_print.proofs.Tolds.{then_told}
@@ -21,6 +21,11 @@ tell_block-returns-clause-told g t c =
     told_as _ _ _ _ _ _ c.loop-instr.invariant.0
     (flat_all (instr_text c.args.level) instr_content c.deref-instr-items.result.now c.loop-instr.instr-index c.loop-instr-test.false
     ∙ block_flat c.args.level (map instr_content c.deref-instr-items.result.now) ∙ ap (λ is. block_text c.args.level (block_of (map instr_content is))) c.deref-instr-items.ensures.value)
+
+pub tell_instr-returns-in-Do-clause-told : goal.tell_instr-returns-in-Do-clause-told
+tell_instr-returns-in-Do-clause-told g t c =
+    let says = ap instr_content c.in-Do.is ∙ says_Do c.in-Do.action c.in-Do.args c.in-Do.all c.in-Do.target in
+    told_as _ _ _ _ _ _ (then_told c.tell_indent.ensures.told c.tell_send.ensures.told) (ap (instr_text c.args.level) (sym says))
 
 pub tell_instr-returns-in-If-clause-told : goal.tell_instr-returns-in-If-clause-told
 tell_instr-returns-in-If-clause-told g t c =
@@ -54,3 +59,29 @@ pub tell_else-returns-then-is_empty-clause-told : goal.tell_else-returns-then-is
 tell_else-returns-then-is_empty-clause-told g t c =
     told_as _ _ _ _ _ _ (told_nothing _ _)
     (else_none c.args.level instr_content c.args.block.now.instrs.items _ (vec_len c.args.block.now.instrs) c.args.block.now.instrs.ok.0 c.if-is_empty.ensures)
+
+-- a sink that has refused is known to have
+pub tell_instr-returns-in-Do-clause-due : goal.tell_instr-returns-in-Do-clause-due
+tell_instr-returns-in-Do-clause-due g t c = λ h. c.tell_send.ensures.due (c.tell_indent.ensures.due h)
+
+pub tell_instr-returns-in-If-clause-due : goal.tell_instr-returns-in-If-clause-due
+tell_instr-returns-in-If-clause-due g t c =
+    λ h. c.tell-in-If-2.ensures.due (c.tell_indent-in-If.ensures.due (c.tell_else.ensures.due (c.tell_block.ensures.due (c.tell-in-If.ensures.due (c.tell_cond.ensures.due (c.tell.ensures.due (c.tell_indent.ensures.due h)))))))
+
+pub tell_instr-returns-in-Set-clause-due : goal.tell_instr-returns-in-Set-clause-due
+tell_instr-returns-in-Set-clause-due g t c = λ h. c.tell_assignment.ensures.due (c.tell_indent.ensures.due h)
+
+pub tell_instr-returns-in-MoveTo-clause-due : goal.tell_instr-returns-in-MoveTo-clause-due
+tell_instr-returns-in-MoveTo-clause-due g t c = λ h. c.tell_towards.ensures.due (c.tell_indent.ensures.due h)
+
+pub tell_instr-returns-in-Terminate-clause-due : goal.tell_instr-returns-in-Terminate-clause-due
+tell_instr-returns-in-Terminate-clause-due g t c = λ h. c.tell_towards-in-Terminate.ensures.due (c.tell_indent.ensures.due h)
+
+pub tell_else-returns-clause-due : goal.tell_else-returns-clause-due
+tell_else-returns-clause-due g t c = λ h. c.tell_block.ensures.due (c.tell.ensures.due (c.tell_indent.ensures.due h))
+
+pub tell_else-returns-then-is_empty-clause-due : goal.tell_else-returns-then-is_empty-clause-due
+tell_else-returns-then-is_empty-clause-due g t c = λ h. h
+
+pub tell_block-returns-clause-due : goal.tell_block-returns-clause-due
+tell_block-returns-clause-due g t c = c.loop-instr.invariant.1

@@ -1,7 +1,10 @@
 use Rattle.std.proofs.Common.{◌≡◌, arith, rules, ap, ◌∙◌, length}
+use Rattle.std.proofs.lemmas.Bool.{lt-ltb, le-ltb}
 use Rattle.sml_tree.specs.declared.token_kind.TokenKind.TheVariants.{And, Or}
 use Rattle.sml_tree.specs.Content.{cond_content}
-use Rattle.sml_read.proofs.Chains.{and_step, or_step}
+use Rattle.sml_tree.specs.Form.{MoreAnd, MoreOr}
+use Rattle.sml_read.proofs.Chains.{and_step, or_step, not_deep, not_err, not_ok, bracket_deep, bracket_err, bracket_open, bracket_ok, conj_err, conj_more, cond_err, cond_more, and_err, or_err, chain_err}
+use Rattle.sml_read.proofs.Stopped.{handed}
 use Rattle.sml_read.proofs.reader.Reader.+conditions.Goals as goal
 
 pub more_ands-ands-preserved : goal.more_ands-ands-preserved
@@ -25,3 +28,68 @@ more_ors-ors-preserved g t c =
           ∙ or_step c.args.depth c.ors.tests c.conjunction.new.tests (cond_content c.ors.left) (cond_content c.in_ok-right.right) _ c.take.result c.ors.self c.take.new.self c.conjunction.new.self
           c.take.ensures kind c.in_ok-left.ensures c.in_ok-right.ensures.read.1 g more k,
     )
+
+pub negation-returns-then-depth-ge-MAX_OPEN-clause-read : goal.negation-returns-then-depth-ge-MAX_OPEN-clause-read
+negation-returns-then-depth-ge-MAX_OPEN-clause-read g t c =
+    rw c.at.ensures (not_deep c.args.depth c.args.tests.now c.take-held.result c.args.self.now c.take-held.new.self c.take-held.ensures c.requires.at_not (le-ltb c.args.depth 16 c.if-depth-ge-MAX_OPEN.true))
+
+pub negation-returns-in_err-operand-clause-read : goal.negation-returns-in_err-operand-clause-read
+negation-returns-in_err-operand-clause-read g t c =
+    rw (handed _ c.in_err-operand.field-0.0 c.from_residual.ensures.1)
+    (not_err c.args.depth c.args.tests.now c.take-held.result c.args.self.now c.take-held.new.self c.in_err-operand.field-0.0 c.take-held.ensures c.requires.at_not (lt-ltb c.args.depth 16 c.if-depth-ge-MAX_OPEN.false) c.in_err-operand.ensures.read)
+
+pub negation-returns-clause-read : goal.negation-returns-clause-read
+negation-returns-clause-read g t c =
+    not_ok c.args.depth c.args.tests.now c.operand.new.tests _ _ c.take-held.result c.args.self.now c.take-held.new.self c.operand.new.self c.take-held.ensures c.requires.at_not (lt-ltb c.args.depth 16 c.if-depth-ge-MAX_OPEN.false) c.in_ok-operand.ensures.read c.in_ok-neither.ensures
+
+pub bracket-returns-then-depth-ge-MAX_OPEN-clause-read : goal.bracket-returns-then-depth-ge-MAX_OPEN-clause-read
+bracket-returns-then-depth-ge-MAX_OPEN-clause-read g t c =
+    rw c.at.ensures (bracket_deep c.args.depth c.args.tests.now c.take-held.result c.args.self.now c.take-held.new.self c.take-held.ensures c.requires.at_bracket (le-ltb c.args.depth 16 c.if-depth-ge-MAX_OPEN.true))
+
+pub bracket-returns-in_err-inner-clause-read : goal.bracket-returns-in_err-inner-clause-read
+bracket-returns-in_err-inner-clause-read g t c =
+    rw (handed _ c.in_err-inner.field-0.0 c.from_residual.ensures.1)
+    (bracket_err c.args.depth c.args.tests.now c.take-held.result c.args.self.now c.take-held.new.self c.in_err-inner.field-0.0 c.take-held.ensures c.requires.at_bracket (lt-ltb c.args.depth 16 c.if-depth-ge-MAX_OPEN.false) c.in_err-inner.ensures.read)
+
+pub bracket-returns-in_err-expect-clause-read : goal.bracket-returns-in_err-expect-clause-read
+bracket-returns-in_err-expect-clause-read g t c =
+    rw (handed _ c.in_err-expect.field-0.0 c.from_residual-in_err-expect.ensures.1)
+    (bracket_open c.args.depth c.args.tests.now _ c.take-held.result c.args.self.now c.take-held.new.self c.condition.new.self c.expect.new.self c.in_err-expect.field-0.0 c.take-held.ensures c.requires.at_bracket (lt-ltb c.args.depth 16 c.if-depth-ge-MAX_OPEN.false) c.in_ok-inner.ensures.read c.in_err-expect.ensures)
+
+pub bracket-returns-clause-read : goal.bracket-returns-clause-read
+bracket-returns-clause-read g t c =
+    bracket_ok c.args.depth c.args.tests.now _ c.take-held.result c.in_ok-expect.field-0 c.args.self.now c.take-held.new.self c.condition.new.self c.expect.new.self c.take-held.ensures c.requires.at_bracket (lt-ltb c.args.depth 16 c.if-depth-ge-MAX_OPEN.false) c.in_ok-inner.ensures.read c.in_ok-expect.ensures
+
+pub conjunction-returns-in_err-left-clause-read : goal.conjunction-returns-in_err-left-clause-read
+conjunction-returns-in_err-left-clause-read g t c =
+    rw (handed _ c.in_err-left.field-0.0 c.from_residual.ensures.1)
+    (conj_err c.args.depth c.args.tests.now c.args.self.now c.in_err-left.field-0.0 c.in_err-left.ensures.read)
+
+pub condition-returns-in_err-left-clause-read : goal.condition-returns-in_err-left-clause-read
+condition-returns-in_err-left-clause-read g t c =
+    rw (handed _ c.in_err-left.field-0.0 c.from_residual.ensures.1)
+    (cond_err c.args.depth c.args.tests.now c.args.self.now c.in_err-left.field-0.0 c.in_err-left.ensures.read)
+
+pub conjunction-returns-clause-read : goal.conjunction-returns-clause-read
+conjunction-returns-clause-read g t c =
+    conj_more (λ x. record { formula = cond_content x; count = c.more_ands.new.tests }) c.args.depth c.args.tests.now c.operand.new.tests _ c.more_ands.result c.args.self.now c.operand.new.self c.more_ands.new.self
+    c.in_ok-left.ensures.read c.more_ands.ensures.read
+
+pub condition-returns-clause-read : goal.condition-returns-clause-read
+condition-returns-clause-read g t c =
+    cond_more (λ x. record { formula = cond_content x; count = c.more_ors.new.tests }) c.args.depth c.args.tests.now c.conjunction.new.tests _ c.more_ors.result c.args.self.now c.conjunction.new.self c.more_ors.new.self
+    c.in_ok-left.ensures.read c.more_ors.ensures.read
+
+pub more_ands-returns-in_err-right-clause-read : goal.more_ands-returns-in_err-right-clause-read
+more_ands-returns-in_err-right-clause-read g t c =
+    let kind : c.take.result.kind ≡ And = search rules in
+    rw (handed _ c.in_err-right.field-0.0 c.from_residual.ensures.1)
+    (chain_err (MoreAnd c.args.depth c.args.tests.now (cond_content c.args.left)) (MoreAnd c.args.depth c.ands.tests (cond_content c.ands.left)) (λ v. v) c.args.self.now c.ands.self c.in_err-right.field-0.0 c.ands.invariant.2
+    (and_err c.args.depth c.ands.tests (cond_content c.ands.left) c.take.result c.ands.self c.take.new.self c.in_err-right.field-0.0 c.take.ensures kind c.in_err-right.ensures.read))
+
+pub more_ors-returns-in_err-right-clause-read : goal.more_ors-returns-in_err-right-clause-read
+more_ors-returns-in_err-right-clause-read g t c =
+    let kind : c.take.result.kind ≡ Or = search rules in
+    rw (handed _ c.in_err-right.field-0.0 c.from_residual.ensures.1)
+    (chain_err (MoreOr c.args.depth c.args.tests.now (cond_content c.args.left)) (MoreOr c.args.depth c.ors.tests (cond_content c.ors.left)) (λ v. v) c.args.self.now c.ors.self c.in_err-right.field-0.0 c.ors.invariant.2
+    (or_err c.args.depth c.ors.tests (cond_content c.ors.left) c.take.result c.ors.self c.take.new.self c.in_err-right.field-0.0 c.take.ensures kind c.in_err-right.ensures.read))

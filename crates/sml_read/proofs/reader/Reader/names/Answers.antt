@@ -1,17 +1,16 @@
-use Rattle.std.proofs.Common.{◌≡◌, ◌∷◌, ◌++◌, vec_len, length, ap, sym, refl, rules, arith}
-use Rattle.sml_tree.specs.declared.token_kind.TokenKind.TheVariants.{Name}
+use Rattle.std.proofs.Common.{◌∷◌, ◌++◌, vec_len, length, ap, sym, refl, arith}
 use Rattle.sml_tree.specs.Form.{Names, MoreName}
 use Rattle.sml_read.proofs.Lists.{read_more, pushed_plain}
-use Rattle.sml_read.proofs.Bracketed.{names_begun}
+use Rattle.sml_read.proofs.Bracketed.{names_begun, names_err}
+use Rattle.sml_read.proofs.Stopped.{handed}
 use Rattle.sml_read.proofs.reader.Reader.names.Goals as goal
 
 -- the first was read
 pub loop-names-init : goal.loop-names-init
 loop-names-init g c =
-    let kind : c.take.result.kind ≡ Name = search rules in
     let items = rw c.new-names.ensures.items at c.in_ok-push.ensures.items in
     let one = rw c.new-names.ensures.len at c.in_ok-push.ensures.len in
-    (omega (arith, ap length c.take.ensures), omega (arith, one), rw (items, one) (names_begun c.take.result c.args.self.now c.take.new.self c.name.result c.take.ensures kind c.name.ensures))
+    (omega (arith, ap length c.in_ok-first.ensures.0), omega (arith, one), rw (items, one) (names_begun c.in_ok-first.first c.args.self.now c.expect.new.self c.name.result c.in_ok-first.ensures.0 c.in_ok-first.ensures.1 c.name.ensures))
 
 -- one more was read
 pub loop-names-preserved : goal.loop-names-preserved
@@ -24,3 +23,7 @@ loop-names-preserved g c =
           (λ v. c.push-in-Some.new.self.items ++ v) c.args.self.now c.loop-names.self c.next_name.new.self c.loop-names.invariant.2 next.1
           (pushed_plain c.loop-names.names.items c.push-in-Some.new.self.items c.in-Some.state c.in_ok-push-2.ensures.items),
     )
+
+-- no name stands there
+pub returns-in_err-first : goal.returns-in_err-first
+returns-in_err-first g c = rw (handed _ c.in_err-first.field-0.0 c.from_residual.ensures.1) (names_err c.args.self.now c.expect.new.self c.in_err-first.field-0.0 c.in_err-first.ensures)

@@ -1,7 +1,7 @@
 use Rattle.std.proofs.Common.{◌≡◌, rules, arith}
 use Rattle.std.proofs.lemmas.Bool.{lt-ltb}
 use Rattle.sml_tree.specs.declared.token_kind.TokenKind.TheVariants.{Comma}
-use Rattle.sml_read.proofs.Heads.{name_ok}
+use Rattle.sml_read.proofs.NextNames.{name_ok}
 use Rattle.sml_read.proofs.reader.Reader.next_name.Goals as goal
 
 pub returns-clause-next : goal.returns-clause-next

@@ -1,62 +1,27 @@
-use Rattle.std.proofs.Common.{rules, arith}
-use Rattle.std.proofs.lemmas.Bool.{lt-ltb}
-use Rattle.sml_read.proofs.Heads.{set_ok, set_err, members_err}
+use Rattle.sml_read.proofs.Heads.{set_head_err, set_ok, set_brace_err, set_members_err, set_end_err}
+use Rattle.sml_read.proofs.Stopped.{handed}
 use Rattle.sml_read.proofs.reader.Reader.set.Goals as goal
+
+pub returns-in_err-name-clause-next : goal.returns-in_err-name-clause-next
+returns-in_err-name-clause-next g c =
+    rw (handed _ c.in_err-name.field-0.0 c.from_residual.ensures.1)
+    (set_head_err c.args.counts.now.classes c.args.counts.now.objects c.args.counts.now.sets c.args.self.now c.head.new.self c.in_err-name.field-0.0 c.requires.at_set c.in_err-name.ensures.read)
+
+pub returns-in_err-expect-clause-next : goal.returns-in_err-expect-clause-next
+returns-in_err-expect-clause-next g c =
+    rw (handed _ c.in_err-expect.field-0.0 c.from_residual-in_err-expect.ensures.1)
+    (set_brace_err c.args.counts.now.classes c.args.counts.now.objects c.args.counts.now.sets c.args.self.now c.head.new.self c.expect.new.self c.in_ok-name.name c.in_err-expect.field-0.0 c.requires.at_set c.in_ok-name.ensures.read c.in_err-expect.ensures)
+
+pub returns-in_err-members-clause-next : goal.returns-in_err-members-clause-next
+returns-in_err-members-clause-next g c =
+    rw (handed _ c.in_err-members.field-0.0 c.from_residual-in_err-members.ensures.1)
+    (set_members_err c.args.counts.now.classes c.args.counts.now.objects c.args.counts.now.sets c.args.self.now c.head.new.self c.expect.new.self c.in_ok-name.name c.in_ok-expect.field-0 c.in_err-members.field-0.0 c.requires.at_set c.in_ok-name.ensures.read c.in_ok-expect.ensures c.in_err-members.ensures)
+
+pub returns-in_err-expect-2-clause-next : goal.returns-in_err-expect-2-clause-next
+returns-in_err-expect-2-clause-next g c =
+    rw (handed _ c.in_err-expect-2.field-0.0 c.from_residual-in_err-expect-2.ensures.1)
+    (set_end_err c.args.counts.now.classes c.args.counts.now.objects c.args.counts.now.sets c.args.self.now c.head.new.self c.expect.new.self c.members.new.self c.expect-2.new.self c.in_ok-name.name _ c.in_ok-expect.field-0 c.in_err-expect-2.field-0.0 c.requires.at_set c.in_ok-name.ensures.read c.in_ok-expect.ensures c.in_ok-members.ensures c.in_err-expect-2.ensures)
 
 pub returns-clause-next : goal.returns-clause-next
 returns-clause-next g c =
-    set_ok c.args.counts.now.classes c.args.counts.now.objects c.args.counts.now.sets c.args.self.now c.expect-2.new.self c.expect-3.new.self c.members.new.self c.expect-4.new.self c.name-name.result _ c.in_ok-expect-3.field-0 c.in_ok-expect-4.field-0
-    (record {
-      t = c.take-held.result;
-      a = c.in_ok-expect.field-0;
-      n = c.in_ok-expect-2.field-0;
-      u = c.take-held.new.self;
-      v = c.expect.new.self;
-      first = c.take-held.ensures;
-      sees = c.requires.at_set;
-      room = lt-ltb c.args.counts.now.sets 32 (omega (arith, c.if-counts-ge-MAX_SETS.false));
-      colon = c.in_ok-expect.ensures;
-      named = c.in_ok-expect-2.ensures;
-      is = c.name-name.ensures;
-    })
-    c.in_ok-expect-3.ensures c.in_ok-members.ensures c.in_ok-expect-4.ensures
-
--- the brace does not stand there
-pub returns-in_err-expect-4-clause-next : goal.returns-in_err-expect-4-clause-next
-returns-in_err-expect-4-clause-next g c =
-    let stops = set_err c.args.counts.now.classes c.args.counts.now.objects c.args.counts.now.sets c.args.self.now c.expect-2.new.self c.expect-3.new.self c.members.new.self c.expect-4.new.self c.name-name.result _ c.in_ok-expect-3.field-0 c.in_err-expect-4.field-0.0
-    (record {
-      t = c.take-held.result;
-      a = c.in_ok-expect.field-0;
-      n = c.in_ok-expect-2.field-0;
-      u = c.take-held.new.self;
-      v = c.expect.new.self;
-      first = c.take-held.ensures;
-      sees = c.requires.at_set;
-      room = lt-ltb c.args.counts.now.sets 32 (omega (arith, c.if-counts-ge-MAX_SETS.false));
-      colon = c.in_ok-expect.ensures;
-      named = c.in_ok-expect-2.ensures;
-      is = c.name-name.ensures;
-    })
-    c.in_ok-expect-3.ensures c.in_ok-members.ensures c.in_err-expect-4.ensures in
-    search rules
-
--- the members are refused
-pub returns-in_err-members-clause-next : goal.returns-in_err-members-clause-next
-returns-in_err-members-clause-next g c =
-    let stops = members_err c.args.counts.now.classes c.args.counts.now.objects c.args.counts.now.sets c.args.self.now c.expect-2.new.self c.expect-3.new.self c.name-name.result c.in_ok-expect-3.field-0 c.in_err-members.field-0.0
-    (record {
-      t = c.take-held.result;
-      a = c.in_ok-expect.field-0;
-      n = c.in_ok-expect-2.field-0;
-      u = c.take-held.new.self;
-      v = c.expect.new.self;
-      first = c.take-held.ensures;
-      sees = c.requires.at_set;
-      room = lt-ltb c.args.counts.now.sets 32 (omega (arith, c.if-counts-ge-MAX_SETS.false));
-      colon = c.in_ok-expect.ensures;
-      named = c.in_ok-expect-2.ensures;
-      is = c.name-name.ensures;
-    })
-    c.in_ok-expect-3.ensures c.in_err-members.ensures in
-    search rules
+    set_ok c.args.counts.now.classes c.args.counts.now.objects c.args.counts.now.sets c.args.self.now c.head.new.self c.expect.new.self c.members.new.self c.expect-2.new.self c.in_ok-name.name _ c.in_ok-expect.field-0 c.in_ok-expect-2.field-0 c.requires.at_set c.in_ok-name.ensures.read c.in_ok-expect.ensures c.in_ok-members.ensures c.in_ok-expect-2.ensures

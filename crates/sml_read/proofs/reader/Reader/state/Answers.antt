@@ -1,22 +1,22 @@
-use Rattle.std.proofs.Common.{arith}
-use Rattle.std.proofs.lemmas.Bool.{lt-ltb}
-use Rattle.sml_read.proofs.Heads.{state_ok}
+use Rattle.sml_read.proofs.Heads.{state_head_err, state_ok, state_marks_err, state_actions_err}
+use Rattle.sml_read.proofs.Stopped.{handed}
 use Rattle.sml_read.proofs.reader.Reader.state.Goals as goal
+
+pub returns-in_err-name-clause-next : goal.returns-in_err-name-clause-next
+returns-in_err-name-clause-next g c =
+    rw (handed _ c.in_err-name.field-0.0 c.from_residual.ensures.1)
+    (state_head_err c.args.before c.args.self.now c.head.new.self c.in_err-name.field-0.0 c.requires.at_state c.in_err-name.ensures.read)
+
+pub returns-in_err-marks-clause-next : goal.returns-in_err-marks-clause-next
+returns-in_err-marks-clause-next g c =
+    rw (handed _ c.in_err-marks.field-0.0 c.from_residual-in_err-marks.ensures.1)
+    (state_marks_err c.args.before c.args.self.now c.head.new.self c.in_ok-name.name c.in_err-marks.field-0.0 c.requires.at_state c.in_ok-name.ensures.read c.in_err-marks.ensures)
+
+pub returns-in_err-actions-clause-next : goal.returns-in_err-actions-clause-next
+returns-in_err-actions-clause-next g c =
+    rw (handed _ c.in_err-actions.field-0.0 c.from_residual-in_err-actions.ensures.1)
+    (state_actions_err c.args.before c.args.self.now c.head.new.self c.marks.new.self c.in_ok-name.name _ c.in_err-actions.field-0.0 c.requires.at_state c.in_ok-name.ensures.read c.in_ok-marks.ensures c.in_err-actions.ensures)
 
 pub returns-clause-next : goal.returns-clause-next
 returns-clause-next g c =
-    state_ok c.args.before c.args.self.now c.expect-2.new.self c.marks.new.self c.actions.new.self c.name-name.result _ _
-    (record {
-      t = c.take-held.result;
-      a = c.in_ok-expect.field-0;
-      n = c.in_ok-expect-2.field-0;
-      u = c.take-held.new.self;
-      v = c.expect.new.self;
-      first = c.take-held.ensures;
-      sees = c.requires.at_state;
-      room = lt-ltb c.args.before 32 (omega (arith, c.if-before-ge-MAX_STATES.false));
-      colon = c.in_ok-expect.ensures;
-      named = c.in_ok-expect-2.ensures;
-      is = c.name-name.ensures;
-    })
-    c.in_ok-marks.ensures c.in_ok-actions.ensures
+    state_ok c.args.before c.args.self.now c.head.new.self c.marks.new.self c.actions.new.self c.in_ok-name.name _ _ c.requires.at_state c.in_ok-name.ensures.read c.in_ok-marks.ensures c.in_ok-actions.ensures

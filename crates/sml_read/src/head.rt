@@ -1,0 +1,24 @@
+//! The front of a class, an object, a set, a state or an action.
+ghost use Rattle.std.specs.Prelude.{◌<◌, IfOk, IsSome, slice_get};
+ghost use Rattle.sml_read.specs.Heads.{ReadsHead};
+
+use crate::fault::{Fault, Stop};
+use crate::reader::Reader;
+use sml_tree::name::Name;
+use sml_tree::token_kind::TokenKind;
+
+impl Reader<'_> {
+    /// The name behind the word that stands in front and a colon, where so many stand before it and so many may stand.
+    pub fn head(&mut self, before: usize, limit: usize) -> Result<Name, Stop>
+        requires { IsSome (slice_get self.old 0) }
+        ensures read { ReadsHead before limit self.old self.new result }
+        ensures room { IfOk result (λ name. before < limit) }
+    {
+        let held = self.take();
+        if before >= limit {
+            return Err(Stop::Fault(Fault::TooMany(held.at())));
+        }
+        self.expect(TokenKind::Colon)?;
+        Ok(self.expect(TokenKind::Name)?.name())
+    }
+}
