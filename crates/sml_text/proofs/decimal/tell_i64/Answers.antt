@@ -1,0 +1,10 @@
+use Rattle.std.proofs.Common.{◌≡◌, ◌∙◌, subst, rules}
+use Rattle.sml_text.specs.Decimal.{int_text}
+use Rattle.sml_text.specs.Written.{Told}
+use Rattle.sml_text.proofs.decimal.tell_i64.Goals as goal
+
+pub returns-clause-told : goal.returns-clause-told
+returns-clause-told g c =
+    let text : c.format.result.now ≡ int_text c.args.int = search rules in
+    subst (Told (g.S.Sink.contents c.args.sink.now) c.args.failed.now (g.S.Sink.contents c.tell.new.sink) c.tell.new.failed)
+    (c.as_bytes.ensures.value ∙ text) c.tell.ensures.told
