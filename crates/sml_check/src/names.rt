@@ -169,8 +169,10 @@ fn class_names<A: Allocator + Clone>(
 {
     let mut names = Vec::new(alloc);
     for item in items {
-        if let Item::Class(class) = item {
-            names.push(class.name)?;
+        match item {
+            Item::Class(class) => names.push(class.name)?,
+            Item::Object(_) => {}
+            Item::Group(_) => {}
         }
     }
     Ok(names)
@@ -185,8 +187,10 @@ fn object_names<A: Allocator + Clone>(
 {
     let mut names = Vec::new(alloc);
     for item in items {
-        if let Item::Object(object) = item {
-            names.push(object.name)?;
+        match item {
+            Item::Object(object) => names.push(object.name)?,
+            Item::Class(_) => {}
+            Item::Group(_) => {}
         }
     }
     Ok(names)
@@ -201,8 +205,10 @@ fn group_names<A: Allocator + Clone>(
 {
     let mut names = Vec::new(alloc);
     for item in items {
-        if let Item::Group(group) = item {
-            names.push(group.name)?;
+        match item {
+            Item::Group(group) => names.push(group.name)?,
+            Item::Class(_) => {}
+            Item::Object(_) => {}
         }
     }
     Ok(names)
