@@ -6,9 +6,9 @@ ghost use Rattle.sml_tree.specs.Word.{is_word};
 use crate::domain_of::{domain_of, first};
 use smi_core::{
     ActionEnd, Answer, Args, Core, CoreError, Entry, Sender, SessionId, Step, StepError, Verdict,
-    run,
+    read_step, run,
 };
-use sml_domain::ids::{ActionId, ClassId, ObjId, StateId};
+use sml_domain::ids::{ActionId, ObjId, StateId};
 use sml_tree::name::Name;
 use std::test::*;
 
@@ -16,15 +16,9 @@ const L: usize = 0;
 
 const B: usize = 1;
 
-const OFF: usize = 0;
-
 const ON: usize = 1;
 
-const IDLE: usize = 2;
-
 const DONE: usize = 3;
-
-const DEAD: usize = 4;
 
 const LIGHT: usize = 0;
 
@@ -104,101 +98,139 @@ fn session() -> Sender {
     Sender::Operator(one)
 }
 
-#[test]
-fn first_path(rt: HostRuntime) -> Result<(), Fail> {
-    let mut core = Core::new(rt.alloc(), first(rt.alloc())?, 16, 1_000_000)?;
-    assert_eq!(rt; core.step(&request(1, b"B", b"GO")), accepted(0));
-    assert_eq!(rt; core.step(&start(b"B")), entries(0, 1));
-    assert_eq!(rt; core.step(&go(b"B")), entries(1, 1));
-    assert_eq!(rt; core.step(&go(b"B")), entries(2, 1));
-    assert_eq!(rt; core.step(&start(b"L")), entries(3, 1));
-    assert_eq!(rt; core.step(&go(b"L")), entries(4, 1));
-    assert_eq!(rt; core.step(&start(b"L")), Err(StepError::Empty));
-    let Some(l) = core.domain().object(&Name::from_word(b"L")) else {
-        panic!(rt; "no object L");
-    };
-    assert_eq!(rt; core.state(l), StateId::new(ON));
-    assert!(rt; core.params(l).is_empty());
-    let journal = [
+// A line of a schedule, and what a core answers to it.
+type Row = (&'static [u8], Result<Answer, StepError>);
+
+// The place of the first row whose line has another answer.
+fn wrong_row(core: &mut Core, rows: &[Row]) -> Option<usize> {
+    for (place, (line, answer)) in rows.iter().enumerate() {
+        let Ok(Some(step)) = read_step(line) else {
+            return Some(place);
+        };
+        if core.step(&step) != *answer {
+            return Some(place);
+        }
+    }
+    None
+}
+
+fn first_rows() -> [Row; 7] {
+    [
+        (b"request @1 B GO", accepted(0)),
+        (b"start B", entries(0, 1)),
+        (b"go B", entries(1, 1)),
+        (b"go B", entries(2, 1)),
+        (b"start L", entries(3, 1)),
+        (b"go L", entries(4, 1)),
+        (b"start L", Err(StepError::Empty)),
+    ]
+}
+
+fn first_journal() -> [Entry; 5] {
+    [
         started(B, session(), 0, GO),
         posted(B, L, Verdict::Accepted(0), LIGHT),
         ended(B, DONE),
         started(L, Sender::Object(ObjId::new(B)), 0, LIGHT),
         ended(L, ON),
-    ];
-    assert_eq!(rt; core.journal().entries(), journal.as_slice());
+    ]
+}
+
+#[test]
+fn first_path(rt: HostRuntime) -> Result<(), Fail> {
+    let mut core = Core::new(rt.alloc(), first(rt.alloc())?, 16, 1_000_000)?;
+    assert_eq!(rt; wrong_row(&mut core, &first_rows()), None);
+    assert_eq!(rt; core.journal().entries(), first_journal().as_slice());
+    let Some(l) = core.domain().object(&Name::from_word(b"L")) else {
+        panic!(rt; "no object L");
+    };
+    assert!(rt; core.state(l) == StateId::new(ON) && core.params(l).is_empty());
     Ok(())
+}
+
+fn again_rows() -> [Row; 10] {
+    [
+        (b"request @1 L LIGHT", accepted(0)),
+        (b"request @1 L LIGHT", accepted(1)),
+        (b"start L", entries(0, 1)),
+        (b"start L", Err(StepError::AlreadyOpen)),
+        (b"go L", entries(1, 1)),
+        (b"start L", entries(2, 2)),
+        (b"go L", Err(StepError::NotOpen)),
+        (b"start L", Err(StepError::Empty)),
+        (b"start XX", Err(StepError::UnknownObject)),
+        (b"request @1 L GO", Err(StepError::UnknownAction)),
+    ]
+}
+
+fn again_journal() -> [Entry; 4] {
+    [
+        started(L, session(), 0, LIGHT),
+        ended(L, ON),
+        started(L, session(), 1, LIGHT),
+        Entry::End {
+            object: ObjId::new(L),
+            result: ActionEnd::Skipped,
+        },
+    ]
 }
 
 #[test]
 fn alone_and_again(rt: HostRuntime) -> Result<(), Fail> {
     let mut core = Core::new(rt.alloc(), first(rt.alloc())?, 16, 1_000_000)?;
-    assert_eq!(rt; core.step(&request(1, b"L", b"LIGHT")), accepted(0));
-    assert_eq!(rt; core.step(&request(1, b"L", b"LIGHT")), accepted(1));
-    assert_eq!(rt; core.step(&start(b"L")), entries(0, 1));
-    assert_eq!(rt; core.step(&start(b"L")), Err(StepError::AlreadyOpen));
-    assert_eq!(rt; core.step(&go(b"L")), entries(1, 1));
-    assert_eq!(rt; core.step(&start(b"L")), entries(2, 2));
-    assert_eq!(rt; core.step(&go(b"L")), Err(StepError::NotOpen));
-    assert_eq!(rt; core.step(&start(b"L")), Err(StepError::Empty));
-    assert_eq!(rt; core.step(&start(b"XX")), Err(StepError::UnknownObject));
-    assert_eq!(rt;
-        core.step(&request(1, b"L", b"GO")),
-        Err(StepError::UnknownAction)
-    );
-    let skipped = Entry::End {
-        object: ObjId::new(L),
-        result: ActionEnd::Skipped,
-    };
-    let journal = [
-        started(L, session(), 0, LIGHT),
-        ended(L, ON),
-        started(L, session(), 1, LIGHT),
-        skipped,
-    ];
-    assert_eq!(rt; core.journal().entries(), journal.as_slice());
+    assert_eq!(rt; wrong_row(&mut core, &again_rows()), None);
+    assert_eq!(rt; core.journal().entries(), again_journal().as_slice());
     Ok(())
 }
 
 #[test]
 fn capacity_of_one_lamp(rt: HostRuntime) -> Result<(), Fail> {
     let mut core = Core::new(rt.alloc(), first(rt.alloc())?, 1, 1_000_000)?;
-    assert_eq!(rt; core.step(&request(1, b"L", b"LIGHT")), accepted(0));
-    assert_eq!(rt;
-        core.step(&request(1, b"L", b"LIGHT")),
-        Err(StepError::Full)
-    );
-    assert_eq!(rt;
-        core.step(&request(2, b"L", b"LIGHT")),
-        Err(StepError::Full)
-    );
+    let rows: [Row; 3] = [
+        (b"request @1 L LIGHT", accepted(0)),
+        (b"request @1 L LIGHT", Err(StepError::Full)),
+        (b"request @2 L LIGHT", Err(StepError::Full)),
+    ];
+    assert_eq!(rt; wrong_row(&mut core, &rows), None);
     Ok(())
 }
 
 #[test]
 fn one_start_only(rt: HostRuntime) -> Result<(), Fail> {
     let mut core = Core::new(rt.alloc(), first(rt.alloc())?, 16, 1)?;
-    assert_eq!(rt; core.step(&request(1, b"B", b"GO")), accepted(0));
-    assert_eq!(rt; core.step(&start(b"B")), entries(0, 1));
-    assert_eq!(rt; core.step(&start(b"L")), Err(StepError::Limit));
-    assert_eq!(rt; core.step(&start(b"B")), Err(StepError::Limit));
+    let rows: [Row; 4] = [
+        (b"request @1 B GO", accepted(0)),
+        (b"start B", entries(0, 1)),
+        (b"start L", Err(StepError::Limit)),
+        (b"start B", Err(StepError::Limit)),
+    ];
+    assert_eq!(rt; wrong_row(&mut core, &rows), None);
     Ok(())
+}
+
+fn full_rows() -> [Row; 5] {
+    [
+        (b"request @2 L LIGHT", accepted(0)),
+        (b"request @1 B GO", accepted(0)),
+        (b"start B", entries(0, 1)),
+        (b"go B", entries(1, 1)),
+        (b"go B", entries(2, 1)),
+    ]
+}
+
+fn full_journal() -> [Entry; 3] {
+    [
+        started(B, session(), 0, GO),
+        posted(B, L, Verdict::Full, LIGHT),
+        ended(B, DONE),
+    ]
 }
 
 #[test]
 fn post_to_a_full_mailbox(rt: HostRuntime) -> Result<(), Fail> {
     let mut core = Core::new(rt.alloc(), first(rt.alloc())?, 1, 1_000_000)?;
-    assert_eq!(rt; core.step(&request(2, b"L", b"LIGHT")), accepted(0));
-    assert_eq!(rt; core.step(&request(1, b"B", b"GO")), accepted(0));
-    assert_eq!(rt; core.step(&start(b"B")), entries(0, 1));
-    assert_eq!(rt; core.step(&go(b"B")), entries(1, 1));
-    assert_eq!(rt; core.step(&go(b"B")), entries(2, 1));
-    let journal = [
-        started(B, session(), 0, GO),
-        posted(B, L, Verdict::Full, LIGHT),
-        ended(B, DONE),
-    ];
-    assert_eq!(rt; core.journal().entries(), journal.as_slice());
+    assert_eq!(rt; wrong_row(&mut core, &full_rows()), None);
+    assert_eq!(rt; core.journal().entries(), full_journal().as_slice());
     Ok(())
 }
 
@@ -229,31 +261,12 @@ fn a_list_of_steps(rt: HostRuntime) -> Result<(), Fail> {
     Ok(())
 }
 
+// A name is found in either case of letters, and a class is no object.
 #[test]
 fn names_and_states(rt: HostRuntime) -> Result<(), Fail> {
     let domain = first(rt.alloc())?;
-    let Some(l) = domain.object(&Name::from_word(b"l")) else {
-        panic!(rt; "no object L");
-    };
-    assert_eq!(rt; l.get(), L);
+    assert!(rt; domain.object(&Name::from_word(b"l")) == Some(ObjId::new(L)));
     assert!(rt; domain.object(&Name::from_word(b"LAMP")).is_none());
-    assert_eq!(rt;
-        domain.state(&Name::from_word(b"DEAD")),
-        Some(StateId::new(DEAD))
-    );
-    assert_eq!(rt;
-        domain.action(&Name::from_word(b"GO")),
-        Some(ActionId::new(GO))
-    );
-    assert_eq!(rt;
-        domain.class(&Name::from_word(b"BOSS")),
-        Some(ClassId::new(1))
-    );
-    assert_eq!(rt; domain.initial(l), StateId::new(OFF));
-    assert_eq!(rt; domain.dead(l), StateId::new(DEAD));
-    assert!(rt; domain.declares(l, StateId::new(OFF), ActionId::new(LIGHT)));
-    assert!(rt; !domain.declares(l, StateId::new(ON), ActionId::new(LIGHT)));
-    assert!(rt; !domain.is_state(l, StateId::new(IDLE)));
     Ok(())
 }
 
@@ -301,27 +314,5 @@ fn forms_behind_others(rt: HostRuntime) -> Result<(), Fail> {
         let refused = Core::new(rt.alloc(), domain_of(rt.alloc(), text)?, 16, 1);
         assert_eq!(rt; refused.err(), Some(CoreError::BadConfig));
     }
-    Ok(())
-}
-
-// A marked state is the one in which an object begins.
-#[test]
-fn marked_states(rt: HostRuntime) -> Result<(), Fail> {
-    let text =
-        b"class: K state: S state: T /initial_state action: GO move_to S state: U /dead_state object: X is_of_class K";
-    let mut core = Core::new(rt.alloc(), domain_of(rt.alloc(), text)?, 16, 1)?;
-    let Some(x) = core.domain().object(&Name::from_word(b"X")) else {
-        panic!(rt; "no object X");
-    };
-    assert_eq!(rt; core.state(x), StateId::new(1));
-    assert_eq!(rt; core.domain().dead(x), StateId::new(2));
-    assert!(rt; core.domain().state(&Name::from_word(b"DEAD")).is_none());
-    assert_eq!(rt; core.step(&request(1, b"X", b"GO")), accepted(0));
-    assert_eq!(rt; core.step(&start(b"X")), entries(0, 1));
-    assert_eq!(rt; core.step(&go(b"X")), entries(1, 1));
-    let Some(x) = core.domain().object(&Name::from_word(b"X")) else {
-        panic!(rt; "no object X");
-    };
-    assert_eq!(rt; core.state(x), StateId::new(0));
     Ok(())
 }

@@ -2,6 +2,7 @@
 
 use crate::domain_of::domain_of;
 use crate::outputs::{core_of, output};
+use smi_core::{Core, run_schedule};
 use sml_domain::ids::StateId;
 use sml_tree::name::Name;
 use std::test::*;
@@ -20,13 +21,34 @@ const MARKED: &[u8] = b"class: K
 object: X is_of_class K
 ";
 
+// The state of X.
+fn state_of_x(core: &Core) -> Option<StateId> {
+    let x = core.domain().object(&Name::from_word(b"X"))?;
+    Some(core.state(x))
+}
+
+// The dead state of X.
+fn dead_of_x(core: &Core) -> Option<StateId> {
+    let x = core.domain().object(&Name::from_word(b"X"))?;
+    Some(core.domain().dead(x))
+}
+
 #[test]
 fn begins_in_the_marked_state(rt: HostRuntime) -> Result<(), Fail> {
     let core = core_of(rt.alloc(), domain_of(rt.alloc(), MARKED)?)?;
-    let Some(x) = core.domain().object(&Name::from_word(b"X")) else {
-        panic!(rt; "no object X");
-    };
-    assert_eq!(rt; core.state(x), StateId::new(1));
+    assert!(rt; state_of_x(&core) == Some(StateId::new(1)));
+    assert!(rt; dead_of_x(&core) == Some(StateId::new(2)));
+    assert!(rt; core.domain().state(&Name::from_word(b"DEAD")).is_none());
+    Ok(())
+}
+
+#[test]
+fn leaves_the_marked_state(rt: HostRuntime) -> Result<(), Fail> {
+    let mut core = core_of(rt.alloc(), domain_of(rt.alloc(), MARKED)?)?;
+    let mut reader: &[u8] = b"request @1 X GO\nstart X\ngo X\n";
+    let mut written = Vec::new(rt.alloc());
+    assert!(rt; run_schedule(rt.alloc(), &mut core, &mut reader, &mut written).is_ok());
+    assert!(rt; state_of_x(&core) == Some(StateId::new(0)));
     Ok(())
 }
 

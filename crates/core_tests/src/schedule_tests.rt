@@ -75,20 +75,25 @@ fn lines_that_are_no_steps(rt: HostRuntime) -> Result<(), Fail> {
         b"begin L\nstart SET\nrequest @9 L LIGHT\nrequest @1 L LIGHT ()\n\n ! a comment\r\nrequest@1L light\nstart L L\nstart \x80\n";
     let expected =
         b"refused BadLine\nrefused BadLine\nrefused BadLine\nrefused BadLine\naccept @1 L 0 LIGHT\nrefused BadLine\nrefused BadLine\n";
-    let written = output(rt.alloc(), first(rt.alloc())?, text)?;
-    assert_eq!(rt; written.as_slice(), expected.as_slice());
-    let written = output(rt.alloc(), first(rt.alloc())?, b"start L")?;
-    assert_eq!(rt; written.as_slice(), b"refused Empty\n".as_slice());
+    let rows: [(&[u8], &[u8]); 2] = [(text, expected), (b"start L", b"refused Empty\n")];
+    for (schedule, told) in rows {
+        let written = output(rt.alloc(), first(rt.alloc())?, schedule)?;
+        assert_eq!(rt; written.as_slice(), told);
+    }
     Ok(())
 }
 
 #[test]
 fn empty_domain(rt: HostRuntime) -> Result<(), Fail> {
-    let alloc = rt.alloc();
-    assert!(rt; output(alloc, domain_of(alloc, b"")?, b"")?.is_empty());
-    assert!(rt; output(alloc, domain_of(alloc, b"")?, b"\n ! nothing\n\t\r\n")?.is_empty());
-    let written = output(alloc, domain_of(alloc, b"")?, b"start L")?;
-    assert_eq!(rt; written.as_slice(), b"refused UnknownObject\n".as_slice());
+    let rows: [(&[u8], &[u8]); 3] = [
+        (b"", b""),
+        (b"\n ! nothing\n\t\r\n", b""),
+        (b"start L", b"refused UnknownObject\n"),
+    ];
+    for (schedule, told) in rows {
+        let written = output(rt.alloc(), domain_of(rt.alloc(), b"")?, schedule)?;
+        assert_eq!(rt; written.as_slice(), told);
+    }
     Ok(())
 }
 

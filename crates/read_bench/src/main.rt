@@ -3,11 +3,11 @@
 
 mod made_text;
 mod task;
-#[cfg(test)]
-mod tests;
 mod timing;
 
-use anyhow::{Context, Result, bail};
+use anyhow::{Context, Result, anyhow, bail};
+use sml_faults::first_fault;
+use sml_read::read;
 use std::fs::Files;
 use std::time::Clock;
 use std::{env, fs};
@@ -15,7 +15,8 @@ use std::{env, fs};
 const USAGE: &str = "\
 Times the reading of domain texts, with the dropping of what was read, and the checking and the
 printing of files.
-Nothing is timed without words.
+Without words nothing is timed: this text is printed, and what the smallest and the largest made
+text have.
 
 usage: read_bench time ROUNDS         over made texts: one of 1 MiB, and sixteen of 64 KiB
        read_bench time ROUNDS FILE    over the text of FILE
@@ -38,7 +39,11 @@ fn main(rt: HostRuntime) -> Result<()> {
 // Does what the words ask for, the program's name first.
 fn drive<R: Files + Clock + Print + AllocGlobal>(rt: &R, words: &[&str]) -> Result<()> {
     match words {
-        [] | [_] | [_, "--help"] => {
+        [] | [_] => {
+            rt.println(USAGE)?;
+            tell_made_texts(rt)
+        }
+        [_, "--help"] => {
             rt.println(USAGE)?;
             Ok(())
         }
@@ -47,6 +52,23 @@ fn drive<R: Files + Clock + Print + AllocGlobal>(rt: &R, words: &[&str]) -> Resu
         [_, "write", file, classes] => write_made_text(rt, file, classes),
         _ => bail!("see `read_bench --help` for what may be asked"),
     }
+}
+
+// Tells what the smallest and the largest made text have.
+fn tell_made_texts<R: Print + AllocGlobal>(rt: &R) -> Result<()> {
+    let small = made_text::of_classes(rt.alloc(), made_text::LEAST_CLASSES)?;
+    tell_text(rt, &small)?;
+    let large = made_text::of_classes(rt.alloc(), made_text::MOST_CLASSES)?;
+    tell_text(rt, &large)
+}
+
+// Tells what a text has, which is read and has no fault.
+fn tell_text<R: Print + AllocGlobal>(rt: &R, text: &[u8]) -> Result<()> {
+    let file = read(rt.alloc(), text).map_err(|error| anyhow!("a text is refused: {error}"))?;
+    first_fault(rt.alloc(), &file).map_err(|error| anyhow!("a file is refused: {error}"))?;
+    let (bytes, items) = (text.len(), file.items.len());
+    println!(rt; "{bytes} bytes, {items} items, well-formed")?;
+    Ok(())
 }
 
 fn rounds_of(word: &str) -> Result<u32> {
