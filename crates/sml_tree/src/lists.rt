@@ -1,4 +1,5 @@
-//! Lists that are copied. Apart, since each `?` of a caller lets go all that it holds.
+//! The steps in which lists are copied. They are functions of their own, since each `?` of a caller
+//! has to let go all that the caller holds.
 ghost use Rattle.std.specs.Prelude.{◌≡◌, ◌++◌, ◌∷◌, [], IfOk, Ok, OnOk};
 
 use std::alloc::{AllocError, Allocator};

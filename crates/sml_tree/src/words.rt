@@ -31,7 +31,7 @@ const MARKS: [Row; 3] = [
 ];
 
 // The reserved words, by how many bytes they have.
-const WORDS: [Row; 29] = [
+const OF_TWO: [Row; 4] = [
     Row {
         word: b"DO",
         kind: TokenKind::Do,
@@ -48,6 +48,9 @@ const WORDS: [Row; 29] = [
         word: b"IN",
         kind: TokenKind::In,
     },
+];
+
+const OF_THREE: [Row; 4] = [
     Row {
         word: b"INT",
         kind: TokenKind::IntKind,
@@ -64,6 +67,9 @@ const WORDS: [Row; 29] = [
         word: b"NOT",
         kind: TokenKind::Not,
     },
+];
+
+const OF_FOUR: [Row; 4] = [
     Row {
         word: b"THEN",
         kind: TokenKind::Then,
@@ -80,6 +86,9 @@ const WORDS: [Row; 29] = [
         word: b"FROM",
         kind: TokenKind::From,
     },
+];
+
+const OF_FIVE: [Row; 3] = [
     Row {
         word: b"CLASS",
         kind: TokenKind::Class,
@@ -92,6 +101,9 @@ const WORDS: [Row; 29] = [
         word: b"ENDIF",
         kind: TokenKind::Endif,
     },
+];
+
+const OF_SIX: [Row; 7] = [
     Row {
         word: b"OBJECT",
         kind: TokenKind::Object,
@@ -120,53 +132,60 @@ const WORDS: [Row; 29] = [
         word: b"REMOVE",
         kind: TokenKind::Remove,
     },
-    Row {
-        word: b"MOVE_TO",
-        kind: TokenKind::MoveTo,
-    },
-    Row {
-        word: b"IN_STATE",
-        kind: TokenKind::InState,
-    },
-    Row {
-        word: b"OBJECTSET",
-        kind: TokenKind::ObjectSet,
-    },
-    Row {
-        word: b"PARAMETERS",
-        kind: TokenKind::Parameters,
-    },
-    Row {
-        word: b"IS_OF_CLASS",
-        kind: TokenKind::IsOfClass,
-    },
-    Row {
-        word: b"NOT_IN_STATE",
-        kind: TokenKind::NotInState,
-    },
-    Row {
-        word: b"TERMINATE_ACTION",
-        kind: TokenKind::TerminateAction,
-    },
 ];
+
+const OF_SEVEN: [Row; 1] = [Row {
+    word: b"MOVE_TO",
+    kind: TokenKind::MoveTo,
+}];
+
+const OF_EIGHT: [Row; 1] = [Row {
+    word: b"IN_STATE",
+    kind: TokenKind::InState,
+}];
+
+const OF_NINE: [Row; 1] = [Row {
+    word: b"OBJECTSET",
+    kind: TokenKind::ObjectSet,
+}];
+
+const OF_TEN: [Row; 1] = [Row {
+    word: b"PARAMETERS",
+    kind: TokenKind::Parameters,
+}];
+
+const OF_ELEVEN: [Row; 1] = [Row {
+    word: b"IS_OF_CLASS",
+    kind: TokenKind::IsOfClass,
+}];
+
+const OF_TWELVE: [Row; 1] = [Row {
+    word: b"NOT_IN_STATE",
+    kind: TokenKind::NotInState,
+}];
+
+const OF_SIXTEEN: [Row; 1] = [Row {
+    word: b"TERMINATE_ACTION",
+    kind: TokenKind::TerminateAction,
+}];
 
 // The reserved words of so many bytes.
 fn words_of(length: usize) -> &'static [Row]
     ensures { map row_of result.now ≡ of_length length reserved }
 {
     match length {
-        2 => &WORDS[0..4],
-        3 => &WORDS[4..8],
-        4 => &WORDS[8..12],
-        5 => &WORDS[12..15],
-        6 => &WORDS[15..22],
-        7 => &WORDS[22..23],
-        8 => &WORDS[23..24],
-        9 => &WORDS[24..25],
-        10 => &WORDS[25..26],
-        11 => &WORDS[26..27],
-        12 => &WORDS[27..28],
-        16 => &WORDS[28..29],
+        2 => &OF_TWO,
+        3 => &OF_THREE,
+        4 => &OF_FOUR,
+        5 => &OF_FIVE,
+        6 => &OF_SIX,
+        7 => &OF_SEVEN,
+        8 => &OF_EIGHT,
+        9 => &OF_NINE,
+        10 => &OF_TEN,
+        11 => &OF_ELEVEN,
+        12 => &OF_TWELVE,
+        16 => &OF_SIXTEEN,
         _ => &[],
     }
 }
