@@ -4,6 +4,7 @@ pub mod Chains
 pub mod Choices
 pub mod Codes
 pub mod Complete
+pub mod Ended
 pub mod Faulty
 pub mod Heads
 pub mod Late
