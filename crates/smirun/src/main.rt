@@ -1,22 +1,8 @@
 //! The program `smirun`: state manager domains, run from the command line.
 #![tactic(auto)]
 
-mod check;
-#[cfg(test)]
-mod check_tests;
-mod command_line;
-mod drive;
-mod fault;
-mod help;
-mod judgement;
-mod print;
-#[cfg(test)]
-mod print_tests;
-mod step;
-#[cfg(test)]
-mod tests;
-mod text;
-
+use smi_commands::refuse_words;
+use smi_words::drive::drive;
 use std::env::Env;
 use std::process::ExitCode;
 use std::{env, io};
@@ -24,8 +10,8 @@ use std::{env, io};
 fn main(rt: HostRuntime) -> ExitCode {
     let mut errors = rt.stderr();
     let status = match words(&rt) {
-        Ok(words) => drive::drive(&rt, words.as_slice(), &mut rt.stdout(), &mut errors),
-        Err(error) => drive::refuse_words(&error, &mut errors),
+        Ok(words) => drive(&rt, words.as_slice(), &mut rt.stdout(), &mut errors),
+        Err(error) => refuse_words(&error, &mut errors),
     };
     ExitCode::from(status)
 }

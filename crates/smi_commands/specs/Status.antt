@@ -1,0 +1,29 @@
+-- The exit statuses and the lines of faults.
+use Rattle.std.specs.Prelude.{ℕ, List, ◌++◌, Option, Some, codes}
+use Rattle.std.specs.Fmt.{decimal}
+use Rattle.sml_read.specs.Refusal.{number_of, name_of}
+use Rattle.sml_faults.specs.KindText as check
+use Rattle.smi_commands.specs.declared.fault.Fault.{Fault}
+use Rattle.smi_commands.specs.declared.fault.Fault.TheVariants.{Read, Check, NotYet, Unreadable, TooLong, Output, Memory}
+
+-- the exit status of a fault
+abbrev pub fault_status : Fault → ℕ
+fault_status (Read _ _) = 1
+fault_status (Check _ _) = 1
+fault_status (NotYet _) = 1
+fault_status (Unreadable _) = 1
+fault_status (TooLong _) = 1
+fault_status Output = 1
+fault_status Memory = 3
+
+-- the line of a fault
+abbrev pub fault_line : Fault → Option (List ℕ)
+fault_line (Read file e) = Some (file.now ++ codes " read " ++ decimal (number_of e.kind) ++ codes " " ++ name_of e.kind
+    ++ codes " at " ++ decimal e.offset)
+fault_line (Check file e) = Some (file.now ++ codes " check " ++ decimal (check.number_of e.kind) ++ codes " " ++ check.name_of e.kind
+    ++ codes " " ++ e.name)
+fault_line (NotYet file) = Some (file.now ++ codes " not yet")
+fault_line (Unreadable file) = Some (file.now ++ codes " unreadable")
+fault_line (TooLong file) = Some (file.now ++ codes " too long")
+fault_line Output = Some (codes "output fault")
+fault_line Memory = Some (codes "memory")

@@ -1,0 +1,76 @@
+//! From what is asked to an exit status.
+ghost use Rattle.std.specs.Prelude.{◌≡◌, ◌≢◌, ◌≤◌};
+ghost use Rattle.std.specs.IoError.{error_kind};
+
+use crate::check::run_check;
+use crate::fault::Fault;
+use crate::print::run_print;
+use crate::step::{StepOptions, run_step};
+use std::fs::Files;
+use std::io;
+use std::io::{ErrorKind, Write};
+
+/// The status of a command that did what it was asked.
+pub const DONE: u8 = 0;
+
+/// The status of a command line that is none of the program.
+pub const WRONG_WORDS: u8 = 2;
+
+/// What the program is asked to do.
+#[derive(Drop)]
+pub enum Asked<'a> {
+    /// To check the domain files of these paths.
+    Check(Vec<&'a str>),
+    /// To run a schedule on a domain.
+    Step(StepOptions<'a>),
+    /// To print the canonical text of the domain file of this path.
+    Print(&'a str),
+}
+
+/// Does what is asked, and gives the exit status.
+///
+/// What the command gives goes to `output`, and a fault line (docs/FORMATS.md, "Fault lines and exit
+/// statuses") to `errors`. A fault of `errors` changes nothing, since there is no place left to tell it.
+pub fn perform<R: Files + AllocGlobal, W: Write, E: Write>(
+    rt: &R,
+    asked: &Asked<'_>,
+    output: &mut W,
+    errors: &mut E,
+) -> u8
+    ensures { result ≤ 3 }
+{
+    match asked {
+        Asked::Check(files) => match run_check(rt, files.as_slice(), output) {
+            Ok(status) => status,
+            Err(fault) => fault.tell(errors),
+        },
+        Asked::Print(file) => ended(&run_print(rt, file, output), errors),
+        Asked::Step(options) => ended(&run_step(rt, options, output), errors),
+    }
+}
+
+// The status of a command that did what it was asked, or its fault.
+fn ended<E: Write>(outcome: &Result<(), Fault<'_>>, errors: &mut E) -> u8
+    ensures { result ≤ 3 }
+{
+    match outcome {
+        Ok(()) => DONE,
+        Err(fault) => fault.tell(errors),
+    }
+}
+
+/// Ends a program whose words could not be had: they are not all text, or there was no memory for
+/// them.
+pub fn refuse_words<E: Write>(error: &io::Error, errors: &mut E) -> u8
+    ensures memory { error_kind error.now ≡ ErrorKind.OutOfMemory → result ≡ 3 }
+    ensures not_text { error_kind error.now ≢ ErrorKind.OutOfMemory → result ≡ 2 }
+{
+    if error.kind() == ErrorKind::OutOfMemory {
+        return Fault::Memory.tell(errors);
+    }
+    let _ = writeln!(
+        errors,
+        "error: the words of the command line are not all text"
+    );
+    WRONG_WORDS
+}

@@ -1,0 +1,134 @@
+//! Why a command ends before it is done.
+ghost use Rattle.std.specs.Prelude.{◌≡◌, ◌≢◌, ◌≤◌};
+ghost use Rattle.std.specs.IoError.{error_kind};
+ghost use Rattle.smi_commands.specs.Status.{fault_status};
+
+use crate::judgement::Judgement;
+use smi_core::{CoreError, ScheduleFault};
+use sml_faults::{CheckError, CheckKind};
+use sml_read::{ReadError, ReadErrorKind};
+use std::io::{ErrorKind, Write};
+use std::{fmt, io};
+
+/// Why a command ends before it is done. Its `Display` is the fault line (docs/FORMATS.md, "Fault
+/// lines and exit statuses"), without the line feed. Each text is the word of the command line that
+/// names the file.
+#[derive(Drop)]
+pub enum Fault<'a> {
+    /// The text is no file of the language.
+    Read(&'a str, ReadError),
+    /// The file is not well-formed.
+    Check(&'a str, CheckError),
+    /// The file uses a form that is not executed yet.
+    NotYet(&'a str),
+    /// The file cannot be opened or read.
+    Unreadable(&'a str),
+    /// The schedule is past its limit.
+    TooLong(&'a str),
+    /// Standard output cannot be written.
+    Output,
+    /// Want of memory.
+    Memory,
+}
+
+impl<'a> Fault<'a> {
+    /// The exit status.
+    pub fn status(&self) -> u8
+        ensures status { result ≡ fault_status self.now }
+        ensures range { result ≤ 3 }
+    {
+        match *self {
+            Fault::Read(..) | Fault::Check(..) => 1,
+            Fault::NotYet(_) | Fault::Unreadable(_) | Fault::TooLong(_) | Fault::Output => 1,
+            Fault::Memory => 3,
+        }
+    }
+
+    /// Writes the line of the fault, and gives its status. A fault of the writer changes nothing.
+    pub fn tell<E: Write>(&self, errors: &mut E) -> u8
+        ensures status { result ≡ fault_status self.now }
+        ensures range { result ≤ 3 }
+    {
+        let _ = writeln!(errors, "{self}");
+        self.status()
+    }
+
+    /// The fault of a text that was refused.
+    pub fn of_text(file: &'a str, error: ReadError) -> Fault<'a>
+        ensures memory { error.kind ≡ ReadErrorKind.Memory → result ≡ Fault.Memory }
+        ensures read { error.kind ≢ ReadErrorKind.Memory → result ≡ Fault.Read file.entry error }
+    {
+        match error.kind {
+            ReadErrorKind::Memory => Fault::Memory,
+            _ => Fault::Read(file, error),
+        }
+    }
+
+    /// The fault of a file that has no domain.
+    pub fn of_file(file: &'a str, error: CheckError) -> Fault<'a>
+        ensures memory { error.kind ≡ CheckKind.Memory → result ≡ Fault.Memory }
+        ensures check { error.kind ≢ CheckKind.Memory → result ≡ Fault.Check file.entry error }
+    {
+        match error.kind {
+            CheckKind::Memory => Fault::Memory,
+            _ => Fault::Check(file, error),
+        }
+    }
+
+    /// The fault of a file that could not be opened or read.
+    pub fn of_input(file: &'a str, error: &io::Error) -> Fault<'a>
+        ensures memory { error_kind error.now ≡ ErrorKind.OutOfMemory → result ≡ Fault.Memory }
+        ensures unreadable { error_kind error.now ≢ ErrorKind.OutOfMemory
+            → result ≡ Fault.Unreadable file.entry }
+    {
+        match error.kind() {
+            ErrorKind::OutOfMemory => Fault::Memory,
+            _ => Fault::Unreadable(file),
+        }
+    }
+
+    /// The fault of a core that could not be made for the domain of a file. The numbers of a command line are
+    /// in range, so it is the domain's form that is wrong.
+    pub fn of_core(file: &'a str, error: CoreError) -> Fault<'a>
+        ensures not_yet { error ≡ CoreError.BadConfig → result ≡ Fault.NotYet file.entry }
+        ensures memory { error ≡ CoreError.Memory → result ≡ Fault.Memory }
+    {
+        match error {
+            CoreError::BadConfig => Fault::NotYet(file),
+            CoreError::Memory => Fault::Memory,
+        }
+    }
+
+    /// The fault of a schedule that could not be run to its end.
+    pub fn of_schedule(schedule: &'a str, fault: ScheduleFault) -> Fault<'a>
+        ensures read { fault ≡ ScheduleFault.Read → result ≡ Fault.Unreadable schedule.entry }
+        ensures write { fault ≡ ScheduleFault.Write → result ≡ Fault.Output }
+        ensures too_long { fault ≡ ScheduleFault.TooLong → result ≡ Fault.TooLong schedule.entry }
+        ensures memory { fault ≡ ScheduleFault.Memory → result ≡ Fault.Memory }
+    {
+        match fault {
+            ScheduleFault::Read => Fault::Unreadable(schedule),
+            ScheduleFault::Write => Fault::Output,
+            ScheduleFault::TooLong => Fault::TooLong(schedule),
+            ScheduleFault::Memory => Fault::Memory,
+        }
+    }
+}
+
+impl fmt::Display for Fault<'_> {
+    ghost use Rattle.smi_commands.specs.Status.{fault_line};
+
+    ghost output = { fault_line };
+
+    fn fmt<W: fmt::Write>(&self, f: &mut fmt::Formatter<W>) -> fmt::Result {
+        match self {
+            Fault::Read(file, error) => write!(f, "{file} {}", Judgement::Read(*error)),
+            Fault::Check(file, error) => write!(f, "{file} {}", Judgement::Check(*error)),
+            Fault::NotYet(file) => write!(f, "{file} not yet"),
+            Fault::Unreadable(file) => write!(f, "{file} unreadable"),
+            Fault::TooLong(file) => write!(f, "{file} too long"),
+            Fault::Output => f.write_str("output fault"),
+            Fault::Memory => f.write_str("memory"),
+        }
+    }
+}

@@ -1,0 +1,95 @@
+//! What is told of a domain file.
+ghost use Rattle.std.specs.Prelude.{◌≡◌, ◌≤◌, IfOk};
+ghost use Rattle.sml_tree.specs.Content.{file_content};
+ghost use Rattle.smi_commands.specs.Judgement.{IsJudged, IsJudgedFile, judgement_status};
+
+use sml_faults::{CheckError, CheckKind, first_fault};
+use sml_read::{ReadError, ReadErrorKind, read};
+use sml_tree::file::SmlFile;
+use std::alloc::{AllocError, Allocator, Global};
+use std::fmt;
+
+/// What is told of a domain file. Its `Display` is the line (docs/FORMATS.md, "Fault lines and exit
+/// statuses") without the name of the file.
+#[derive(Clone, Copy)]
+pub enum Judgement {
+    /// The file is well-formed.
+    Good,
+    /// The file cannot be opened or read.
+    Unreadable,
+    /// The text is no file of the language.
+    Read(ReadError),
+    /// The file is not well-formed.
+    Check(CheckError),
+}
+
+impl Judgement {
+    /// The exit status of a command that told nothing worse: 0, and 1 for a refused file.
+    pub fn status(&self) -> u8
+        ensures status { result ≡ judgement_status self.now }
+        ensures range { result ≤ 1 }
+    {
+        match self {
+            Judgement::Good => 0,
+            Judgement::Unreadable | Judgement::Read(_) | Judgement::Check(_) => 1,
+        }
+    }
+}
+
+impl fmt::Display for Judgement {
+    ghost use Rattle.std.specs.Prelude.{Some};
+    ghost use Rattle.smi_commands.specs.Judgement.{judgement_text};
+
+    ghost output = { λ judgement. Some (judgement_text judgement) };
+
+    fn fmt<W: fmt::Write>(&self, f: &mut fmt::Formatter<W>) -> fmt::Result {
+        match self {
+            Judgement::Good => f.write_str("ok"),
+            Judgement::Unreadable => f.write_str("unreadable"),
+            Judgement::Read(ReadError { kind, offset }) => {
+                write!(f, "read {} {} at {offset}", kind.number(), kind.name())
+            }
+            Judgement::Check(CheckError { kind, name }) => write!(
+                f,
+                "check {} {} {}",
+                kind.number(),
+                kind.name(),
+                name.as_str()
+            ),
+        }
+    }
+}
+
+/// Judges the text of a domain file: the tree is read into memory of `alloc`, and the tables are made in
+/// that of `heap`.
+pub fn judge<A: Allocator + Clone>(
+    heap: Global,
+    alloc: A,
+    text: &[u8],
+) -> Result<Judgement, AllocError>
+    ensures { IfOk result (λ j. IsJudged text.now j) }
+{
+    match read(alloc, text) {
+        Ok(file) => judge_file(heap, &file),
+        Err(error) => match error.kind {
+            ReadErrorKind::Memory => Err(AllocError),
+            _ => Ok(Judgement::Read(error)),
+        },
+    }
+}
+
+// Judges a file that was read.
+fn judge_file<A: Allocator + Clone>(
+    heap: Global,
+    file: &SmlFile<A>,
+) -> Result<Judgement, AllocError>
+    ensures { IfOk result (λ j. IsJudgedFile (file_content file.now) j) }
+{
+    match first_fault(heap, file) {
+        Ok(()) => Ok(Judgement::Good),
+        Err(error) => match error.kind {
+            CheckKind::Memory => Err(AllocError),
+            _ => Ok(Judgement::Check(error)),
+        },
+    }
+}

@@ -1,0 +1,83 @@
+//! The command `print`: a domain file goes in, and its canonical text comes out.
+ghost use Rattle.std.specs.Prelude.{List, OnOk};
+ghost use Rattle.sml_text.specs.Written.{Wrote};
+ghost use Rattle.sml_tree.specs.Syntax.{ItemData};
+ghost use Rattle.sml_read.specs.Promise.{IsFileOf};
+ghost use Rattle.sml_print.specs.Items.{file_text};
+
+use crate::fault::Fault;
+use crate::text::load_text;
+use bumpalo::Bump;
+use sml_print::{PrintFault, write_to};
+use std::alloc::{Allocator, Global};
+use std::fs::Files;
+use std::io::{BufWriter, Write};
+
+/// Prints the canonical text of a domain file, which is read and not checked. At a fault of the
+/// output a front of the text is written.
+pub fn run_print<'a, R: Files + AllocGlobal, W: Write>(
+    rt: &R,
+    file: &'a str,
+    output: &mut W,
+) -> Result<(), Fault<'a>> {
+    match load_text(rt, file) {
+        Ok(text) => print_all(rt.alloc(), file, text.as_slice(), output),
+        Err(error) => Err(Fault::of_input(file, &error)),
+    }
+}
+
+// Prints the text to its end.
+fn print_all<'a, W: Write>(
+    heap: Global,
+    file: &'a str,
+    text: &[u8],
+    output: &mut W,
+) -> Result<(), Fault<'a>> {
+    let Ok(mut writer) = BufWriter::new(heap, &mut *output) else {
+        return Err(Fault::Memory);
+    };
+    if let Err(fault) = print_in_arena(heap, file, text, &mut writer) {
+        return Err(fault);
+    }
+    match writer.flush() {
+        Ok(()) => Ok(()),
+        Err(_) => Err(Fault::Output),
+    }
+}
+
+// Prints the text of a tree in an arena.
+fn print_in_arena<'a, W: Write>(
+    heap: Global,
+    file: &'a str,
+    text: &[u8],
+    writer: &mut W,
+) -> Result<(), Fault<'a>> {
+    let mut arena = Bump::new(heap);
+    if let Err(fault) = print_text(&arena, file, text, writer) {
+        return Err(fault);
+    }
+    match arena.reset() {
+        Ok(()) => Ok(()),
+        Err(_) => Err(Fault::Memory),
+    }
+}
+
+// Prints the canonical text of the file that a text says.
+fn print_text<'a, A: Allocator + Clone, W: Write>(
+    alloc: A,
+    file: &'a str,
+    text: &[u8],
+    writer: &mut W,
+) -> Result<(), Fault<'a>>
+    ensures { OnOk result ((said : List ItemData) × IsFileOf text.now said
+        × Wrote (W.contents writer.old) (W.contents writer.new) (file_text said)) }
+{
+    let tree = match sml_read::read(alloc, text) {
+        Ok(tree) => tree,
+        Err(error) => return Err(Fault::of_text(file, error)),
+    };
+    match write_to(&tree, writer) {
+        Ok(()) => Ok(()),
+        Err(PrintFault) => Err(Fault::Output),
+    }
+}

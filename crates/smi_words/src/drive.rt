@@ -1,0 +1,51 @@
+//! From the words of a command line to an exit status.
+ghost use Rattle.std.specs.Prelude.{◌≡◌, ◌≢◌, ◌≤◌, ◌⊎◌};
+ghost use Rattle.clap.specs.Values.{kind_of};
+
+use crate::command_line::parse;
+use clap::error::ErrorKind;
+use smi_commands::{DONE, Fault, WRONG_WORDS, perform};
+use std::fs::Files;
+use std::io::Write;
+
+/// Does what the words ask for, and gives the exit status.
+///
+/// The first word is the program's name. What a command gives, and help that was asked for, goes to
+/// `output`; a fault line (docs/FORMATS.md, "Fault lines and exit statuses") and what is said of a
+/// wrong command line go to `errors`. A fault of `errors` changes nothing, since there is no place
+/// left to tell it.
+pub fn drive<R: Files + AllocGlobal, W: Write, E: Write>(
+    rt: &R,
+    words: &[String],
+    output: &mut W,
+    errors: &mut E,
+) -> u8
+    ensures { result ≤ 3 }
+{
+    match parse(rt.alloc(), words) {
+        Ok(asked) => perform(rt, &asked, output, errors),
+        Err(error) => answer(&error, output, errors),
+    }
+}
+
+// Shows what the parser of command lines has to say: help, or what is wrong with the words.
+fn answer<W: Write, E: Write>(error: &clap::Error, output: &mut W, errors: &mut E) -> u8
+    ensures memory { kind_of error.now ≡ ErrorKind.OutOfMemory → result ≡ 3 }
+    ensures mistake { kind_of error.now ≢ ErrorKind.OutOfMemory → kind_of error.now ≢ ErrorKind.DisplayHelp
+        → kind_of error.now ≢ ErrorKind.DisplayVersion → result ≡ 2 }
+    ensures shown { (kind_of error.now ≡ ErrorKind.DisplayHelp) ⊎ (kind_of error.now ≡ ErrorKind.DisplayVersion)
+        → (result ≡ 0) ⊎ (result ≡ 1) }
+    ensures range { result ≤ 3 }
+{
+    if error.kind() == ErrorKind::OutOfMemory {
+        return Fault::Memory.tell(errors);
+    }
+    if error.use_stderr() {
+        let _ = write!(errors, "{error}");
+        return WRONG_WORDS;
+    }
+    match write!(output, "{error}").and_then(|()| output.flush()) {
+        Ok(()) => DONE,
+        Err(_) => Fault::Output.tell(errors),
+    }
+}

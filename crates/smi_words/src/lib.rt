@@ -1,0 +1,6 @@
+//! The words of a command line: what they ask for, help, and what is said of wrong ones.
+#![tactic(auto)]
+
+mod command_line;
+pub mod drive;
+mod help;
