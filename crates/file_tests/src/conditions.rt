@@ -1,7 +1,7 @@
 //! Instructions that choose, and their conditions.
 
 use crate::example_domains::{CANONICAL, ONE_LINE};
-use crate::texts::{is, other_limit, other_refusal, refused, repeated};
+use crate::texts::{is, other_limit, other_refusal, refused, repeated, same_file};
 use sml_read::read;
 use sml_tree::block::{Block, Instr};
 use sml_tree::cond::{Cond, Scope};
@@ -22,22 +22,6 @@ fn with_condition(alloc: Global, condition: &[u8]) -> Result<Vec<u8>, Fail> {
     )
 }
 
-// Whether two texts are read as the same file.
-fn same_file(alloc: Global, left: &[u8], right: &[u8]) -> bool {
-    match read(alloc, left) {
-        Ok(file) => is_said(alloc, &file, right),
-        Err(_) => false,
-    }
-}
-
-// Whether a text is read as this file.
-fn is_said(alloc: Global, file: &SmlFile<Global>, text: &[u8]) -> bool {
-    match read(alloc, text) {
-        Ok(other) => file.same(&other),
-        Err(_) => false,
-    }
-}
-
 // Whether two conditions are read as the same file.
 fn same(alloc: Global, left: &[u8], right: &[u8]) -> Result<bool, Fail> {
     let left = with_condition(alloc, left)?;
@@ -54,8 +38,8 @@ fn other_answer(alloc: Global, rows: &[(&[u8], bool, &[u8])]) -> Result<Option<u
     Ok(None)
 }
 
-// The first instruction of the first action of a file.
-fn first_instr(file: &SmlFile<Global>) -> Option<&Instr<Global>> {
+/// The first instruction of the first action of a file.
+pub fn first_instr(file: &SmlFile<Global>) -> Option<&Instr<Global>> {
     let Some(Item::Class(class)) = file.items.first() else {
         return None;
     };

@@ -192,21 +192,15 @@ fn strings_have_at_most_255_bytes(rt: HostRuntime) -> Result<(), Fail> {
 
 #[test]
 fn numbers_are_of_64_bits(rt: HostRuntime) -> Result<(), Fail> {
-    let rows = [
+    let rows: [(&[u8], Option<(u8, usize)>); 4] = [
+        (b"class:K parameters:int P=9223372036854775807", None),
+        (b"class:K parameters:int P=-9223372036854775808", None),
         (
-            b"class:K parameters:int P=9223372036854775807".as_slice(),
-            None,
-        ),
-        (
-            b"class:K parameters:int P=-9223372036854775808".as_slice(),
-            None,
-        ),
-        (
-            b"class:K parameters:int P=9223372036854775808".as_slice(),
+            b"class:K parameters:int P=9223372036854775808",
             Some((3, 25)),
         ),
         (
-            b"class:K parameters:int P=-9223372036854775809".as_slice(),
+            b"class:K parameters:int P=-9223372036854775809",
             Some((3, 25)),
         ),
     ];

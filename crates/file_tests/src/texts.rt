@@ -1,6 +1,7 @@
 //! Texts that tests are made of, and what is said of them.
 
 use sml_read::read;
+use sml_tree::file::SmlFile;
 use sml_tree::name::Name;
 use std::alloc::Global;
 use std::test::Fail;
@@ -49,4 +50,20 @@ pub fn other_limit(
         }
     }
     Ok(None)
+}
+
+/// Whether two texts are read as the same file.
+pub fn same_file(alloc: Global, left: &[u8], right: &[u8]) -> bool {
+    match read(alloc, left) {
+        Ok(file) => is_said(alloc, &file, right),
+        Err(_) => false,
+    }
+}
+
+// Whether a text is read as this file.
+fn is_said(alloc: Global, file: &SmlFile<Global>, text: &[u8]) -> bool {
+    match read(alloc, text) {
+        Ok(other) => file.same(&other),
+        Err(_) => false,
+    }
 }

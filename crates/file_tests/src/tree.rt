@@ -1,91 +1,49 @@
 //! Names, words, and trees that are copied and compared.
 
-use sml_tree::block::{Block, Instr};
-use sml_tree::cond::{Cond, Scope};
-use sml_tree::file::{Action, Class, Item, Object, SmlFile, State};
-use sml_tree::literal::{Arg, Literal, Passed};
+use crate::conditions::first_instr;
+use crate::texts::same_file;
+use sml_read::read;
 use sml_tree::name::Name;
 use sml_tree::token_kind::TokenKind;
 use sml_tree::words::{is_reserved, word_kind};
 use std::alloc::Global;
-use std::test::Fail;
-
-fn on() -> Name {
-    Name::from_word(b"on")
-}
-
-// `if ( L in_state ON and not any_in G not_in_state ON ) then do GO (N = 5) L endif`
-fn choice(alloc: Global) -> Result<Instr<Global>, Fail> {
-    let mut states = Vec::new(alloc);
-    states.push(on())?;
-    let tested = Cond::Test {
-        scope: Scope::One,
-        name: Name::from_word(b"L"),
-        negated: false,
-        states,
-    };
-    let mut others = Vec::new(alloc);
-    others.push(on())?;
-    let some = Cond::Test {
-        scope: Scope::Any,
-        name: Name::from_word(b"G"),
-        negated: true,
-        states: others,
-    };
-    let not = Cond::Not(Box::new(alloc, some)?);
-    let cond = Cond::And(Box::new(alloc, tested)?, Box::new(alloc, not)?);
-    let mut args = Vec::new(alloc);
-    args.push(Passed {
-        name: Name::from_word(b"N"),
-        value: Arg::Lit(Literal::Int(5)),
-    })?;
-    let mut instrs = Vec::new(alloc);
-    instrs.push(Instr::Do {
-        action: Name::from_word(b"GO"),
-        args,
-        all: false,
-        target: Name::from_word(b"L"),
-    })?;
-    Ok(Instr::If {
-        cond,
-        yes: Block { instrs },
-        no: Block {
-            instrs: Vec::new(alloc),
-        },
-    })
-}
 
 // A class with one state and one action, and an object of it.
-fn sample(alloc: Global) -> Result<SmlFile<Global>, Fail> {
-    let mut instrs = Vec::new(alloc);
-    instrs.push(choice(alloc)?)?;
-    instrs.push(Instr::MoveTo(on()))?;
-    let mut actions = Vec::new(alloc);
-    actions.push(Action {
-        name: Name::from_word(b"GO"),
-        params: Vec::new(alloc),
-        body: Block { instrs },
-    })?;
-    let mut states = Vec::new(alloc);
-    states.push(State {
-        name: on(),
-        initial: true,
-        dead: false,
-        actions,
-    })?;
-    let mut items = Vec::new(alloc);
-    items.push(Item::Class(Class {
-        name: Name::from_word(b"LAMP"),
-        associated: false,
-        params: Vec::new(alloc),
-        states,
-    }))?;
-    items.push(Item::Object(Object {
-        name: Name::from_word(b"L"),
-        class: Name::from_word(b"lamp"),
-    }))?;
-    Ok(SmlFile { items })
-}
+const CHOICE: &[u8] = b"class: LAMP
+  state: on /initial_state
+    action: GO
+      if ( L in_state ON and not any_in G not_in_state ON ) then
+        do GO (N = 5) L
+      endif
+      move_to on
+object: L is_of_class lamp
+";
+
+// Every form of a tree, each arm that takes memory among them.
+const EVERY_FORM: &[u8] = b"class: DEVICE /associated
+  parameters: int N = 3, string P = \"x\"
+  state: OFF /initial_state
+    action: SWITCH (int T, string M = \"none\")
+  state: ON /dead_state
+class: BOSS
+  parameters: int N = -3
+  state: IDLE
+    action: GO (int T = 5)
+      set N = T
+      set P = \"a b\"
+      do SWITCH (T = 5, M = \"c\", N = T) D
+      do SWITCH all_in G
+      if ( D in_state { ON, OFF } or all_in G not_in_state ON and not any_in G in_state OFF ) then
+        if ( D in_state ON ) then
+          move_to IDLE
+        endif
+      else
+        terminate_action /state=IDLE
+      endif
+object: D is_of_class DEVICE
+objectset: G { D, E }
+objectset: H { }
+";
 
 #[test]
 fn names_are_folded(rt: HostRuntime) {
@@ -94,24 +52,36 @@ fn names_are_folded(rt: HostRuntime) {
     assert!(rt; Name::from_word(b"A") < Name::from_word(b"A1"));
 }
 
-#[test]
-fn copies_are_the_same(rt: HostRuntime) -> Result<(), Fail> {
-    let alloc = rt.alloc();
-    let file = sample(alloc)?;
-    let copy = file.copy_in(alloc)?;
-    assert!(rt; copy.same(&file));
-    let empty: SmlFile<Global> = SmlFile {
-        items: Vec::new(alloc),
-    };
-    assert!(rt; !copy.same(&empty));
-    Ok(())
+// Whether the file of a text is the same as its copy.
+fn is_copied(alloc: Global, text: &[u8]) -> bool {
+    match read(alloc, text) {
+        Ok(file) => match file.copy_in(alloc) {
+            Ok(copy) => copy.same(&file),
+            Err(_) => false,
+        },
+        Err(_) => false,
+    }
 }
 
 #[test]
-fn an_if_is_one_deep(rt: HostRuntime) -> Result<(), Fail> {
-    let instr = choice(rt.alloc())?;
-    assert_eq!(rt; instr.depth(), 1);
-    Ok(())
+fn copies_are_the_same(rt: HostRuntime) {
+    for text in [CHOICE, EVERY_FORM, b"".as_slice()] {
+        assert!(rt; is_copied(rt.alloc(), text));
+    }
+    for text in [CHOICE, EVERY_FORM] {
+        assert!(rt; !same_file(rt.alloc(), text, b""));
+    }
+}
+
+// How deep `if`s stand in one another in the first instruction of the first action.
+fn depth_of(alloc: Global, text: &[u8]) -> Option<u32> {
+    let file = read(alloc, text).ok()?;
+    Some(first_instr(&file)?.depth())
+}
+
+#[test]
+fn an_if_is_one_deep(rt: HostRuntime) {
+    assert!(rt; depth_of(rt.alloc(), CHOICE) == Some(1));
 }
 
 #[test]
