@@ -1,5 +1,5 @@
 -- What a block's instructions and the program that it stands for have in common.
-use Rattle.std.proofs.Common.{◌≡◌, ◌∙◌, sym, ap, subst, refl, ℕ, suc, zero, ◌+◌, ◌<◌, List, [], ◌∷◌, ◌++◌, length, drop, add-one, Option, Some, None, arith}
+use Rattle.std.proofs.Common.{◌≡◌, ◌∙◌, sym, ap, subst, refl, ℕ, suc, zero, ◌+◌, List, [], ◌∷◌, length, drop, add-one, Option, Some, None, arith}
 use Rattle.std.specs.Prelude.{slice_get, All, IsSomeAnd}
 use Rattle.std.specs.Option.{option_and_then, option_map}
 use Rattle.sml_domain.specs.Domain.{Domain, Class, Param, Signature}
@@ -8,7 +8,7 @@ use Rattle.sml_domain.specs.declared.instr.Instr.TheVariants as numbered
 use Rattle.sml_domain.specs.declared.instr.Target.TheVariants as target
 use Rattle.sml_domain.specs.Program.{Program, Nothing, SetThen, SendThen, SendNoneThen, IfThen, EndIn, TerminateIn, ToOne, ToMembers}
 use Rattle.sml_domain.specs.Places.{Shows, left_at, instrs_at}
-use Rattle.sml_domain.specs.Trees.{with_instr, onto, trees_of}
+use Rattle.sml_domain.specs.Trees.{onto, trees_of}
 use Rattle.sml_domain.specs.Fits.{ProgramFits}
 use Rattle.sml_domain.specs.Lookups.{class_at, block_at, signature_in, tree_of_block}
 use Rattle.sml_domain.specs.Sound.{IsSound, FitsClass, TakesParams}

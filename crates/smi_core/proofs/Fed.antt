@@ -82,3 +82,23 @@ module _ {S : Type 0} (makes : S → List ℕ → List ℕ → S → Type 0) whe
   pub fed_lines : (m : S) (line xs ys out : List ℕ) (m2 : S) (left : List ℕ) → Feeds makes m line xs out m2 left → FedLines m (onto line (lines_of (xs ++ ys))) out m2
   fed_lines m line [] ys out m2 left p = ([], onto line (lines_of ys), refl, (p.0, p.1))
   fed_lines m line (x ∷ xs) ys out m2 left p = fed_lines_at (x == 10) m line x xs ys out m2 left (λ n l o f. fed_lines n l xs ys o m2 left f) p
+
+  -- the lines that were ended among all the bytes are all but the last
+  abbrev pub FedAll : S → List (List ℕ) → List ℕ → List ℕ → S → Type 0
+  FedAll m all left out m2 = (ls : List (List ℕ)) × (all ≡ ls ++ left ∷ []) × Outputs makes m ls out m2
+
+  fed_all_at : (b : Bool) (m : S) (line : List ℕ) (x : ℕ) (xs out : List ℕ) (m2 : S) (left : List ℕ)
+      → ((n : S) (l o : List ℕ) → Feeds makes n l xs o m2 left → FedAll n (onto l (lines_of xs)) left o m2)
+      → cond b ((mid : S) × (one : List ℕ) × (rest : List ℕ) × makes m line one mid × Feeds makes mid [] xs rest m2 left × (out ≡ one ++ rest)) (Feeds makes m (line ++ x ∷ []) xs out m2 left)
+      → FedAll m (onto line (cond b ([] ∷ lines_of xs) (onto (x ∷ []) (lines_of xs)))) left out m2
+  fed_all_at true m line x xs out m2 left go p =
+      let k = go p.0 [] p.2 p.4 in (
+        line ∷ k.0,
+        ap (λ l. l ∷ lines_of xs) (append-nil line) ∙ ap (λ ls. line ∷ ls) (sym (onto_nothing xs) ∙ k.1),
+        (p.0, p.1, p.2, p.3, k.2, p.5),
+      )
+  fed_all_at false m line x xs out m2 left go p = subst (λ ls. FedAll m ls left out m2) (onto_front line x (lines_of xs)) (go m (line ++ x ∷ []) out p)
+
+  pub fed_all : (m : S) (line xs out : List ℕ) (m2 : S) (left : List ℕ) → Feeds makes m line xs out m2 left → FedAll m (onto line (lines_of xs)) left out m2
+  fed_all m line [] out m2 left p = ([], ap (λ l. l ∷ []) (append-nil line ∙ sym p.2), (p.0, p.1))
+  fed_all m line (x ∷ xs) out m2 left p = fed_all_at (x == 10) m line x xs out m2 left (λ n l o f. fed_all n l xs o m2 left f) p

@@ -1,9 +1,9 @@
 -- The numbers that a domain's look-ups give are within its lists.
-use Rattle.std.proofs.Common.{◌≡◌, ◌<◌, ◌+◌, ℕ, zero, List, [], ◌∷◌, ◌++◌, length, Some, sym, subst, arith}
+use Rattle.std.proofs.Common.{◌≡◌, ◌<◌, ℕ, zero, List, [], ◌∷◌, ◌++◌, length, Some, sym, subst, arith}
 use Rattle.std.specs.Prelude.{slice_get, suc, All}
 use Rattle.std.proofs.lemmas.List.Quantifiers.{position-Some}
 use Rattle.std.proofs.lemmas.Option.{slice_get_within, get_or_from_slice_get}
-use Rattle.sml_domain.specs.Domain.{Domain, Object}
+use Rattle.sml_domain.specs.Domain.{Domain}
 use Rattle.sml_domain.specs.Lookups.{names_object}
 use Rattle.smi_core.specs.declared.instr.Instr.{Instr}
 use Rattle.smi_core.specs.declared.instr.Instr.TheVariants.{Do, MoveTo}

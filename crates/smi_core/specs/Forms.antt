@@ -1,6 +1,6 @@
 -- The forms that are executed now: classes without devices and parameters, actions without parameters, requests without
 -- arguments to one object, and moves to a state.
-use Rattle.std.specs.Prelude.{ℕ, Bool, true, false, ◌&&◌, not, List, [], ◌∷◌}
+use Rattle.std.specs.Prelude.{Bool, true, false, ◌&&◌, not, List, [], ◌∷◌}
 use Rattle.std.specs.List.{list_all}
 use Rattle.sml_domain.specs.declared.instr.Instr.{Instr}
 use Rattle.sml_domain.specs.declared.instr.Instr.TheVariants.{Set, Send, SendNone, If, MoveTo, Terminate}

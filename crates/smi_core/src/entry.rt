@@ -25,15 +25,6 @@ pub struct Request {
     pub args: Args,
 }
 
-/// A request on its way: what it asks, and the number under which it was accepted.
-#[derive(Clone, Copy, Debug, Eq, PartialEq)]
-pub struct Envelope {
-    pub sender: Sender,
-    pub number: u64,
-    pub action: ActionId,
-    pub args: Args,
-}
-
 /// What became of a post.
 #[derive(Clone, Copy, Debug, Eq, PartialEq)]
 pub enum Verdict {

@@ -1,8 +1,10 @@
-//! Why a step or a core is refused.
+//! Why a step, a core or a line is refused, and a schedule ends before its end.
 
 ghost use Rattle.std.specs.Prelude.{Some};
-ghost use Rattle.smi_core.specs.Errors.{step_error_text, core_error_text};
+ghost use Rattle.smi_core.specs.Errors.{step_error_text, core_error_text, line_error_text, schedule_fault_text};
 
+use crate::line::LineError;
+use crate::schedule::ScheduleFault;
 use std::error::Error;
 use std::fmt;
 
@@ -66,6 +68,34 @@ impl fmt::Display for CoreError {
     }
 }
 
+impl fmt::Display for LineError {
+    ghost output = { λ e. Some (line_error_text e) };
+
+    fn fmt<W: fmt::Write>(&self, f: &mut fmt::Formatter<W>) -> fmt::Result {
+        f.write_str(match *self {
+            LineError::BadLine => "the line is no step",
+            LineError::Memory => "want of memory",
+        })
+    }
+}
+
+impl fmt::Display for ScheduleFault {
+    ghost output = { λ e. Some (schedule_fault_text e) };
+
+    fn fmt<W: fmt::Write>(&self, f: &mut fmt::Formatter<W>) -> fmt::Result {
+        f.write_str(match *self {
+            ScheduleFault::Read => "the schedule can't be read",
+            ScheduleFault::Write => "the output can't be written",
+            ScheduleFault::TooLong => "the schedule has more than 16777216 bytes",
+            ScheduleFault::Memory => "want of memory",
+        })
+    }
+}
+
 impl Error for StepError {}
 
 impl Error for CoreError {}
+
+impl Error for LineError {}
+
+impl Error for ScheduleFault {}

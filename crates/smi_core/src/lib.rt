@@ -19,13 +19,13 @@ mod session;
 mod step;
 mod walk;
 
-pub use entry::{ActionEnd, Args, Entry, Envelope, Move, Request, Sender, Value, Verdict};
+pub use entry::{ActionEnd, Args, Entry, Move, Request, Sender, Value, Verdict};
 pub use error::{CoreError, StepError};
 pub use journal::Journal;
 pub use line::{LineError, read_step};
 pub use machine::Core;
 pub use runs::run;
-pub use schedule::{ScheduleFault, run_schedule};
+pub use schedule::{Input, ScheduleFault, run_schedule};
 pub use schedule_laws::every_schedule;
 pub use session::SessionId;
 pub use step::{Answer, Step};

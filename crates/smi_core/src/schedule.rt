@@ -2,7 +2,7 @@
 ghost use Rattle.std.specs.Prelude.{◌≡◌, ℕ, List, [], ◌++◌, ◌∷◌, ◌<◌, ◌≤◌, ◌⊎◌, length, take, drop, Option, IfSome, IfNone, OnOk, OnErr, Ok, Err, Some, codes};
 ghost use Rattle.std.specs.Io.KnownBytes.{Appends, Consumes, IsAtEnd, Keeps};
 ghost use Rattle.sml_text.specs.Written.{Told, StaysDue};
-ghost use Rattle.smi_core.specs.Feeds.{Outputs, IsPending, Went, Halted, FirstLines, lines_of};
+ghost use Rattle.smi_core.specs.Feeds.{Outputs, IsPending, Torn, Went, Halted, FirstLines, WholeLines, lines_of};
 ghost use Rattle.smi_core.specs.Line.{LineReads};
 ghost use Rattle.smi_core.specs.Output.{Writes, LineWrites, refused_text};
 
@@ -39,7 +39,7 @@ impl LineFault {
     fn of_schedule(self) -> ScheduleFault
         ensures read { result ≡ ScheduleFault.Read → ⊥ }
         ensures too_long { result ≡ ScheduleFault.TooLong → ⊥ }
-        ensures write { result ≡ ScheduleFault.Write → self ≡ LineFault.Write }
+        ensures write { (result ≡ ScheduleFault.Write → self ≡ LineFault.Write) × (self ≡ LineFault.Write → result ≡ ScheduleFault.Write) }
     {
         match self {
             LineFault::Write => ScheduleFault::Write,
@@ -131,7 +131,7 @@ fn step_line<W: Sink>(core: &mut Core, writer: &mut W, step: &Step) -> Result<()
     ensures ok { OnOk result ((out : List ℕ) × Writes core.old (Ok (Some step.now)) out core.new × Appends (W.contents writer.old) (W.contents writer.new) out) }
     ensures err { OnErr result
         (((core.new ≡ core.old) × Appends (W.contents writer.old) (W.contents writer.new) [])
-        ⊎ ((out : List ℕ) × (unwritten : List ℕ) × Writes core.old (Ok (Some step.now)) (out ++ unwritten) core.new × Appends (W.contents writer.old) (W.contents writer.new) out)) }
+        ⊎ ((result ≡ Err LineFault.Write) × (out : List ℕ) × (unwritten : List ℕ) × Writes core.old (Ok (Some step.now)) (out ++ unwritten) core.new × Appends (W.contents writer.old) (W.contents writer.new) out)) }
     ensures write { result ≡ Err LineFault.Write → W.has_refused writer.new }
 {
     let mut failed = false;
@@ -147,7 +147,7 @@ fn step_line<W: Sink>(core: &mut Core, writer: &mut W, step: &Step) -> Result<()
 // Writes that a line is no step, or the first part of that.
 fn bad_line<W: Sink>(writer: &mut W) -> Result<(), LineFault>
     ensures ok { OnOk result (Appends (W.contents writer.old) (W.contents writer.new) (refused_text (codes "BadLine"))) }
-    ensures err { OnErr result ((out : List ℕ) × (unwritten : List ℕ) × (refused_text (codes "BadLine") ≡ out ++ unwritten) × Appends (W.contents writer.old) (W.contents writer.new) out) }
+    ensures err { OnErr result ((result ≡ Err LineFault.Write) × (out : List ℕ) × (unwritten : List ℕ) × (refused_text (codes "BadLine") ≡ out ++ unwritten) × Appends (W.contents writer.old) (W.contents writer.new) out) }
     ensures write { result ≡ Err LineFault.Write → W.has_refused writer.new }
 {
     let mut failed = false;
@@ -167,7 +167,7 @@ fn make_line<W: Sink>(
     ensures ok { OnOk result ((out : List ℕ) × Writes core.old asked out core.new × Appends (W.contents writer.old) (W.contents writer.new) out) }
     ensures err { OnErr result
         (((core.new ≡ core.old) × Appends (W.contents writer.old) (W.contents writer.new) [])
-        ⊎ ((out : List ℕ) × (unwritten : List ℕ) × Writes core.old asked (out ++ unwritten) core.new × Appends (W.contents writer.old) (W.contents writer.new) out)) }
+        ⊎ ((result ≡ Err LineFault.Write) × (out : List ℕ) × (unwritten : List ℕ) × Writes core.old asked (out ++ unwritten) core.new × Appends (W.contents writer.old) (W.contents writer.new) out)) }
     ensures write { result ≡ Err LineFault.Write → W.has_refused writer.new }
 {
     match asked {
@@ -187,8 +187,7 @@ fn end_line<W: Sink>(
     ensures ok { (line : List ℕ) → IsPending pending.old.kept.items pending.old.over line → OnOk result
         ((out : List ℕ) × LineWrites core.old line out core.new × Appends (W.contents writer.old) (W.contents writer.new) out × IsPending pending.new.kept.items pending.new.over []) }
     ensures err { (line : List ℕ) → IsPending pending.old.kept.items pending.old.over line → OnErr result
-        (((core.new ≡ core.old) × Appends (W.contents writer.old) (W.contents writer.new) [])
-        ⊎ ((out : List ℕ) × (unwritten : List ℕ) × LineWrites core.old line (out ++ unwritten) core.new × Appends (W.contents writer.old) (W.contents writer.new) out)) }
+        (Torn LineWrites core.old line (result ≡ Err LineFault.Write) (W.contents writer.old) (W.contents writer.new) core.new) }
     ensures write { result ≡ Err LineFault.Write → W.has_refused writer.new }
 {
     let asked = pending.read();
@@ -208,7 +207,7 @@ fn feed_byte<W: Sink>(
     ensures ok { (line : List ℕ) → IsPending pending.old.kept.items pending.old.over line → OnOk result
         (Went LineWrites core.old line (b ∷ []) (W.contents writer.old) (W.contents writer.new) core.new pending.new.kept.items pending.new.over) }
     ensures err { (line : List ℕ) → IsPending pending.old.kept.items pending.old.over line → OnErr result
-        (Halted LineWrites core.old line (b ∷ []) (W.contents writer.old) (W.contents writer.new) core.new) }
+        (Halted LineWrites core.old line (b ∷ []) (result ≡ Err LineFault.Write) (W.contents writer.old) (W.contents writer.new) core.new) }
     ensures write { result ≡ Err LineFault.Write → W.has_refused writer.new }
 {
     if b == b'\n' {
@@ -229,7 +228,7 @@ fn feed_chunk<W: Sink>(
     ensures ok { (line : List ℕ) → IsPending pending.old.kept.items pending.old.over line → OnOk result
         (Went LineWrites core.old line chunk.now (W.contents writer.old) (W.contents writer.new) core.new pending.new.kept.items pending.new.over) }
     ensures err { (line : List ℕ) → IsPending pending.old.kept.items pending.old.over line → OnErr result
-        (Halted LineWrites core.old line chunk.now (W.contents writer.old) (W.contents writer.new) core.new) }
+        (Halted LineWrites core.old line chunk.now (result ≡ Err LineFault.Write) (W.contents writer.old) (W.contents writer.new) core.new) }
     ensures write { result ≡ Err LineFault.Write → W.has_refused writer.new }
 {
     for b in chunk {
@@ -240,20 +239,23 @@ fn feed_chunk<W: Sink>(
     Ok(())
 }
 
-// What gives bytes, some at a call, and knows whether it has failed to.
-trait Source {
+/// What gives bytes, some at a call, and knows whether it has failed to. Every reader is one.
+///
+/// A reader's own contract doesn't say that it failed. So a function over any `Input` can say of a
+/// fault that it came from there and was not made up.
+pub trait Input {
     ghost remaining: { Self → Option (List ℕ) };
 
     ghost has_failed: { Self → Type 0 };
 
-    // The next bytes: so many at the front of the buffer. None where the source failed.
+    /// The next bytes: so many at the front of the buffer. None where the input failed.
     fn fetch(&mut self, buf: &mut [u8]) -> Option<usize>
         ensures some { IfSome result (λ n. (n ≤ length buf.new) × Consumes (remaining self.old) (remaining self.new) (take n buf.new)
             × (n ≡ 0 → 0 < length buf.new → IsAtEnd (remaining self.new))) }
         ensures none { IfNone result (has_failed self.new × Keeps (remaining self.old) (remaining self.new)) };
 }
 
-impl<R: Read> Source for R {
+impl<R: Read> Input for R {
     ghost remaining = { R.remaining };
 
     ghost has_failed = { λ _. Unit {0} };
@@ -266,21 +268,30 @@ impl<R: Read> Source for R {
     }
 }
 
-// Runs a schedule from a source. `Read` is answered only of a source that has failed, `Write` only of
-// a sink that has refused.
-fn run_from<S: Source, W: Sink>(
+/// Runs a schedule: reads it to its end, makes the steps of its lines in order, and writes what they
+/// write. (docs/FORMATS.md, "Schedules".)
+///
+/// Lines that are no steps, and steps that are refused, are told in the output and end nothing. `Read`
+/// comes where the reader failed, `Write` where the writer failed or took nothing, `TooLong` past
+/// 16,777,216 bytes, `Memory` where a growth was refused, of a step too. After a fault the first lines
+/// of what was read are made, and a front of what they write is written. It is read in parts of 4,096
+/// bytes; each turn reads a byte or ends. Memory is taken for one line and for the journal.
+pub fn run_schedule<R: Input, W: Sink>(
     alloc: Global,
     core: &mut Core,
-    source: &mut S,
+    reader: &mut R,
     writer: &mut W,
 ) -> Result<(), ScheduleFault>
-    ensures ok { OnOk result ((text : List ℕ) × Consumes (S.remaining source.old) (S.remaining source.new) text × IsAtEnd (S.remaining source.new) × (length text ≤ 16777216)
+    ensures ok { OnOk result ((text : List ℕ) × Consumes (R.remaining reader.old) (R.remaining reader.new) text × IsAtEnd (R.remaining reader.new) × (length text ≤ 16777216)
         × ((out : List ℕ) × Appends (W.contents writer.old) (W.contents writer.new) out × Outputs LineWrites core.old (lines_of text) out core.new)) }
-    ensures err { OnErr result ((text : List ℕ) × Consumes (S.remaining source.old) (S.remaining source.new) text
-        × FirstLines LineWrites core.old text (W.contents writer.old) (W.contents writer.new) core.new
+    ensures err { OnErr result ((text : List ℕ) × Consumes (R.remaining reader.old) (R.remaining reader.new) text
+        × FirstLines LineWrites core.old text (result ≡ Err ScheduleFault.Write) (W.contents writer.old) (W.contents writer.new) core.new
         × ((length text ≤ 16777216) ⊎ (result ≡ Err ScheduleFault.TooLong))) }
-    ensures too_long { result ≡ Err ScheduleFault.TooLong → (text : List ℕ) × Consumes (S.remaining source.old) (S.remaining source.new) text × (16777216 < length text) }
-    ensures read { result ≡ Err ScheduleFault.Read → S.has_failed source.new }
+    ensures too_long { result ≡ Err ScheduleFault.TooLong → (text : List ℕ) × (more : List ℕ) × Consumes (R.remaining reader.old) (R.remaining reader.new) (text ++ more) × (16777216 < length (text ++ more))
+        × WholeLines LineWrites core.old text (W.contents writer.old) (W.contents writer.new) core.new }
+    ensures cut { result ≡ Err ScheduleFault.Read → (text : List ℕ) × Consumes (R.remaining reader.old) (R.remaining reader.new) text
+        × WholeLines LineWrites core.old text (W.contents writer.old) (W.contents writer.new) core.new }
+    ensures read { result ≡ Err ScheduleFault.Read → R.has_failed reader.new }
     ensures write { result ≡ Err ScheduleFault.Write → W.has_refused writer.new }
 {
     let mut buf = [0u8; 4096];
@@ -290,7 +301,7 @@ fn run_from<S: Source, W: Sink>(
     };
     let mut total = 0usize;
     'reads: loop {
-        let Some(n) = source.fetch(&mut buf) else {
+        let Some(n) = reader.fetch(&mut buf) else {
             return Err(ScheduleFault::Read);
         };
         if n == 0 {
@@ -308,28 +319,4 @@ fn run_from<S: Source, W: Sink>(
         Ok(()) => Ok(()),
         Err(fault) => Err(fault.of_schedule()),
     }
-}
-
-/// Runs a schedule: reads it to its end, makes the steps of its lines in order, and writes what they
-/// write. (docs/FORMATS.md, "Schedules".)
-///
-/// Lines that are no steps, and steps that are refused, are told in the output and end nothing. `Read`
-/// comes where the reader failed, `Write` where the writer failed or took nothing, `TooLong` past
-/// 16,777,216 bytes, `Memory` where a growth was refused, of a step too. After a fault the first lines
-/// of what was read are made, and a front of what they write is written. It is read in parts of 4,096
-/// bytes; each turn reads a byte or ends. Memory is taken for one line and for the journal.
-pub fn run_schedule<R: Read, W: Write>(
-    alloc: Global,
-    core: &mut Core,
-    reader: &mut R,
-    writer: &mut W,
-) -> Result<(), ScheduleFault>
-    ensures ok { OnOk result ((text : List ℕ) × Consumes (R.remaining reader.old) (R.remaining reader.new) text × IsAtEnd (R.remaining reader.new) × (length text ≤ 16777216)
-        × ((out : List ℕ) × Appends (W.contents writer.old) (W.contents writer.new) out × Outputs LineWrites core.old (lines_of text) out core.new)) }
-    ensures err { OnErr result ((text : List ℕ) × Consumes (R.remaining reader.old) (R.remaining reader.new) text
-        × FirstLines LineWrites core.old text (W.contents writer.old) (W.contents writer.new) core.new
-        × ((length text ≤ 16777216) ⊎ (result ≡ Err ScheduleFault.TooLong))) }
-    ensures too_long { result ≡ Err ScheduleFault.TooLong → (text : List ℕ) × Consumes (R.remaining reader.old) (R.remaining reader.new) text × (16777216 < length text) }
-{
-    run_from(alloc, core, reader, writer)
 }

@@ -1,5 +1,5 @@
 //! The canonical text of a file.
-ghost use Rattle.std.specs.Prelude.{◌≡◌, IfOk, OnOk, OnErr};
+ghost use Rattle.std.specs.Prelude.{◌≡◌, Some, IfOk, OnOk, OnErr, codes};
 ghost use Rattle.sml_text.specs.Written.{Wrote, WroteFront};
 ghost use Rattle.sml_tree.specs.Content.{file_content};
 ghost use Rattle.sml_print.specs.Items.{file_text};
@@ -8,39 +8,39 @@ use crate::item::tell_items;
 use sml_text::writing::Sink;
 use sml_tree::file::SmlFile;
 use std::alloc::{AllocError, Allocator, Global};
-use std::io::Write;
+use std::error::Error;
+use std::fmt;
 
 /// The writer failed, or took no byte of some.
 #[derive(Clone, Copy, Debug, PartialEq, Eq)]
 pub struct PrintFault;
 
-// Writes the text. A fault is answered only of a sink that has refused.
-fn write_into<S: Sink, A: Allocator + Clone>(
-    file: &SmlFile<A>,
-    sink: &mut S,
-) -> Result<(), PrintFault>
-    ensures ok { OnOk result (Wrote (S.contents sink.old) (S.contents sink.new) (file_text (file_content file.now))) }
-    ensures err { OnErr result (WroteFront (S.contents sink.old) (S.contents sink.new) (file_text (file_content file.now))) }
-    ensures refused { OnErr result (S.has_refused sink.new) }
-{
-    let mut failed = false;
-    tell_items(sink, &mut failed, &file.items);
-    if failed { Err(PrintFault) } else { Ok(()) }
+impl fmt::Display for PrintFault {
+    ghost output = { λ _. Some (codes "the writer failed, or took no byte of some") };
+
+    fn fmt<W: fmt::Write>(&self, f: &mut fmt::Formatter<W>) -> fmt::Result {
+        f.write_str("the writer failed, or took no byte of some")
+    }
 }
+
+impl Error for PrintFault {}
 
 /// Writes the canonical text of a file (docs/FORMATS.md, "Canonical text").
 ///
-/// After a fault a front of the text is written. The text goes out in many small parts, a word or a
-/// sign at a time, so that a writer to a file should be buffered. No memory is taken; the time grows
-/// with the length of the text.
-pub fn write_to<A: Allocator + Clone, W: Write>(
+/// Any `Write` may be the writer, since each is a `Sink`. After a fault a prefix of the text is
+/// written. The text goes out in many small parts, a word or a sign at a time, so that a writer to a
+/// file should be buffered. No memory is taken; the time grows with the length of the text.
+pub fn write_to<A: Allocator + Clone, W: Sink>(
     file: &SmlFile<A>,
     writer: &mut W,
 ) -> Result<(), PrintFault>
     ensures ok { OnOk result (Wrote (W.contents writer.old) (W.contents writer.new) (file_text (file_content file.now))) }
     ensures err { OnErr result (WroteFront (W.contents writer.old) (W.contents writer.new) (file_text (file_content file.now))) }
+    ensures refused { OnErr result (W.has_refused writer.new) }
 {
-    write_into(file, writer)
+    let mut failed = false;
+    tell_items(writer, &mut failed, &file.items);
+    if failed { Err(PrintFault) } else { Ok(()) }
 }
 
 /// The canonical text of a file (docs/FORMATS.md, "Canonical text").

@@ -1,5 +1,5 @@
 -- The tokens of a text, step by step.
-use Rattle.std.proofs.Common.{◌≡◌, ◌≤◌, ◌<◌, ℕ, zero, suc, ◌+◌, List, [], ◌∷◌, ◌++◌, refl, ap, sym, ◌∙◌, subst, arith, length, take, drop, length-drop, length-take, take-append-drop, Option, Some, None, true, false, Bool, ◌⊎◌, inl, inr, ◌==◌}
+use Rattle.std.proofs.Common.{◌≡◌, ◌≤◌, ◌<◌, ℕ, zero, suc, ◌+◌, ◌-◌, List, [], ◌∷◌, ◌++◌, refl, ap, sym, ◌∙◌, subst, arith, length, take, drop, drop-drop, length-drop, length-take, take-append-drop, Option, Some, None, true, false, Bool, ◌⊎◌, inl, inr, ◌==◌}
 use Rattle.std.proofs.lemmas.Bool.Decides.{nat_tests}
 use Rattle.sml_text.specs.declared.source.Source.{Source}
 use Rattle.sml_text.specs.declared.front.Front.{Front}
@@ -243,3 +243,7 @@ one_bad source text bad other h g = go (sym (bad_read source 0 text bad h) ∙ b
   where
     go : Some bad ≡ Some other → bad ≡ other
     go e = cc e
+
+-- what stands so many bytes on
+pub dropped_on : (begin at size : ℕ) (text rest : List ℕ) → begin ≤ at → rest ≡ drop (at - begin) text → drop size rest ≡ drop ((at + size) - begin) text
+dropped_on begin at size text rest on e = ap (drop size) e ∙ (drop-drop size (at - begin) text ∙ ap (λ n. drop n text) (omega (arith, on)))

@@ -1,14 +1,26 @@
 //! The writing of bytes.
 
-ghost use Rattle.std.specs.Prelude.{◌≡◌, ◌≤◌, ◌<◌, ℕ, List, [], Option, length, take, IfSome, IfNone, IsOk, OnOk, OnErr};
+ghost use Rattle.std.specs.Prelude.{◌≡◌, ◌≤◌, ◌<◌, ℕ, List, [], Option, length, take, Some, IfSome, IfNone, IsOk, OnOk, OnErr, codes};
 ghost use Rattle.std.specs.Io.KnownBytes.{Appends};
 ghost use Rattle.sml_text.specs.Written.{Told, Wrote, WroteFront, StaysDue};
 
+use std::error::Error;
+use std::fmt;
 use std::io::Write;
 
 /// The writer failed, or took no byte of some.
 #[derive(Clone, Copy, Debug, PartialEq, Eq)]
 pub struct WriteFault;
+
+impl fmt::Display for WriteFault {
+    ghost output = { λ _. Some (codes "the writer failed, or took no byte of some") };
+
+    fn fmt<W: fmt::Write>(&self, f: &mut fmt::Formatter<W>) -> fmt::Result {
+        f.write_str("the writer failed, or took no byte of some")
+    }
+}
+
+impl Error for WriteFault {}
 
 /// What takes bytes, some at a call, and knows whether it has refused to. Every writer is one.
 ///
@@ -19,8 +31,9 @@ pub trait Sink {
 
     ghost has_refused: { Self → Type 0 };
 
-    /// Offers the bytes in one call. None where the sink refused: it failed or took none of some.
+    /// Offers the bytes in one call, one at least. None where the sink refused: it failed or took none.
     fn offer(&mut self, bytes: &[u8]) -> Option<usize>
+        requires { 0 < length bytes.now }
         ensures some { IfSome result (λ n. (0 < n) × (n ≤ length bytes.now)
             × Appends (contents self.old) (contents self.new) (take n bytes.now)) }
         ensures none { IfNone result (has_refused self.new

@@ -1,12 +1,13 @@
 -- The laws of the grammar.
-use Rattle.std.specs.Prelude.{◌≡◌, ◌↔◌, ◌≤◌, ◌⊎◌, ℕ, List}
+use Rattle.std.specs.Prelude.{◌≡◌, ◌↔◌, ◌≤◌, ◌⊎◌, ℕ, Bool, false, List}
 use Rattle.std.specs.List.{AllByRecursion}
-use Rattle.sml_tree.specs.declared.token_kind.TokenKind.TheVariants.{Not, OpenBracket}
+use Rattle.sml_tree.specs.declared.token_kind.TokenKind.TheVariants.{Not, OpenBracket, Name}
 use Rattle.sml_tree.specs.Syntax.{CondData, ItemData}
-use Rattle.sml_tree.specs.Piece.{Piece}
-use Rattle.sml_tree.specs.Form.{Part, Value, part, File, Cond, Deep}
+use Rattle.sml_tree.specs.Piece.{Piece, is_reserved, word_kind}
+use Rattle.sml_tree.specs.Form.{Part, Value, part, File, Cond, StateMark, Deep}
 use Rattle.sml_tree.specs.Derive.{Marked, Derives, plain, IsFile}
 use Rattle.sml_tree.specs.Condition.{IsCond}
+use Rattle.sml_tree.specs.StateMarks.{AreMarks}
 use Rattle.sml_tree.specs.Inside.{conditions}
 use Rattle.sml_tree.specs.Brackets.{open_depth}
 use Rattle.sml_tree.specs.Limits.{IsWithinLimits}
@@ -18,6 +19,14 @@ IsTextOf n ts v = (ms : List Marked) × (plain ms ≡ ts) × Derives n _ (part n
 -- the table derives the conditions of the grammar's own shape and no others, whatever stands before
 abbrev pub SameConditions : Type 0
 SameConditions = (depth tests : ℕ) (ts : List Piece) (c : CondData) → ((count : ℕ) × IsTextOf (Cond depth tests) ts (record { formula = c; count = count })) ↔ IsCond ts c
+
+-- the table derives the marks of a state of the grammar's own shape and no others
+abbrev pub SameMarks : Type 0
+SameMarks = (ts : List Piece) (initial dead : Bool) → IsTextOf StateMark ts (record { initial = initial; dead = dead }) ↔ AreMarks ts initial dead
+
+-- a word is read as a name just where it is not reserved
+abbrev pub NamesAreNotReserved : Type 0
+NamesAreNotReserved = (word : List ℕ) → (word_kind false word ≡ Name) ↔ (is_reserved word ≡ false)
 
 -- the canonical text of each condition of a file has at most sixteen open brackets and `not`s
 abbrev pub FewBrackets : Type 0

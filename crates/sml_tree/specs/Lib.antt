@@ -9,6 +9,7 @@ pub mod Laws
 pub mod Limits
 pub mod Padding
 pub mod Piece
+pub mod Rows
+pub mod StateMarks
 pub mod Syntax
 pub mod Word
-pub mod Rows

@@ -7,7 +7,7 @@ use Rattle.smi_core.proofs.schedule.feed_byte.Goals as goal
 
 pub returns-then-b-eq10-clause-err : goal.returns-then-b-eq10-clause-err
 returns-then-b-eq10-clause-err g c line p =
-    on_err c.end_line.result _ _ (c.end_line.ensures.err line p) (halted_line LineWrites _ _ line c.args.b _ _ (eq-eqb c.args.b 10 c.if-b-eq10.true))
+    on_err c.end_line.result _ _ (c.end_line.ensures.err line p) (halted_line LineWrites _ _ line c.args.b _ _ _ (eq-eqb c.args.b 10 c.if-b-eq10.true))
 
 pub returns-clause-ok : goal.returns-clause-ok
 returns-clause-ok g c line p =

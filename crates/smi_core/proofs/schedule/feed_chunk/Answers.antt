@@ -1,6 +1,8 @@
 use Rattle.smi_core.specs.Output.{LineWrites}
-use Rattle.std.proofs.Common.{◌+◌, arith, drop, subst, take-append-drop}
+use Rattle.std.proofs.Common.{◌≡◌, ◌+◌, Result, Err, arith, drop, subst, take-append-drop}
 use Rattle.std.proofs.lemmas.List.{take_more}
+use Rattle.smi_core.specs.declared.schedule.LineFault.{LineFault}
+use Rattle.smi_core.specs.declared.schedule.LineFault.TheVariants.{Write}
 use Rattle.smi_core.specs.Feeds.{Halted}
 use Rattle.smi_core.proofs.Parts.{went_more, halted_more, halted_before}
 use Rattle.smi_core.proofs.schedule.feed_chunk.Goals as goal
@@ -10,9 +12,9 @@ returns-in-Err-clause-err g c line p =
     let i = c.loop-b.b-index in
     let more = take_more c.args.chunk.now i 0 (omega arith) in
     let makes = LineWrites in
-    let h = halted_more makes _ line _ _ _ _ _ _ _ _ _ (c.loop-b.invariant line p) c.in-Err.ensures.err in
-    let k = halted_before makes _ line _ (drop (i + 1) c.args.chunk.now) _ _ _ h in
-    subst (λ l. Halted makes c.args.core.now line l (g.W.Sink.contents c.args.writer.now) (g.W.Sink.contents c.feed_byte.new.writer) c.feed_byte.new.core) (take-append-drop (i + 1) c.args.chunk.now) (rw more k)
+    let h = halted_more makes _ line _ _ _ _ _ _ _ _ _ _ (c.loop-b.invariant line p) c.in-Err.ensures.err in
+    let k = halted_before makes _ line _ (drop (i + 1) c.args.chunk.now) _ _ _ _ _ (λ f. f) h in
+    subst (λ l. Halted makes c.args.core.now line l (◌≡◌ {A = Result (Unit {0}) LineFault} (Err c.in-Err.fault) (Err Write)) (g.W.Sink.contents c.args.writer.now) (g.W.Sink.contents c.feed_byte.new.writer) c.feed_byte.new.core) (take-append-drop (i + 1) c.args.chunk.now) (rw more k)
 
 pub loop-b-preserved : goal.loop-b-preserved
 loop-b-preserved g c line p =

@@ -1,5 +1,5 @@
-use Rattle.std.proofs.Common.{◌∙◌, arith}
-use Rattle.sml_text.proofs.Streams.{front_stops, front_takes, next_tokens}
+use Rattle.std.proofs.Common.{◌∙◌, ◌≤◌, arith}
+use Rattle.sml_text.proofs.Streams.{front_stops, front_takes, next_tokens, dropped_on}
 use Rattle.sml_text.proofs.Fits.{front_fits}
 use Rattle.std.proofs.Common.{sym}
 use Rattle.sml_text.proofs.tokens.next_token.Goals as goal
@@ -16,11 +16,23 @@ returns-in-Some-clause-next c =
     c.skip.invariant.0
     ∙ next_tokens _ _ _ _ _ _ _ _ c.front_at-front.ensures c.stands.ensures c.if-not-stands.false c.size-size.ensures c.split_at.ensures.back c.in-Some.ensures.same
 
+pub returns-in-Some-clause-behind : goal.returns-in-Some-clause-behind
+returns-in-Some-clause-behind c =
+    let on : c.args.at ≤ c.skip.at = omega (arith, c.skip.invariant.1, c.skip.invariant.2) in
+    c.split_at.ensures.back ∙ dropped_on _ _ _ _ _ on c.skip.invariant.3
+
 pub skip-preserved : goal.skip-preserved
 skip-preserved c =
-    let takes = front_takes _ _ _ c.front_at-front.ensures (sym c.stands.ensures ∙ c.if-not-stands.false) in (
+    let takes = front_takes _ _ _ c.front_at-front.ensures (sym c.stands.ensures ∙ c.if-not-stands.false) in
+    let on : c.args.at ≤ c.skip.at = omega (arith, c.skip.invariant.1, c.skip.invariant.2) in (
       c.skip.invariant.0
           ∙ next_tokens _ _ _ _ _ _ _ _ c.front_at-front.ensures c.stands.ensures c.if-not-stands.false c.size-size.ensures c.split_at.ensures.back c.in_default.ensures.same,
       omega (arith, takes, c.size-size.ensures, c.split_at.ensures.back_len, c.skip.invariant.1),
       omega (arith, takes, c.size-size.ensures, c.split_at.ensures.back_len, c.skip.invariant.2),
+      c.split_at.ensures.back ∙ dropped_on _ _ _ _ _ on c.skip.invariant.3,
     )
+
+pub skip-smaller : goal.skip-smaller
+skip-smaller c =
+    let takes = front_takes _ _ _ c.front_at-front.ensures (sym c.stands.ensures ∙ c.if-not-stands.false) in
+    omega (arith, takes, c.size-size.ensures, c.split_at.ensures.back_len)

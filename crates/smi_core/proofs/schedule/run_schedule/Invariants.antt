@@ -2,13 +2,13 @@ use Rattle.smi_core.specs.Output.{LineWrites}
 use Rattle.std.proofs.Common.{◌≡◌, ◌-◌, ◌≤◌, List, ℕ, [], length}
 use Rattle.std.specs.Io.KnownBytes.{Consumes}
 use Rattle.smi_core.specs.Feeds.{Went}
-use Rattle.smi_core.proofs.schedule.run_from.Given as goal
+use Rattle.smi_core.proofs.schedule.run_schedule.Given as goal
 
 abbrev pub invariant-reads : goal.invariant-reads
 invariant-reads g l = record {
   most : l.total ≤ 16777216;
   room : length l.buf ≡ 4096;
-  so_far : (text : List ℕ) × Consumes (g.S.Source.remaining l.fn.source) (g.S.Source.remaining l.source) text × (l.total ≡ length text)
+  so_far : (text : List ℕ) × Consumes (g.R.Input.remaining l.fn.reader) (g.R.Input.remaining l.reader) text × (l.total ≡ length text)
       × Went LineWrites l.fn.core [] text (g.W.Sink.contents l.fn.writer) (g.W.Sink.contents l.writer) l.core l.pending.kept.items l.pending.over;
 }
 

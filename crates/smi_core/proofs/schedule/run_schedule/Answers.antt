@@ -1,25 +1,25 @@
 use Rattle.smi_core.specs.Output.{LineWrites}
-use Rattle.std.proofs.Common.{◌++◌, ◌≤◌, arith, length, take, inl, inr, refl}
+use Rattle.std.proofs.Common.{◌++◌, ◌≤◌, Err, ap, arith, length, take, inl, inr, refl}
 use Rattle.std.proofs.lemmas.Grind.{common_steps}
 use Rattle.std.proofs.Common.{length-append, length-take-le}
 use Rattle.smi_core.proofs.Io.{consumes_more, consumes_kept, consumes_empty}
-use Rattle.smi_core.proofs.Parts.{went_more, halted_more, halted_here, halted_now, first_lines, whole, torn}
-use Rattle.smi_core.proofs.schedule.run_from.Goals as goal
+use Rattle.smi_core.proofs.Parts.{went_more, halted_more, halted_here, halted_now, first_lines, whole, torn, whole_lines}
+use Rattle.smi_core.proofs.schedule.run_schedule.Goals as goal
 
 pub returns-in_default-clause-err : goal.returns-in_default-clause-err
 returns-in_default-clause-err g c =
     let s = c.reads.invariant.so_far in
-    (s.0, consumes_kept _ _ _ _ s.1 c.in_default.ensures.none.1, first_lines LineWrites _ s.0 _ _ _ (halted_now LineWrites _ _ _ _ _ _ _ _ s.3), inl (omega (arith, s.2, c.reads.invariant.most)))
+    (s.0, consumes_kept _ _ _ _ s.1 c.in_default.ensures.none.1, first_lines LineWrites _ s.0 _ _ _ _ _ (λ f. f) (halted_now LineWrites _ _ _ _ _ _ _ _ _ s.3), inl (omega (arith, s.2, c.reads.invariant.most)))
 
 pub returns-then-n-total-clause-err : goal.returns-then-n-total-clause-err
 returns-then-n-total-clause-err g c =
     let s = c.reads.invariant.so_far in
-    (s.0 ++ take c.in-Some.n c.fetch.new.buf, consumes_more _ _ _ _ _ s.1 c.in-Some.ensures.some.1, first_lines LineWrites _ _ _ _ _ (halted_here LineWrites _ _ _ _ _ _ _ _ _ s.3), inr refl)
+    (s.0 ++ take c.in-Some.n c.fetch.new.buf, consumes_more _ _ _ _ _ s.1 c.in-Some.ensures.some.1, first_lines LineWrites _ _ _ _ _ _ _ (λ f. f) (halted_here LineWrites _ _ _ _ _ _ _ _ _ _ s.3), inr refl)
 
 pub returns-in-Err-clause-err : goal.returns-in-Err-clause-err
 returns-in-Err-clause-err g c =
     let s = c.reads.invariant.so_far in
-    (s.0 ++ take c.in-Some.n c.fetch.new.buf, consumes_more _ _ _ _ _ s.1 c.in-Some.ensures.some.1, first_lines LineWrites _ _ _ _ _ (halted_more LineWrites _ _ _ _ _ _ _ _ _ _ _ s.3 c.in-Err.ensures.err), inl (omega (arith, s.2, c.reads.invariant.most, c.if-n-total.false, length-take-le c.in-Some.n c.fetch.new.buf c.in-Some.ensures.some.0, length-append s.0 (take c.in-Some.n c.fetch.new.buf))))
+    (s.0 ++ take c.in-Some.n c.fetch.new.buf, consumes_more _ _ _ _ _ s.1 c.in-Some.ensures.some.1, first_lines LineWrites _ _ _ _ _ _ _ (λ e. ap Err (c.of_schedule.ensures.write.1 (cc e))) (halted_more LineWrites _ _ _ _ _ _ _ _ _ _ _ _ s.3 c.in-Err.ensures.err), inl (omega (arith, s.2, c.reads.invariant.most, c.if-n-total.false, length-take-le c.in-Some.n c.fetch.new.buf c.in-Some.ensures.some.0, length-append s.0 (take c.in-Some.n c.fetch.new.buf))))
 
 pub reads-preserved : goal.reads-preserved
 reads-preserved g c =
@@ -41,10 +41,17 @@ pub returns-then-n-total-clause-too_long : goal.returns-then-n-total-clause-too_
 returns-then-n-total-clause-too_long g c e =
     let s = c.reads.invariant.so_far in
     let n = c.in-Some.n in (
-      s.0 ++ take n c.fetch.new.buf,
+      s.0,
+      take n c.fetch.new.buf,
       consumes_more _ _ _ _ _ s.1 c.in-Some.ensures.some.1,
-      omega (arith, s.2, length-take-le c.in-Some.n c.fetch.new.buf c.in-Some.ensures.some.0, length-append s.0 (take n c.fetch.new.buf)),
+      omega (arith, s.2, length-take-le n c.fetch.new.buf c.in-Some.ensures.some.0, length-append s.0 (take n c.fetch.new.buf)),
+      whole_lines LineWrites _ _ _ _ _ _ _ s.3,
     )
+
+pub returns-in_default-clause-cut : goal.returns-in_default-clause-cut
+returns-in_default-clause-cut g c e =
+    let s = c.reads.invariant.so_far in
+    (s.0, consumes_kept _ _ _ _ s.1 c.in_default.ensures.none.1, whole_lines LineWrites _ _ _ _ _ _ _ s.3)
 
 pub returns-in-Ok-clause-ok : goal.returns-in-Ok-clause-ok
 returns-in-Ok-clause-ok g c =
@@ -62,6 +69,6 @@ returns-clause-err g c =
     let s = c.reads.invariant.so_far in (
       s.0,
       consumes_empty _ _ _ _ _ _ c.if-n-eq0.true s.1 c.in-Some.ensures.some.1,
-      torn LineWrites _ _ _ _ _ _ _ _ _ s.3 (c.in-Err-end_line.ensures.err s.3.left s.3.pending),
+      torn LineWrites _ _ _ _ _ _ _ _ _ _ _ (λ e. ap Err (c.of_schedule-in-Err-end_line.ensures.write.1 (cc e))) s.3 (c.in-Err-end_line.ensures.err s.3.left s.3.pending),
       inl (omega (arith, s.2, c.reads.invariant.most)),
     )
