@@ -1,6 +1,7 @@
 //! The command `check`: domain files go in, and one line comes out for each.
 
 ghost use Rattle.std.specs.Prelude.{◌≤◌, IfOk};
+ghost use Rattle.smi_commands.specs.Judgement.{IsTold};
 
 use crate::fault::Fault;
 use crate::judgement::{Judgement, judge};
@@ -8,7 +9,7 @@ use crate::text::load_text;
 use bumpalo::Bump;
 use std::alloc::{AllocError, Allocator};
 use std::fs::Files;
-use std::io::{BufWriter, ErrorKind, Write};
+use std::io::{BufWriter, Write};
 
 /// Tells of each file whether it is well-formed, or why not, and gives the exit status. A refused or
 /// unreadable file is told, and the next follows; want of memory and a fault of the output end it. Each
@@ -58,17 +59,17 @@ fn tell_files<R: Files + AllocGlobal, W: Write>(
     Ok(worst)
 }
 
-// Judges the file of a path.
+// Judges the file of a path. The error is want of memory, to hold the text (`Judgement::of_input`) or to
+// judge it.
 fn judge_file<R: Files + AllocGlobal, A: Allocator + Clone>(
     rt: &R,
     alloc: A,
     file: &str,
-) -> Result<Judgement, AllocError> {
+) -> Result<Judgement, AllocError>
+    ensures { IfOk result IsTold }
+{
     match load_text(rt, file) {
         Ok(text) => judge(rt.alloc(), alloc, text.as_slice()),
-        Err(error) => match error.kind() {
-            ErrorKind::OutOfMemory => Err(AllocError),
-            _ => Ok(Judgement::Unreadable),
-        },
+        Err(error) => Judgement::of_input(&error),
     }
 }

@@ -1,5 +1,6 @@
 //! What is told of a domain file.
-ghost use Rattle.std.specs.Prelude.{◌≡◌, ◌≤◌, IfOk};
+ghost use Rattle.std.specs.Prelude.{◌≡◌, ◌≢◌, ◌≤◌, IfOk, IsErr, Ok};
+ghost use Rattle.std.specs.IoError.{error_kind};
 ghost use Rattle.sml_tree.specs.Content.{file_content};
 ghost use Rattle.smi_commands.specs.Judgement.{IsJudged, IsJudgedFile, judgement_status};
 
@@ -7,7 +8,8 @@ use sml_faults::{CheckError, CheckKind, first_fault};
 use sml_read::{ReadError, ReadErrorKind, read};
 use sml_tree::file::SmlFile;
 use std::alloc::{AllocError, Allocator, Global};
-use std::fmt;
+use std::io::ErrorKind;
+use std::{fmt, io};
 
 /// What is told of a domain file. Its `Display` is the line (docs/FORMATS.md, "Fault lines and exit
 /// statuses") without the name of the file.
@@ -24,6 +26,18 @@ pub enum Judgement {
 }
 
 impl Judgement {
+    /// What is told of a file that could not be opened or read. The error is want of memory.
+    pub fn of_input(error: &io::Error) -> Result<Judgement, AllocError>
+        ensures memory { error_kind error.now ≡ ErrorKind.OutOfMemory → IsErr result }
+        ensures unreadable { error_kind error.now ≢ ErrorKind.OutOfMemory
+            → result ≡ Ok Judgement.Unreadable }
+    {
+        match error.kind() {
+            ErrorKind::OutOfMemory => Err(AllocError),
+            _ => Ok(Judgement::Unreadable),
+        }
+    }
+
     /// The exit status of a command that told nothing worse: 0, and 1 for a refused file.
     pub fn status(&self) -> u8
         ensures status { result ≡ judgement_status self.now }

@@ -1,4 +1,4 @@
-use Rattle.std.proofs.Common.{◌≡◌, ℕ, ◌≤◌, Bool, true, false, cond}
+use Rattle.std.proofs.Common.{ℕ, ◌≤◌, Bool, true, false, cond}
 use Rattle.smi_commands.proofs.check.tell_files.Goals as goal
 
 -- one of two is as small as both
