@@ -4,6 +4,8 @@
 #[cfg(test)]
 mod domain_of;
 #[cfg(test)]
+mod fault_tests;
+#[cfg(test)]
 mod machine_tests;
 #[cfg(test)]
 mod mark_tests;

@@ -273,9 +273,11 @@ impl<R: Read> Input for R {
 ///
 /// Lines that are no steps, and steps that are refused, are told in the output and end nothing. `Read`
 /// comes where the reader failed, `Write` where the writer failed or took nothing, `TooLong` past
-/// 16,777,216 bytes, `Memory` where a growth was refused, of a step too. After a fault the first lines
-/// of what was read are made, and a front of what they write is written. It is read in parts of 4,096
-/// bytes; each turn reads a byte or ends. Memory is taken for one line and for the journal.
+/// 16,777,216 bytes, `Memory` where an allocation failed, of a step too. After a fault the first lines
+/// of what was read are made and what they write is written, but for an end of it at `Write`; a line
+/// that was cut off by the fault is not made. It is read in parts of 4,096 bytes; each turn reads a byte
+/// or ends. Memory is taken for one line and for the journal. Every `Read` is an `Input` and every
+/// `Write` a `Sink`.
 pub fn run_schedule<R: Input, W: Sink>(
     alloc: Global,
     core: &mut Core,

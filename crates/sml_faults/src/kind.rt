@@ -4,6 +4,7 @@ ghost use Rattle.sml_faults.specs.KindText.{number_of, name_of, error_text, memo
 
 use sml_tree::name::Name;
 use std::alloc::AllocError;
+use std::error::Error;
 use std::fmt;
 
 /// The kinds of faults, by their numbers. (docs/LANGUAGE.md, "Well-formed files".)
@@ -105,6 +106,10 @@ impl fmt::Display for CheckError {
         )
     }
 }
+
+impl Error for CheckKind {}
+
+impl Error for CheckError {}
 
 impl From<AllocError> for CheckError {
     ghost from_gives = { λ _ error. error ≡ memory_error };

@@ -2,6 +2,7 @@
 ghost use Rattle.std.specs.Prelude.{◌≡◌, Some};
 ghost use Rattle.sml_read.specs.Refusal.{number_of, name_of, error_text};
 
+use std::error::Error;
 use std::fmt;
 
 /// Why a text is refused. (docs/LANGUAGE.md, "Refusals".)
@@ -77,3 +78,7 @@ impl fmt::Display for ReadError {
         write!(f, "{} at {}", self.kind, self.offset)
     }
 }
+
+impl Error for ReadErrorKind {}
+
+impl Error for ReadError {}

@@ -1,0 +1,182 @@
+//! What is made and written where a schedule ends before its end.
+ghost use Rattle.std.specs.Prelude.{◌≤◌, IfOk, length};
+
+use crate::domain_of::first;
+use crate::outputs::core_of;
+use smi_core::{Core, ScheduleFault, run_schedule};
+use std::alloc::{AllocError, Global};
+use std::io::{Error, Read, Write};
+use std::test::Fail;
+
+// Each line writes one line.
+const PATH: &[u8] = b"request @1 B GO\nstart B\ngo B\ngo B\nstart L\ngo L\nstart L\n";
+
+const WRITTEN: &[u8] =
+    b"accept @1 B 0 GO\nstart B @1 0 GO\npost B L 0 LIGHT\nend B DONE\nstart L B 0 LIGHT\nend L ON\nrefused Empty\n";
+
+// The text up to the end of so many lines, and what is behind it.
+fn parted(text: &[u8], lines: usize) -> (&[u8], &[u8]) {
+    let mut left = lines;
+    for (at, byte) in text.iter().enumerate() {
+        if left == 0 {
+            return text.split_at(at);
+        }
+        if *byte == b'\n' {
+            left = left.saturating_sub(1);
+        }
+    }
+    (text, b"")
+}
+
+// How many lines end in a text.
+fn line_count(text: &[u8]) -> usize {
+    text.iter().filter(|byte| **byte == b'\n').count()
+}
+
+// Takes so many bytes, one a call, and then fails.
+#[derive(Drop)]
+struct Narrow {
+    taken: Vec<u8>,
+    room: usize,
+}
+
+impl Write for Narrow {
+    fn write(&mut self, buf: &[u8]) -> std::io::Result<usize> {
+        if self.taken.len() >= self.room {
+            return Err(Error::from(AllocError));
+        }
+        let [first, ..] = buf else {
+            return Ok(0);
+        };
+        self.taken.push(*first)?;
+        Ok(1)
+    }
+
+    fn flush(&mut self) -> std::io::Result<()> {
+        Ok(())
+    }
+}
+
+// Gives some bytes, one a call, and then fails or gives line feeds for ever.
+#[derive(Drop)]
+struct Ending {
+    text: &'static [u8],
+    given: usize,
+    fails: bool,
+}
+
+impl Read for Ending {
+    fn read(&mut self, buf: &mut [u8]) -> std::io::Result<usize> {
+        let Some(byte) = self.text.get(self.given) else {
+            return self.end(buf);
+        };
+        let Some(place) = buf.first_mut() else {
+            return Ok(0);
+        };
+        *place = *byte;
+        self.given = self.given.saturating_add(1);
+        Ok(1)
+    }
+}
+
+impl Ending {
+    // What comes behind the bytes.
+    fn end(&self, buf: &mut [u8]) -> std::io::Result<usize>
+        ensures { IfOk result (λ n. n ≤ length buf.new) }
+    {
+        if self.fails {
+            return Err(Error::from(AllocError));
+        }
+        buf.fill(b'\n');
+        Ok(buf.len())
+    }
+}
+
+// What a core writes for a schedule, or nothing where that fails.
+fn written(alloc: Global, core: &mut Core, schedule: &[u8]) -> Vec<u8> {
+    let mut reader = schedule;
+    let mut output = Vec::new(alloc);
+    match run_schedule(alloc, core, &mut reader, &mut output) {
+        Ok(()) => output,
+        Err(_) => Vec::new(alloc),
+    }
+}
+
+// Whether a writer that fails behind so many bytes leaves the core behind the step whose line it cut.
+fn goes_on_behind_the_cut(alloc: Global, room: usize) -> Result<bool, Fail> {
+    let mut core = core_of(alloc, first(alloc)?)?;
+    let mut reader = PATH;
+    let mut writer = Narrow {
+        taken: Vec::new(alloc),
+        room,
+    };
+    let ran = run_schedule(alloc, &mut core, &mut reader, &mut writer);
+    let made = line_count(writer.taken.as_slice()).saturating_add(1);
+    let (_, rest) = parted(PATH, made);
+    let (_, expected) = parted(WRITTEN, made);
+    let again = written(alloc, &mut core, rest);
+    Ok(matches!(ran, Err(ScheduleFault::Write)) && again.as_slice() == expected)
+}
+
+// What is written of a front of the path, behind which the reader fails.
+fn written_of_front(alloc: Global, text: &'static [u8]) -> Result<Vec<u8>, Fail> {
+    let mut core = core_of(alloc, first(alloc)?)?;
+    let mut reader = Ending {
+        text,
+        given: 0,
+        fails: true,
+    };
+    let mut output = Vec::new(alloc);
+    match run_schedule(alloc, &mut core, &mut reader, &mut output) {
+        Err(ScheduleFault::Read) => Ok(output),
+        _ => Ok(Vec::new(alloc)),
+    }
+}
+
+// Whether all that a front of the path writes are the lines of its whole lines.
+fn makes_whole_lines(alloc: Global, length: usize) -> Result<bool, Fail> {
+    let Some(text) = PATH.get(..length) else {
+        return Ok(false);
+    };
+    let output = written_of_front(alloc, text)?;
+    let (expected, _) = parted(WRITTEN, line_count(text));
+    Ok(output.as_slice() == expected)
+}
+
+// What is written before the limit of a schedule's length.
+fn written_before_the_limit(alloc: Global) -> Result<Vec<u8>, Fail> {
+    let mut core = core_of(alloc, first(alloc)?)?;
+    let mut reader = Ending {
+        text: PATH,
+        given: 0,
+        fails: false,
+    };
+    let mut output = Vec::new(alloc);
+    match run_schedule(alloc, &mut core, &mut reader, &mut output) {
+        Err(ScheduleFault::TooLong) => Ok(output),
+        _ => Ok(Vec::new(alloc)),
+    }
+}
+
+#[test]
+fn a_core_goes_on_behind_a_fault_of_the_writer(rt: HostRuntime) -> Result<(), Fail> {
+    for room in 0..WRITTEN.len() {
+        assert!(rt; goes_on_behind_the_cut(rt.alloc(), room)?);
+    }
+    Ok(())
+}
+
+#[test]
+fn a_cut_line_is_not_made(rt: HostRuntime) -> Result<(), Fail> {
+    for length in 0..PATH.len() {
+        assert!(rt; makes_whole_lines(rt.alloc(), length)?);
+    }
+    Ok(())
+}
+
+#[test]
+fn what_is_before_the_limit_is_written(rt: HostRuntime) -> Result<(), Fail> {
+    let output = written_before_the_limit(rt.alloc())?;
+    assert!(rt; output.as_slice() == WRITTEN);
+    Ok(())
+}
