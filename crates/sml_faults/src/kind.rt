@@ -46,7 +46,7 @@ pub enum CheckKind {
 
 /// The first fault of a file, with the name that it has. Want of memory has the name `NONE`. Its `Display`
 /// is the number, the kind's word and the name, with blanks between them.
-#[derive(Clone, Copy, PartialEq, Eq)]
+#[derive(Clone, Copy, Debug, PartialEq, Eq)]
 pub struct CheckError {
     pub kind: CheckKind,
     pub name: Name,
