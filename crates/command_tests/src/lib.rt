@@ -4,6 +4,8 @@
 #[cfg(test)]
 mod check_tests;
 #[cfg(test)]
+mod memory_tests;
+#[cfg(test)]
 mod output_tests;
 #[cfg(test)]
 mod print_tests;
