@@ -26,6 +26,14 @@ module _ {X Y : Type 0} (f : Site → List Y) (g : X → InstrData) (xs ys : Lis
   pub block_next : None ≡ first (flat_map f (instr_sites (g x))) → Rest (in_block f g) xs (k + 1) r
   block_next none = first_next (in_block f g) xs ys k r x (first (flat_map f (instr_sites (g x)))) h same within is splits none
 
+-- an instruction that names one thing
+pub one_site : {X Y : Type 0} (f : X → List Y) (s : X) → first (flat_map f (s ∷ [])) ≡ first (f s)
+one_site {Y = Y} f s = by (f s)
+  where
+    by : (ys : List Y) → first (ys ++ []) ≡ first ys
+    by [] = refl
+    by (y ∷ ys) = refl
+
 or_else_found : {X : Type 0} (a b : Option X) (n : X) → Some n ≡ a → Some n ≡ or_else a b
 or_else_found a b n e = ap (λ o. or_else o b) e
 

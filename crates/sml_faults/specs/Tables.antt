@@ -1,5 +1,5 @@
 -- What the look-up tables of a file say.
-use Rattle.std.specs.Prelude.{◌≡◌, ℕ, suc, Bool, List, [], ◌∷◌, Option, None, Some, option_map, flat_map, nat_eq, if◌then◌else◌}
+use Rattle.std.specs.Prelude.{◌≡◌, ℕ, suc, Bool, false, List, [], ◌∷◌, Option, None, Some, option_map, flat_map, nat_eq, nat_lt, if◌then◌else◌}
 use Rattle.std.specs.List.{slice_get}
 use Rattle.std.specs.Option.{option_and_then, option_map_or}
 use Rattle.std.specs.Cmp.Lexicographic.{pointwise}
@@ -14,6 +14,11 @@ use Rattle.sml_faults.specs.Repeats.{is_class, is_object, is_group}
 abbrev pub place_of : {X : Type 0} → (X → Bool) → List X → Option ℕ
 place_of p [] = None
 place_of p (x ∷ xs) = if p x then Some 0 else option_map suc (place_of p xs)
+
+-- whether a place is before another
+abbrev pub is_before : ℕ → Option ℕ → Bool
+is_before end None = false
+is_before end (Some k) = nat_lt k end
 
 -- a table gives each name the place of the first item of that name
 abbrev pub Places : {S : Type 0} → (List ℕ → ItemData → Bool) → List ItemData → IndexMap (List ℕ) ℕ S → Type 0

@@ -15,29 +15,20 @@ use sml_tree::literal::Literal;
 use sml_tree::name::Name;
 use std::alloc::Allocator;
 
-// Whether two states are marked as initial.
-fn two_initial<A: Allocator + Clone>(states: &[State<A>]) -> bool
-    ensures { result ≡ heads.has_two heads.is_initial (map state_content states.now) }
+// Whether a state has the mark of the dead one, or that of the initial one.
+fn has_mark<A: Allocator + Clone>(dead: bool, state: &State<A>) -> bool
+    ensures { result ≡ heads.has_mark dead (state_content state.now) }
 {
-    let mut seen = false;
-    for state in states {
-        if state.initial {
-            if seen {
-                return true;
-            }
-            seen = true;
-        }
-    }
-    false
+    if dead { state.dead } else { state.initial }
 }
 
-// Whether two states are marked as dead.
-fn two_dead<A: Allocator + Clone>(states: &[State<A>]) -> bool
-    ensures { result ≡ heads.has_two heads.is_marked_dead (map state_content states.now) }
+// Whether two states have such a mark.
+fn two_marked<A: Allocator + Clone>(dead: bool, states: &[State<A>]) -> bool
+    ensures { result ≡ heads.has_two (heads.has_mark dead) (map state_content states.now) }
 {
     let mut seen = false;
     for state in states {
-        if state.dead {
+        if has_mark(dead, state) {
             if seen {
                 return true;
             }
@@ -65,8 +56,8 @@ pub fn class_head<A: Allocator + Clone>(kind: CheckKind, class: &Class<A>) -> Op
 {
     let so = match kind {
         CheckKind::NoState => class.states.is_empty(),
-        CheckKind::TwoInitial => two_initial(&class.states),
-        CheckKind::TwoDead => two_dead(&class.states),
+        CheckKind::TwoInitial => two_marked(false, &class.states),
+        CheckKind::TwoDead => two_marked(true, &class.states),
         CheckKind::KindMismatch => return class_param_mismatch(&class.params),
         CheckKind::Duplicate
         | CheckKind::UnknownClass

@@ -1,16 +1,17 @@
 //! The items of a file by their names.
-ghost use Rattle.std.specs.Prelude.{◌≡◌, ℕ, List, Some, None, OnOk, IfOk, map, option_map, nat_eq, if◌then◌else◌};
+ghost use Rattle.std.specs.Prelude.{◌≡◌, ℕ, List, Some, None, OnOk, IfOk, map, option_map, take, nat_eq, if◌then◌else◌};
+ghost use Rattle.std.specs.List.{list_any, slice_get};
 ghost use Rattle.std.specs.Cmp.Lexicographic.{pointwise};
 ghost use Rattle.indexmap.specs.IndexMap.{get};
-ghost use Rattle.sml_tree.specs.Content.{file_content, item_content, class_content, object_content, group_content};
-ghost use Rattle.sml_faults.specs.Lookup.{named, class_named, object_named, group_named};
+ghost use Rattle.sml_tree.specs.Content.{file_content, item_content, class_content, object_content, group_content, action_content};
+ghost use Rattle.sml_faults.specs.Lookup.{named, class_named, object_named, group_named, action_in};
 ghost use Rattle.sml_faults.specs.Tables as spec;
 ghost use Rattle.sml_faults.specs.Repeats.{is_class, is_object, is_group};
 ghost use Rattle.sml_faults.specs.Tables.{HasTables, IsNoted, ActionTables, or_else, place_of, item_at};
 
 use crate::actions::{ActionPlace, item_tables};
 use indexmap::IndexMap;
-use sml_tree::file::{Class, Group, Item, Object, SmlFile};
+use sml_tree::file::{Action, Class, Group, Item, Object, SmlFile};
 use sml_tree::name::Name;
 use std::alloc::{AllocError, Allocator, Global};
 
@@ -114,19 +115,19 @@ impl<'a, A: Allocator + Clone> Tables<'a, A> {
         }
     }
 
-    /// The place of the class of a name among the items.
-    pub fn class_place(&self, name: &Name) -> Option<usize>
-        ensures { result ≡ place_of (is_class name.now) (file_content self.now.file.now) }
+    // The item at a place.
+    fn item(&self, place: usize) -> Option<&'a Item<A>>
+        ensures { option_map (λ x. item_content x.now) result ≡ slice_get (file_content self.now.file.now) place }
     {
-        self.classes.get(name).copied()
+        let file: &'a SmlFile<A> = self.file;
+        file.items.get(place)
     }
 
     /// The class at a place among the items.
     pub fn class_at(&self, place: usize) -> Option<&'a Class<A>>
         ensures { option_map (λ x. class_content x.now) result ≡ item_at spec.class_item (file_content self.now.file.now) place }
     {
-        let file: &'a SmlFile<A> = self.file;
-        match file.items.get(place) {
+        match self.item(place) {
             Some(item) => class_item(item),
             None => None,
         }
@@ -136,8 +137,7 @@ impl<'a, A: Allocator + Clone> Tables<'a, A> {
     fn object_at(&self, place: usize) -> Option<&'a Object>
         ensures { option_map (λ x. object_content x.now) result ≡ item_at spec.object_item (file_content self.now.file.now) place }
     {
-        let file: &'a SmlFile<A> = self.file;
-        match file.items.get(place) {
+        match self.item(place) {
             Some(item) => object_item(item),
             None => None,
         }
@@ -147,15 +147,56 @@ impl<'a, A: Allocator + Clone> Tables<'a, A> {
     fn group_at(&self, place: usize) -> Option<&'a Group<A>>
         ensures { option_map (λ x. group_content x.now) result ≡ item_at spec.group_item (file_content self.now.file.now) place }
     {
-        let file: &'a SmlFile<A> = self.file;
-        match file.items.get(place) {
+        match self.item(place) {
             Some(item) => group_item(item),
             None => None,
         }
     }
+
+    /// The action that the class of a name declares.
+    pub fn class_action(&self, class: &Name, action: &Name) -> Option<&'a Action<A>>
+        ensures { option_map (λ a. action_content a.now) result ≡ action_in (class_named (file_content self.now.file.now) class.now) action.now }
+    {
+        match self.classes.get(class) {
+            Some(place) => self.action_at(*place, action),
+            None => None,
+        }
+    }
+
+    /// Whether a class of this name stands before a place.
+    pub fn names_class(&self, name: &Name, end: usize) -> bool
+        ensures { result ≡ list_any (is_class name.now) (map item_content (take end self.now.file.now.items.items)) }
+    {
+        stands_before(&self.classes, name, end)
+    }
+
+    /// Whether an object of this name stands before a place.
+    pub fn names_object(&self, name: &Name, end: usize) -> bool
+        ensures { result ≡ list_any (is_object name.now) (map item_content (take end self.now.file.now.items.items)) }
+    {
+        stands_before(&self.objects, name, end)
+    }
+
+    /// Whether a set of this name stands before a place.
+    pub fn names_group(&self, name: &Name, end: usize) -> bool
+        ensures { result ≡ list_any (is_group name.now) (map item_content (take end self.now.file.now.items.items)) }
+    {
+        stands_before(&self.groups, name, end)
+    }
+}
+
+// Whether the place that a name has is before another.
+fn stands_before(table: &IndexMap<Name, usize>, name: &Name, end: usize) -> bool
+    ensures { result ≡ spec.is_before end (get (pointwise nat_eq) table.now name.now) }
+{
+    match table.get(name) {
+        Some(place) => *place < end,
+        None => false,
+    }
 }
 
 /// Gives a name its place, unless it has one.
+#[tactic(auto, using(crate::proofs::Places::newly, crate::proofs::Places::kept_by))]
 pub fn note<P: Copy>(table: &mut IndexMap<Name, P>, name: Name, place: P) -> Result<(), AllocError>
     ensures noted { OnOk result ((q : List ℕ) → get (pointwise nat_eq) table.new q ≡ or_else (get (pointwise nat_eq) table.old q) (if named q name then Some place else None)) }
 {
