@@ -46,6 +46,16 @@ first_second f cs xs bs n none here =
     or_else_next (first (flat_map f cs)) (or_else (first (flat_map f xs)) (first (flat_map f bs))) (Some n) none (or_else_found (first (flat_map f xs)) (first (flat_map f bs)) n here)
     ∙ sym (first_in-append f cs (xs ++ bs) ∙ ap (or_else (first (flat_map f cs))) (first_in-append f xs bs))
 
+-- the first of three parts
+pub first_first : {X Y : Type 0} (f : X → List Y) (cs rest : List X) (n : Y) → Some n ≡ first (flat_map f cs) → Some n ≡ first (flat_map f (cs ++ rest))
+first_first f cs rest n here = or_else_found (first (flat_map f cs)) (first (flat_map f rest)) n here ∙ sym (first_in-append f cs rest)
+
+-- the last of three parts
+pub first_third : {X Y : Type 0} (f : X → List Y) (cs xs bs : List X) (r : Option Y) → None ≡ first (flat_map f cs) → None ≡ first (flat_map f xs) → r ≡ first (flat_map f bs) → r ≡ first (flat_map f (cs ++ (xs ++ bs)))
+first_third f cs xs bs r none nor here =
+    or_else_next (first (flat_map f cs)) (or_else (first (flat_map f xs)) (first (flat_map f bs))) r none (or_else_next (first (flat_map f xs)) (first (flat_map f bs)) r nor here)
+    ∙ sym (first_in-append f cs (xs ++ bs) ∙ ap (or_else (first (flat_map f cs))) (first_in-append f xs bs))
+
 -- a block with instructions
 pub has_body_if_long : {X : Type 0} (g : X → InstrData) (xs : List X) (n : ℕ) → n ≡ length xs → nat_lt 0 n ≡ has_body (block_of (map g xs))
 has_body_if_long g [] n e = ap (nat_lt 0) e

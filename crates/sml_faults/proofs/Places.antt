@@ -1,10 +1,10 @@
 -- The places of items by their names.
-use Rattle.std.proofs.Common.{◌≡◌, ◌∙◌, sym, ap, refl, ℕ, zero, suc, ◌<◌, ◌+◌, Bool, true, false, ◌||◌, List, [], ◌∷◌, ◌++◌, length, get_or, map, take, nat_eq, nat_lt, Option, None, Some, option_map, is_some, cond, Result, Ok, Err, OnOk, if◌then◌else◌, Bor, arith}
+use Rattle.std.proofs.Common.{◌≡◌, ◌∙◌, sym, ap, refl, ℕ, zero, suc, ◌<◌, ◌+◌, Bool, true, false, ◌||◌, List, [], ◌∷◌, ◌++◌, length, get_or, map, take, nat_eq, nat_lt, Option, None, Some, option_map, is_some, not, cond, Result, Ok, Err, OnOk, if◌then◌else◌, Bor, arith}
 use Rattle.std.proofs.lemmas.List.{take_more, map-append, length-map, length-take-le}
 use Rattle.std.proofs.lemmas.Bool.Decides.{nat_tests}
 use Rattle.std.proofs.lemmas.Option.{slice_get-map, slice_get_read, slice_get_past}
 use Rattle.std.specs.List.{list_any, slice_get}
-use Rattle.std.specs.Option.{option_and_then}
+use Rattle.std.specs.Option.{option_and_then, option_map_or}
 use Rattle.std.specs.Cmp.Lexicographic.{pointwise}
 use Rattle.indexmap.specs.IndexMap.{IndexMap, get}
 use Rattle.std.specs.Slice.{IsGetResult}
@@ -13,7 +13,9 @@ use Rattle.std.specs.Bool.{one_answer}
 use Rattle.sml_faults.proofs.Pairs.{same_names, named_same}
 use Rattle.sml_faults.specs.Lookup.{named, class_named, object_named, group_named}
 use Rattle.sml_faults.specs.Repeats.{is_class, is_object, is_group}
-use Rattle.sml_faults.specs.Tables.{place_of, is_before, class_item, object_item, group_item, item_at, or_else, Places, IsNoted}
+use Rattle.sml_faults.specs.Tables.{place_of, is_before, class_item, object_item, group_item, item_at, or_else, Places, IsNoted, is_named, name_as}
+use Rattle.sml_faults.specs.declared.tables.ItemKind.{ItemKind}
+use Rattle.sml_faults.specs.declared.tables.ItemKind.TheVariants.{Class, Object, Group}
 
 pub place_push : {X : Type 0} (p : X → Bool) (xs : List X) (x : X) → place_of p (xs ++ x ∷ []) ≡ or_else (place_of p xs) (if p x then Some (length xs) else None)
 place_push p [] x = by (p x)
@@ -122,30 +124,47 @@ got f xs ys k None same h = sym (ap (λ zs. slice_get (map f zs) k) (sym same) �
 got f xs ys k (Some x) same h =
     sym (ap (λ zs. slice_get (map f zs) k) (sym same) ∙ slice_get-map f ys k ∙ ap (option_map f) (slice_get_read ys (length ys) k x.now refl h.3.0 h.1))
 
--- a table that an item changes
-pub noted_here : {S E : Type 0} (r : Result (Unit {0}) E) (test : List ℕ → ItemData → Bool) (x : ItemData) (n : List ℕ) (place : ℕ) (old new : IndexMap (List ℕ) ℕ S) → ((q : List ℕ) → test q x ≡ named q n) →
-    OnOk r ((q : List ℕ) → get (pointwise nat_eq) new q ≡ or_else (get (pointwise nat_eq) old q) (if named q n then Some place else None)) → OnOk r (IsNoted test x place old new)
-noted_here (Ok u) test x n place old new same noted = λ q. noted q ∙ ap (λ b. or_else (get (pointwise nat_eq) old q) (if b then Some place else None)) (sym (same q))
-noted_here (Err e) test x n place old new same noted = tt
+-- an item has a name where it has it as one of a kind
+name_is : (kind : ItemKind) (q : List ℕ) (x : ItemData) → is_named kind q x ≡ option_map_or (named q) (name_as kind x) false
+name_is Class q (class c) = refl
+name_is Class q (object o) = refl
+name_is Class q (group g) = refl
+name_is Object q (class c) = refl
+name_is Object q (object o) = refl
+name_is Object q (group g) = refl
+name_is Group q (class c) = refl
+name_is Group q (object o) = refl
+name_is Group q (group g) = refl
 
--- a table that it leaves
-pub not_noted : {S E : Type 0} (r : Result (Unit {0}) E) (test : List ℕ → ItemData → Bool) (x : ItemData) (place : ℕ) (m : IndexMap (List ℕ) ℕ S) → ((q : List ℕ) → test q x ≡ false) → OnOk r (IsNoted test x place m m)
-not_noted (Ok u) test x place m other = λ q. still (get (pointwise nat_eq) m q) ∙ ap (λ b. or_else (get (pointwise nat_eq) m q) (if b then Some place else None)) (sym (other q))
-not_noted (Err e) test x place m other = tt
+-- a table that an item of a kind changes
+pub noted_here : {S E : Type 0} (r : Result (Unit {0}) E) (kind : ItemKind) (x : ItemData) (n : List ℕ) (place : ℕ) (old new : IndexMap (List ℕ) ℕ S) → Some n ≡ name_as kind x →
+    OnOk r ((q : List ℕ) → get (pointwise nat_eq) new q ≡ or_else (get (pointwise nat_eq) old q) (if named q n then Some place else None)) → OnOk r (IsNoted (is_named kind) x place old new)
+noted_here (Ok u) kind x n place old new is noted = λ q.
+    noted q ∙ ap (λ b. or_else (get (pointwise nat_eq) old q) (if b then Some place else None)) (ap (λ o. option_map_or (named q) o false) is ∙ sym (name_is kind q x))
+noted_here (Err e) kind x n place old new is noted = tt
+
+-- a table that an item of another kind leaves
+pub not_noted : {S : Type 0} (kind : ItemKind) (x : ItemData) (place : ℕ) (m : IndexMap (List ℕ) ℕ S) → None ≡ name_as kind x → IsNoted (is_named kind) x place m m
+not_noted kind x place m is = λ q.
+    still (get (pointwise nat_eq) m q) ∙ ap (λ b. or_else (get (pointwise nat_eq) m q) (if b then Some place else None)) (ap (λ o. option_map_or (named q) o false) is ∙ sym (name_is kind q x))
 
 name_turned : (a b : List ℕ) → named a b ≡ named b a
 name_turned a b = one_answer (named a b) (named b a) (same_names a b, named_same a b) (λ e. sym (same_names b a e), λ e. named_same b a (sym e))
+
+turned : (b c : Bool) → c ≡ not b → not c ≡ b
+turned true c e = ap not e
+turned false c e = ap not e
 
 none_if : {X : Type 0} (o : Option X) → false ≡ is_some o → o ≡ None
 none_if None e = refl
 none_if (Some x) e = cc
 
 -- a name with one place more, and a name that had one
-pub newly : {X S : Type 0} (q n : List ℕ) (v : X) (old new : IndexMap (List ℕ) X S) → get (pointwise nat_eq) new q ≡ cond (named n q) (Some v) (get (pointwise nat_eq) old q) → false ≡ is_some (get (pointwise nat_eq) old n) →
+pub newly : {X S : Type 0} (q n : List ℕ) (v : X) (old new : IndexMap (List ℕ) X S) → get (pointwise nat_eq) new q ≡ cond (named n q) (Some v) (get (pointwise nat_eq) old q) → true ≡ not (is_some (get (pointwise nat_eq) old n)) →
     get (pointwise nat_eq) new q ≡ or_else (get (pointwise nat_eq) old q) (if named q n then Some v else None)
 newly {X = X} q n v old new now none =
     by (get (pointwise nat_eq) old q) (get (pointwise nat_eq) new q) (named q n) (now ∙ ap (λ b. cond b (Some v) (get (pointwise nat_eq) old q)) (name_turned n q))
-    (λ same. ap (get (pointwise nat_eq) old) (same_names q n same) ∙ none_if (get (pointwise nat_eq) old n) none)
+    (λ same. ap (get (pointwise nat_eq) old) (same_names q n same) ∙ none_if (get (pointwise nat_eq) old n) (turned (is_some (get (pointwise nat_eq) old n)) true none))
   where
     by : (was is : Option X) (b : Bool) → is ≡ cond b (Some v) was → (b ≡ true → was ≡ None) → is ≡ or_else was (if b then Some v else None)
     by None is true e first = e
@@ -153,8 +172,8 @@ newly {X = X} q n v old new now none =
     by (Some w) is true e first = let other : Some w ≡ None = first refl in cc
     by (Some w) is false e first = e
 
-pub kept_by : {X S : Type 0} (q n : List ℕ) (v : X) (m : IndexMap (List ℕ) X S) → true ≡ is_some (get (pointwise nat_eq) m n) → get (pointwise nat_eq) m q ≡ or_else (get (pointwise nat_eq) m q) (if named q n then Some v else None)
-kept_by {X = X} q n v m there = by (get (pointwise nat_eq) m q) (named q n) (λ same. there ∙ ap (λ k. is_some (get (pointwise nat_eq) m k)) (sym (same_names q n same)))
+pub kept_by : {X S : Type 0} (q n : List ℕ) (v : X) (m : IndexMap (List ℕ) X S) → false ≡ not (is_some (get (pointwise nat_eq) m n)) → get (pointwise nat_eq) m q ≡ or_else (get (pointwise nat_eq) m q) (if named q n then Some v else None)
+kept_by {X = X} q n v m there = by (get (pointwise nat_eq) m q) (named q n) (λ same. turned (is_some (get (pointwise nat_eq) m n)) false there ∙ ap (λ k. is_some (get (pointwise nat_eq) m k)) (sym (same_names q n same)))
   where
     by : (was : Option X) (b : Bool) → (b ≡ true → true ≡ is_some was) → was ≡ or_else was (if b then Some v else None)
     by (Some w) b some = refl

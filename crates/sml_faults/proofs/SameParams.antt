@@ -71,6 +71,10 @@ literal_itself : (l : LiteralData) → same_literal l l ≡ true
 literal_itself (int n) = (Decides-int_eq n n).1 refl
 literal_itself (str s) = named_same s s refl
 
+-- a comparison that decides whether two values are the same answers as this one
+pub same_literal_by : (b : Bool) (l m : LiteralData) → Decides b (l ≡ m) → b ≡ same_literal l m
+same_literal_by b l m decides = one_answer b (same_literal l m) decides (literals_agree l m, λ is. subst (λ (k : LiteralData). same_literal l k ≡ true) is (literal_itself l))
+
 default_itself : (l : Option LiteralData) → same_default l l ≡ true
 default_itself None = refl
 default_itself (Some l) = literal_itself l
@@ -79,10 +83,6 @@ param_itself : (p : ActionParamData) → same_param p p ≡ true
 param_itself p =
     both_true (same_kind p.kind p.kind && named p.name p.name) (same_default p.default p.default)
     (both_true (same_kind p.kind p.kind) (named p.name p.name) (kind_itself p.kind) (named_same p.name p.name refl)) (default_itself p.default)
-
--- a comparison that decides whether two parameters are the same answers as this one
-pub same_param_by : (b : Bool) (p q : ActionParamData) → Decides b (p ≡ q) → b ≡ same_param p q
-same_param_by b p q decides = one_answer b (same_param p q) decides (param_agree p q, λ is. subst (λ (r : ActionParamData). same_param p r ≡ true) is (param_itself p))
 
 pub params_themselves : (ps : List ActionParamData) → same_params ps ps ≡ true
 params_themselves [] = refl

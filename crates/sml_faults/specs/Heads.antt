@@ -34,8 +34,7 @@ is_marked_dead s = s.dead
 
 -- whether a state has the mark of the dead one, or that of the initial one
 abbrev pub has_mark : Bool → StateData → Bool
-has_mark true = is_marked_dead
-has_mark false = is_initial
+has_mark dead s = if dead then s.dead else s.initial
 
 -- a class with two states marked as initial
 abbrev pub two_initial : ClassData → List (List ℕ)

@@ -1,21 +1,47 @@
 //! Actions of one name with different parameters.
-ghost use Rattle.std.specs.Prelude.{◌≡◌, map, flat_map};
-ghost use Rattle.sml_tree.specs.Content.{file_content, action_content, state_content, item_content, action_param_content};
+ghost use Rattle.std.specs.Prelude.{◌≡◌, map, flat_map, option_map};
+ghost use Rattle.sml_tree.specs.Content.{file_content, action_content, state_content, item_content, action_param_content, literal_content};
 ghost use Rattle.sml_faults.specs.Lookup as look;
 ghost use Rattle.sml_faults.specs.Heads as heads;
 ghost use Rattle.sml_faults.specs.Tables.{class_at, differing_at};
 
 use crate::tables::Tables;
+use crate::value_kind::same_kind;
 use sml_tree::file::{Action, ActionParam, Item, State};
+use sml_tree::literal::Literal;
 use sml_tree::name::Name;
 use std::alloc::Allocator;
 
+// Whether two values are the same.
+fn same_literal<A: Allocator + Clone>(value: &Literal<A>, other: &Literal<A>) -> bool
+    ensures { result ≡ heads.same_literal (literal_content value.now) (literal_content other.now) }
+{
+    value.same(other)
+}
+
+// Whether two defaults are the same.
+fn same_default<A: Allocator + Clone>(
+    default: &Option<Literal<A>>,
+    other: &Option<Literal<A>>,
+) -> bool
+    ensures { result ≡ heads.same_default (option_map literal_content default.now) (option_map literal_content other.now) }
+{
+    match default {
+        Some(value) => match other {
+            Some(other) => same_literal(value, other),
+            None => false,
+        },
+        None => other.is_none(),
+    }
+}
+
 // Whether two parameters are the same.
-#[tactic(auto, using(crate::proofs::SameParams::same_param_by))]
 fn same_param<A: Allocator + Clone>(param: &ActionParam<A>, other: &ActionParam<A>) -> bool
     ensures { result ≡ heads.same_param (action_param_content param.now) (action_param_content other.now) }
 {
-    param.same(other)
+    same_kind(param.kind, other.kind)
+        && param.name == other.name
+        && same_default(&param.default, &other.default)
 }
 
 // Whether two lists of parameters are the same.

@@ -38,6 +38,20 @@ fn two_marked<A: Allocator + Clone>(dead: bool, states: &[State<A>]) -> bool
     false
 }
 
+// Whether two states are marked as initial.
+fn two_initial<A: Allocator + Clone>(states: &[State<A>]) -> bool
+    ensures { result ≡ heads.has_two heads.is_initial (map state_content states.now) }
+{
+    two_marked(false, states)
+}
+
+// Whether two states are marked as dead.
+fn two_dead<A: Allocator + Clone>(states: &[State<A>]) -> bool
+    ensures { result ≡ heads.has_two heads.is_marked_dead (map state_content states.now) }
+{
+    two_marked(true, states)
+}
+
 // The first parameter of a class whose default is of another kind.
 fn class_param_mismatch<A: Allocator + Clone>(params: &[ClassParam<A>]) -> Option<Name>
     ensures { result ≡ look.first (flat_map heads.class_param_mismatch (map class_param_content params.now)) }
@@ -56,8 +70,8 @@ pub fn class_head<A: Allocator + Clone>(kind: CheckKind, class: &Class<A>) -> Op
 {
     let so = match kind {
         CheckKind::NoState => class.states.is_empty(),
-        CheckKind::TwoInitial => two_marked(false, &class.states),
-        CheckKind::TwoDead => two_marked(true, &class.states),
+        CheckKind::TwoInitial => two_initial(&class.states),
+        CheckKind::TwoDead => two_dead(&class.states),
         CheckKind::KindMismatch => return class_param_mismatch(&class.params),
         CheckKind::Duplicate
         | CheckKind::UnknownClass

@@ -82,6 +82,13 @@ pub fn of_set(scope: Scope) -> bool
     }
 }
 
+/// Whether two names are the same.
+pub fn is_name(name: &Name, other: &Name) -> bool
+    ensures { result ≡ look.named name.now other.now }
+{
+    *name == *other
+}
+
 /// Whether a name is among others.
 pub fn is_among(names: &[Name], name: &Name) -> bool
     ensures { result ≡ look.among names.now name.now }
@@ -106,7 +113,7 @@ pub fn declares_state<A: Allocator + Clone>(states: &[State<A>], state: &Name) -
     ensures { result ≡ list_any (look.is_state state.now) (map state_content states.now) }
 {
     for declared in states {
-        if *state == declared.name {
+        if is_name(state, &declared.name) {
             return true;
         }
     }
@@ -148,7 +155,7 @@ pub fn class_param_in<'b, A: Allocator + Clone>(
     ensures { option_map (λ p. class_param_content p.now) result ≡ find (look.is_class_param name.now) (map class_param_content params.now) }
 {
     for param in params {
-        if *name == param.name {
+        if is_name(name, &param.name) {
             return Some(param);
         }
     }
@@ -173,7 +180,7 @@ pub fn action_param_in<'b, A: Allocator + Clone>(
     ensures { option_map (λ p. action_param_content p.now) result ≡ find (look.is_action_param name.now) (map action_param_content params.now) }
 {
     for param in params {
-        if *name == param.name {
+        if is_name(name, &param.name) {
             return Some(param);
         }
     }

@@ -5,7 +5,7 @@ ghost use Rattle.sml_tree.specs.Content.{file_content, class_content, action_con
 ghost use Rattle.sml_faults.specs.Lookup as look;
 ghost use Rattle.sml_faults.specs.Faults as faults;
 
-use crate::lookup::{action_param, class_param};
+use crate::lookup::{action_param, class_param, is_name};
 use crate::tables::Tables;
 use sml_tree::file::{Action, ActionParam, Class};
 use sml_tree::literal::{Arg, Passed};
@@ -53,7 +53,7 @@ pub fn passes<A: Allocator + Clone>(args: &[Passed<A>], name: &Name) -> bool
     ensures { result ≡ list_any (look.is_passed name.now) (map passed_content args.now) }
 {
     for passed in args {
-        if *name == passed.name {
+        if is_name(name, &passed.name) {
             return true;
         }
     }

@@ -6,7 +6,9 @@ ghost use Rattle.sml_faults.specs.Lookup as look;
 ghost use Rattle.sml_faults.specs.Repeats as repeats;
 
 use crate::kind::CheckKind;
-use crate::lookup::{action_param_in, class_param, class_param_in, declares_state, is_among};
+use crate::lookup::{
+    action_param_in, class_param, class_param_in, declares_state, is_among, is_name,
+};
 use crate::param::passes;
 use crate::tables::Tables;
 use sml_tree::file::{Action, ActionParam, Class, ClassParam, Item, State};
@@ -81,7 +83,7 @@ fn names_action<A: Allocator + Clone>(actions: &[Action<A>], name: &Name) -> boo
     ensures { result ≡ list_any (look.is_action name.now) (map action_content actions.now) }
 {
     for action in actions {
-        if *name == action.name {
+        if is_name(name, &action.name) {
             return true;
         }
     }

@@ -1,5 +1,5 @@
 //! The items of a file by their names.
-ghost use Rattle.std.specs.Prelude.{◌≡◌, ℕ, List, Some, None, OnOk, IfOk, map, option_map, take, nat_eq, if◌then◌else◌};
+ghost use Rattle.std.specs.Prelude.{◌≡◌, ℕ, List, Some, None, OnOk, IfOk, map, option_map, take, nat_eq, if◌then◌else◌, not, is_some};
 ghost use Rattle.std.specs.List.{list_any, slice_get};
 ghost use Rattle.std.specs.Cmp.Lexicographic.{pointwise};
 ghost use Rattle.indexmap.specs.IndexMap.{get};
@@ -27,42 +27,62 @@ pub struct Tables<'a, A: Allocator + Clone> {
     ghost declared: { ActionTables (file_content file.now) actions.items },
 }
 
-// The places of some items by their names, a table for each kind of item.
-#[derive(Drop)]
-struct Places {
-    classes: IndexMap<Name, usize>,
-    objects: IndexMap<Name, usize>,
-    groups: IndexMap<Name, usize>,
+// The kinds of items.
+#[derive(Clone, Copy)]
+enum ItemKind {
+    Class,
+    Object,
+    Group,
 }
 
-impl Places {
-    // Gives an item's name its place among those of its kind, unless it has one.
-    fn note<A: Allocator + Clone>(&mut self, item: &Item<A>, place: usize) -> Result<(), AllocError>
-        ensures classes { OnOk result (IsNoted is_class (item_content item.now) place self.old.classes self.new.classes) }
-        ensures objects { OnOk result (IsNoted is_object (item_content item.now) place self.old.objects self.new.objects) }
-        ensures groups { OnOk result (IsNoted is_group (item_content item.now) place self.old.groups self.new.groups) }
-    {
-        match item {
-            Item::Class(class) => note(&mut self.classes, class.name, place),
-            Item::Object(object) => note(&mut self.objects, object.name, place),
-            Item::Group(group) => note(&mut self.groups, group.name, place),
-        }
-    }
-}
-
-// The places of a file's items.
-fn places_of<A: Allocator + Clone>(alloc: Global, items: &[Item<A>]) -> Result<Places, AllocError>
-    ensures { IfOk result (λ p. HasTables (map item_content items.now) p.classes p.objects p.groups) }
+// The name of an item that is of a kind.
+fn name_as<A: Allocator + Clone>(kind: ItemKind, item: &Item<A>) -> Option<Name>
+    ensures { result ≡ spec.name_as kind (item_content item.now) }
 {
-    let mut places = Places {
-        classes: IndexMap::new(alloc),
-        objects: IndexMap::new(alloc),
-        groups: IndexMap::new(alloc),
-    };
-    for (i, item) in items.iter().enumerate() {
-        places.note(item, i)?;
+    match kind {
+        ItemKind::Class => match class_item(item) {
+            Some(class) => Some(class.name),
+            None => None,
+        },
+        ItemKind::Object => match object_item(item) {
+            Some(object) => Some(object.name),
+            None => None,
+        },
+        ItemKind::Group => match group_item(item) {
+            Some(group) => Some(group.name),
+            None => None,
+        },
     }
-    Ok(places)
+}
+
+// Gives the name of an item of a kind its place, unless it has one.
+fn note_item<A: Allocator + Clone>(
+    table: &mut IndexMap<Name, usize>,
+    kind: ItemKind,
+    item: &Item<A>,
+    place: usize,
+) -> Result<(), AllocError>
+    ensures noted { OnOk result (IsNoted (spec.is_named kind) (item_content item.now) place table.old table.new) }
+{
+    match name_as(kind, item) {
+        Some(name) => note(table, name, place),
+        None => Ok(()),
+    }
+}
+
+// The places of the items of a kind.
+fn places_of<A: Allocator + Clone>(
+    alloc: Global,
+    kind: ItemKind,
+    items: &[Item<A>],
+) -> Result<IndexMap<Name, usize>, AllocError>
+    ensures { IfOk result (λ m. spec.Places (spec.is_named kind) (map item_content items.now) m) }
+{
+    let mut table = IndexMap::new(alloc);
+    for (i, item) in items.iter().enumerate() {
+        note_item(&mut table, kind, item, i)?;
+    }
+    Ok(table)
 }
 
 impl<'a, A: Allocator + Clone> Tables<'a, A> {
@@ -71,11 +91,9 @@ impl<'a, A: Allocator + Clone> Tables<'a, A> {
         ensures { IfOk result (λ t. t.file.now ≡ file.now) }
     {
         let actions = item_tables(alloc, &file.items)?;
-        let Places {
-            classes,
-            objects,
-            groups,
-        } = places_of(alloc, &file.items)?;
+        let classes = places_of(alloc, ItemKind::Class, &file.items)?;
+        let objects = places_of(alloc, ItemKind::Object, &file.items)?;
+        let groups = places_of(alloc, ItemKind::Group, &file.items)?;
         Ok(Tables {
             file,
             classes,
@@ -195,12 +213,18 @@ fn stands_before(table: &IndexMap<Name, usize>, name: &Name, end: usize) -> bool
     }
 }
 
+// Whether a name has no place.
+fn is_free<P: Copy>(table: &IndexMap<Name, P>, name: &Name) -> bool
+    ensures { result ≡ not (is_some (get (pointwise nat_eq) table.now name.now)) }
+{
+    !table.contains_key(name)
+}
+
 /// Gives a name its place, unless it has one.
-#[tactic(auto, using(crate::proofs::Places::newly, crate::proofs::Places::kept_by))]
 pub fn note<P: Copy>(table: &mut IndexMap<Name, P>, name: Name, place: P) -> Result<(), AllocError>
     ensures noted { OnOk result ((q : List ℕ) → get (pointwise nat_eq) table.new q ≡ or_else (get (pointwise nat_eq) table.old q) (if named q name then Some place else None)) }
 {
-    if !table.contains_key(&name) {
+    if is_free(table, &name) {
         table.insert(name, place)?;
     }
     Ok(())

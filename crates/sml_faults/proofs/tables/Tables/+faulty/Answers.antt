@@ -2,10 +2,10 @@ use Rattle.std.proofs.Common.{◌∙◌, ap, sym, map, is_some}
 use Rattle.std.specs.List.{list_any}
 use Rattle.std.proofs.lemmas.List.Folds.{list_any-append}
 use Rattle.sml_tree.specs.Content.{file_content, class_content, action_content, instr_content, block_of, passed_content, arg_content}
-use Rattle.sml_faults.specs.Sites.{asks, sets, block_sites, instr_sites}
+use Rattle.sml_faults.specs.Sites.{asks, sets, ends, block_sites, instr_sites}
 use Rattle.sml_faults.specs.Lookup.{objects_meant}
 use Rattle.sml_faults.specs.InBlocks.{is_faulty_site, is_faulty_send}
-use Rattle.sml_faults.proofs.Instrs.{says_Do, says_Set}
+use Rattle.sml_faults.proofs.Instrs.{says_Do, says_Set, ends_in}
 use Rattle.sml_faults.proofs.InBlocks.{any_here, any_next, one_any}
 use Rattle.sml_faults.proofs.tables.Tables.+faulty.Goals as goal
 
@@ -39,3 +39,8 @@ is_faulty_instr-returns-in-Set g t c =
     let p = is_faulty_site (file_content c.args.self.now.file.now) (class_content c.args.class.now) (action_content c.args.action.now) in
     c.is_some.ensures ∙ ap is_some c.set_unknown_param.ensures ∙ sym (one_any p (sets c.in-Set.param (arg_content c.in-Set.value)))
     ∙ sym (ap (λ i. list_any p (instr_sites (instr_content i))) c.in-Set.is ∙ ap (λ i. list_any p (instr_sites i)) (says_Set c.in-Set.param c.in-Set.value))
+
+pub is_faulty_instr-returns-in-MoveTo : goal.is_faulty_instr-returns-in-MoveTo
+is_faulty_instr-returns-in-MoveTo g t c =
+    let p = is_faulty_site (file_content c.args.self.now.file.now) (class_content c.args.class.now) (action_content c.args.action.now) in
+    c.is_some-in-MoveTo.ensures ∙ ap is_some c.unknown_end.ensures ∙ sym (one_any p (ends c.in-MoveTo.state)) ∙ sym (ap (list_any p) (ends_in c.args.instr.now c.in-MoveTo.state c.in-MoveTo.is))
