@@ -26,6 +26,14 @@ module _ {X Y : Type 0} (f : Site → List Y) (g : X → InstrData) (xs ys : Lis
   pub block_next : None ≡ first (flat_map f (instr_sites (g x))) → Rest (in_block f g) xs (k + 1) r
   block_next none = first_next (in_block f g) xs ys k r x (first (flat_map f (instr_sites (g x)))) h same within is splits none
 
+-- an instruction that names one thing
+pub one_site : {X Y : Type 0} (f : X → List Y) (s : X) → first (flat_map f (s ∷ [])) ≡ first (f s)
+one_site {Y = Y} f s = by (f s)
+  where
+    by : (ys : List Y) → first (ys ++ []) ≡ first ys
+    by [] = refl
+    by (y ∷ ys) = refl
+
 or_else_found : {X : Type 0} (a b : Option X) (n : X) → Some n ≡ a → Some n ≡ or_else a b
 or_else_found a b n e = ap (λ o. or_else o b) e
 
@@ -36,6 +44,16 @@ or_else_next a b c e f = f ∙ ap (λ o. or_else o b) e
 pub first_second : {X Y : Type 0} (f : X → List Y) (cs xs bs : List X) (n : Y) → None ≡ first (flat_map f cs) → Some n ≡ first (flat_map f xs) → Some n ≡ first (flat_map f (cs ++ (xs ++ bs)))
 first_second f cs xs bs n none here =
     or_else_next (first (flat_map f cs)) (or_else (first (flat_map f xs)) (first (flat_map f bs))) (Some n) none (or_else_found (first (flat_map f xs)) (first (flat_map f bs)) n here)
+    ∙ sym (first_in-append f cs (xs ++ bs) ∙ ap (or_else (first (flat_map f cs))) (first_in-append f xs bs))
+
+-- the first of three parts
+pub first_first : {X Y : Type 0} (f : X → List Y) (cs rest : List X) (n : Y) → Some n ≡ first (flat_map f cs) → Some n ≡ first (flat_map f (cs ++ rest))
+first_first f cs rest n here = or_else_found (first (flat_map f cs)) (first (flat_map f rest)) n here ∙ sym (first_in-append f cs rest)
+
+-- the last of three parts
+pub first_third : {X Y : Type 0} (f : X → List Y) (cs xs bs : List X) (r : Option Y) → None ≡ first (flat_map f cs) → None ≡ first (flat_map f xs) → r ≡ first (flat_map f bs) → r ≡ first (flat_map f (cs ++ (xs ++ bs)))
+first_third f cs xs bs r none nor here =
+    or_else_next (first (flat_map f cs)) (or_else (first (flat_map f xs)) (first (flat_map f bs))) r none (or_else_next (first (flat_map f xs)) (first (flat_map f bs)) r nor here)
     ∙ sym (first_in-append f cs (xs ++ bs) ∙ ap (or_else (first (flat_map f cs))) (first_in-append f xs bs))
 
 -- a block with instructions

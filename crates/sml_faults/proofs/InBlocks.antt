@@ -41,6 +41,14 @@ module _ {X : Type 0} (F : List X → Bool) (xs ys : List X) (k : ℕ) (r : Bool
   pub any_next : own ≡ false → Rest F xs (k + 1) r
   any_next none = more_of F xs ys k r x h same within is (λ zs. splits zs ∙ ap (λ b. b || F zs) none)
 
+-- an instruction that names one thing
+pub one_any : {X : Type 0} (p : X → Bool) (s : X) → list_any p (s ∷ []) ≡ p s
+one_any p s = by (p s)
+  where
+    by : (b : Bool) → (b || false) ≡ b
+    by true = refl
+    by false = refl
+
 -- ---- files
 
 -- of one kind

@@ -21,3 +21,4 @@ pub mod Parts
 pub mod Suffices
 pub mod Requests
 pub mod Rules
+pub mod Instrs

@@ -1,5 +1,6 @@
 -- The comparison of lists of parameters finds those that are the same.
 use Rattle.std.proofs.Common.{◌≡◌, ◌∙◌, ap, subst, refl, Bool, true, false, ◌&&◌, List, [], ◌∷◌, Option, Some, None}
+use Rattle.std.specs.Bool.{Decides, one_answer}
 use Rattle.std.proofs.lemmas.Bool.Decides.{Decides-int_eq}
 use Rattle.sml_tree.specs.declared.file.Kind.{Kind}
 use Rattle.sml_tree.specs.declared.file.Kind.TheVariants.{Int, Str}
@@ -70,17 +71,23 @@ literal_itself : (l : LiteralData) → same_literal l l ≡ true
 literal_itself (int n) = (Decides-int_eq n n).1 refl
 literal_itself (str s) = named_same s s refl
 
+-- a comparison that decides whether two values are the same answers as this one
+pub same_literal_by : (b : Bool) (l m : LiteralData) → Decides b (l ≡ m) → b ≡ same_literal l m
+same_literal_by b l m decides = one_answer b (same_literal l m) decides (literals_agree l m, λ is. subst (λ (k : LiteralData). same_literal l k ≡ true) is (literal_itself l))
+
 default_itself : (l : Option LiteralData) → same_default l l ≡ true
 default_itself None = refl
 default_itself (Some l) = literal_itself l
 
+param_itself : (p : ActionParamData) → same_param p p ≡ true
+param_itself p =
+    both_true (same_kind p.kind p.kind && named p.name p.name) (same_default p.default p.default)
+    (both_true (same_kind p.kind p.kind) (named p.name p.name) (kind_itself p.kind) (named_same p.name p.name refl)) (default_itself p.default)
+
 pub params_themselves : (ps : List ActionParamData) → same_params ps ps ≡ true
 params_themselves [] = refl
 params_themselves (p ∷ ps) =
-    both_true (same_param p p) (same_params ps ps)
-    (both_true (same_kind p.kind p.kind && named p.name p.name) (same_default p.default p.default)
-    (both_true (same_kind p.kind p.kind) (named p.name p.name) (kind_itself p.kind) (named_same p.name p.name refl)) (default_itself p.default))
-    (params_themselves ps)
+    both_true (same_param p p) (same_params ps ps) (param_itself p) (params_themselves ps)
 
 pub same_params_decides : SameParams
 same_params_decides ps qs = (params_agree ps qs, λ is. subst (λ rs. same_params ps rs ≡ true) is (params_themselves ps))

@@ -32,6 +32,10 @@ is_initial s = s.initial
 abbrev pub is_marked_dead : StateData → Bool
 is_marked_dead s = s.dead
 
+-- whether a state has the mark of the dead one, or that of the initial one
+abbrev pub has_mark : Bool → StateData → Bool
+has_mark dead s = if dead then s.dead else s.initial
+
 -- a class with two states marked as initial
 abbrev pub two_initial : ClassData → List (List ℕ)
 two_initial c = where_so (has_two is_initial c.states) c.name

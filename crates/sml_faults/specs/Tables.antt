@@ -1,11 +1,13 @@
 -- What the look-up tables of a file say.
-use Rattle.std.specs.Prelude.{◌≡◌, ℕ, suc, Bool, List, [], ◌∷◌, Option, None, Some, option_map, flat_map, nat_eq, if◌then◌else◌}
+use Rattle.std.specs.Prelude.{◌≡◌, ℕ, suc, Bool, false, List, [], ◌∷◌, Option, None, Some, option_map, flat_map, nat_eq, nat_lt, if◌then◌else◌}
 use Rattle.std.specs.List.{slice_get}
 use Rattle.std.specs.Option.{option_and_then, option_map_or}
 use Rattle.std.specs.Cmp.Lexicographic.{pointwise}
 use Rattle.indexmap.specs.IndexMap.{IndexMap, get}
 use Rattle.sml_tree.specs.Syntax.{ItemData, class, object, group, ClassData, ObjectData, GroupData, StateData, ActionData}
 use Rattle.sml_faults.specs.declared.actions.ActionPlace.{ActionPlace}
+use Rattle.sml_faults.specs.declared.tables.ItemKind.{ItemKind}
+use Rattle.sml_faults.specs.declared.tables.ItemKind.TheVariants.{Class, Object, Group}
 use Rattle.sml_faults.specs.Lookup.{is_action, actions}
 use Rattle.sml_faults.specs.Heads.{other_params}
 use Rattle.sml_faults.specs.Repeats.{is_class, is_object, is_group}
@@ -14,6 +16,11 @@ use Rattle.sml_faults.specs.Repeats.{is_class, is_object, is_group}
 abbrev pub place_of : {X : Type 0} → (X → Bool) → List X → Option ℕ
 place_of p [] = None
 place_of p (x ∷ xs) = if p x then Some 0 else option_map suc (place_of p xs)
+
+-- whether a place is before another
+abbrev pub is_before : ℕ → Option ℕ → Bool
+is_before end None = false
+is_before end (Some k) = nat_lt k end
 
 -- a table gives each name the place of the first item of that name
 abbrev pub Places : {S : Type 0} → (List ℕ → ItemData → Bool) → List ItemData → IndexMap (List ℕ) ℕ S → Type 0
@@ -54,6 +61,28 @@ item_at f items k = option_and_then f (slice_get items k)
 -- the class at a place
 abbrev pub class_at : List ItemData → ℕ → Option ClassData
 class_at = item_at class_item
+
+-- whether an item is one of a kind and a name
+abbrev pub is_named : ItemKind → List ℕ → ItemData → Bool
+is_named Class = is_class
+is_named Object = is_object
+is_named Group = is_group
+
+-- the names of items
+abbrev pub class_name : ClassData → List ℕ
+class_name c = c.name
+
+abbrev pub object_name : ObjectData → List ℕ
+object_name o = o.name
+
+abbrev pub group_name : GroupData → List ℕ
+group_name g = g.name
+
+-- the name of an item that is of a kind
+abbrev pub name_as : ItemKind → ItemData → Option (List ℕ)
+name_as Class x = option_map class_name (class_item x)
+name_as Object x = option_map object_name (object_item x)
+name_as Group x = option_map group_name (group_item x)
 
 -- the tables of all three kinds of items
 pub record HasTables {R S T : Type 0} (items : List ItemData) (classes : IndexMap (List ℕ) ℕ R) (objects : IndexMap (List ℕ) ℕ S) (groups : IndexMap (List ℕ) ℕ T) : Type 0 where

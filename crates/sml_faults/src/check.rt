@@ -49,7 +49,7 @@ impl<'a, A: Allocator + Clone> Tables<'a, A> {
         ensures { result ≡ look.first (faults_of kind (file_content self.now.file.now)) }
     {
         match kind {
-            CheckKind::Duplicate => self.repeated(&self.file.items),
+            CheckKind::Duplicate => self.repeated(),
             CheckKind::ParamsDiffer => self.differing(),
             _ => self.items_fault(kind, &self.file.items),
         }

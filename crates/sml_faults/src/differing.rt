@@ -16,16 +16,7 @@ use std::alloc::Allocator;
 fn same_literal<A: Allocator + Clone>(value: &Literal<A>, other: &Literal<A>) -> bool
     ensures { result ≡ heads.same_literal (literal_content value.now) (literal_content other.now) }
 {
-    match value {
-        Literal::Int(n) => match other {
-            Literal::Int(m) => *n == *m,
-            Literal::Str(_) => false,
-        },
-        Literal::Str(s) => match other {
-            Literal::Int(_) => false,
-            Literal::Str(t) => s.as_slice() == t.as_slice(),
-        },
-    }
+    value.same(other)
 }
 
 // Whether two defaults are the same.

@@ -15,13 +15,20 @@ use sml_tree::literal::Literal;
 use sml_tree::name::Name;
 use std::alloc::Allocator;
 
-// Whether two states are marked as initial.
-fn two_initial<A: Allocator + Clone>(states: &[State<A>]) -> bool
-    ensures { result ≡ heads.has_two heads.is_initial (map state_content states.now) }
+// Whether a state has the mark of the dead one, or that of the initial one.
+fn has_mark<A: Allocator + Clone>(dead: bool, state: &State<A>) -> bool
+    ensures { result ≡ heads.has_mark dead (state_content state.now) }
+{
+    if dead { state.dead } else { state.initial }
+}
+
+// Whether two states have such a mark.
+fn two_marked<A: Allocator + Clone>(dead: bool, states: &[State<A>]) -> bool
+    ensures { result ≡ heads.has_two (heads.has_mark dead) (map state_content states.now) }
 {
     let mut seen = false;
     for state in states {
-        if state.initial {
+        if has_mark(dead, state) {
             if seen {
                 return true;
             }
@@ -31,20 +38,18 @@ fn two_initial<A: Allocator + Clone>(states: &[State<A>]) -> bool
     false
 }
 
+// Whether two states are marked as initial.
+fn two_initial<A: Allocator + Clone>(states: &[State<A>]) -> bool
+    ensures { result ≡ heads.has_two heads.is_initial (map state_content states.now) }
+{
+    two_marked(false, states)
+}
+
 // Whether two states are marked as dead.
 fn two_dead<A: Allocator + Clone>(states: &[State<A>]) -> bool
     ensures { result ≡ heads.has_two heads.is_marked_dead (map state_content states.now) }
 {
-    let mut seen = false;
-    for state in states {
-        if state.dead {
-            if seen {
-                return true;
-            }
-            seen = true;
-        }
-    }
-    false
+    two_marked(true, states)
 }
 
 // The first parameter of a class whose default is of another kind.

@@ -1,5 +1,5 @@
 //! What a name in a block stands for.
-ghost use Rattle.std.specs.Prelude.{◌≡◌, map, option_map};
+ghost use Rattle.std.specs.Prelude.{◌≡◌, ◌||◌, map, option_map};
 ghost use Rattle.std.specs.List.{list_any, find};
 ghost use Rattle.sml_tree.specs.Content.{file_content, class_content, action_content, state_content, class_param_content, action_param_content};
 ghost use Rattle.sml_faults.specs.Lookup as look;
@@ -29,16 +29,6 @@ impl<'a, A: Allocator + Clone> Tables<'a, A> {
     {
         match self.object(object) {
             Some(found) => self.class_action(&found.class, action),
-            None => None,
-        }
-    }
-
-    // The action that a class declares.
-    fn class_action(&self, class: &Name, action: &Name) -> Option<&'a Action<A>>
-        ensures { option_map (λ a. action_content a.now) result ≡ look.action_in (look.class_named (file_content self.now.file.now) class.now) action.now }
-    {
-        match self.class_place(class) {
-            Some(place) => self.action_at(place, action),
             None => None,
         }
     }
@@ -92,6 +82,13 @@ pub fn of_set(scope: Scope) -> bool
     }
 }
 
+/// Whether two names are the same.
+pub fn is_name(name: &Name, other: &Name) -> bool
+    ensures { result ≡ look.named name.now other.now }
+{
+    *name == *other
+}
+
 /// Whether a name is among others.
 pub fn is_among(names: &[Name], name: &Name) -> bool
     ensures { result ≡ look.among names.now name.now }
@@ -116,11 +113,18 @@ pub fn declares_state<A: Allocator + Clone>(states: &[State<A>], state: &Name) -
     ensures { result ≡ list_any (look.is_state state.now) (map state_content states.now) }
 {
     for declared in states {
-        if *state == declared.name {
+        if is_name(state, &declared.name) {
             return true;
         }
     }
     false
+}
+
+// Whether a state is marked as the dead one, or has this name.
+fn is_dead<A: Allocator + Clone>(dead: &Name, state: &State<A>) -> bool
+    ensures { result ≡ (state.now.dead || look.named dead.now state.now.name) }
+{
+    state.dead || *dead == state.name
 }
 
 // Whether some state is marked as the dead one, or has its name.
@@ -129,7 +133,7 @@ fn has_dead<A: Allocator + Clone>(states: &[State<A>]) -> bool
 {
     let dead = dead_name();
     for state in states {
-        if state.dead || dead == state.name {
+        if is_dead(&dead, state) {
             return true;
         }
     }
@@ -143,6 +147,21 @@ fn dead_name() -> Name
     Name::from_word(b"DEAD")
 }
 
+/// The first of some parameters of a class that has this name.
+pub fn class_param_in<'b, A: Allocator + Clone>(
+    params: &'b [ClassParam<A>],
+    name: &Name,
+) -> Option<&'b ClassParam<A>>
+    ensures { option_map (λ p. class_param_content p.now) result ≡ find (look.is_class_param name.now) (map class_param_content params.now) }
+{
+    for param in params {
+        if is_name(name, &param.name) {
+            return Some(param);
+        }
+    }
+    None
+}
+
 /// The parameter of a class.
 pub fn class_param<'b, A: Allocator + Clone>(
     class: &'b Class<A>,
@@ -150,8 +169,18 @@ pub fn class_param<'b, A: Allocator + Clone>(
 ) -> Option<&'b ClassParam<A>>
     ensures { option_map (λ p. class_param_content p.now) result ≡ look.class_param (class_content class.now) name.now }
 {
-    for param in &class.params {
-        if *name == param.name {
+    class_param_in(&class.params, name)
+}
+
+/// The first of some parameters of an action that has this name.
+pub fn action_param_in<'b, A: Allocator + Clone>(
+    params: &'b [ActionParam<A>],
+    name: &Name,
+) -> Option<&'b ActionParam<A>>
+    ensures { option_map (λ p. action_param_content p.now) result ≡ find (look.is_action_param name.now) (map action_param_content params.now) }
+{
+    for param in params {
+        if is_name(name, &param.name) {
             return Some(param);
         }
     }
@@ -165,10 +194,5 @@ pub fn action_param<'b, A: Allocator + Clone>(
 ) -> Option<&'b ActionParam<A>>
     ensures { option_map (λ p. action_param_content p.now) result ≡ look.action_param (action_content action.now) name.now }
 {
-    for param in &action.params {
-        if *name == param.name {
-            return Some(param);
-        }
-    }
-    None
+    action_param_in(&action.params, name)
 }

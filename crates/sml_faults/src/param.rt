@@ -1,13 +1,13 @@
 //! Parameters and arguments.
-ghost use Rattle.std.specs.Prelude.{◌≡◌, map, flat_map};
+ghost use Rattle.std.specs.Prelude.{◌≡◌, ◌&&◌, not, is_some, map, flat_map};
 ghost use Rattle.std.specs.List.{list_any};
-ghost use Rattle.sml_tree.specs.Content.{file_content, class_content, action_content, arg_content, passed_content};
+ghost use Rattle.sml_tree.specs.Content.{file_content, class_content, action_content, action_param_content, arg_content, passed_content};
 ghost use Rattle.sml_faults.specs.Lookup as look;
 ghost use Rattle.sml_faults.specs.Faults as faults;
 
-use crate::lookup::{action_param, class_param};
+use crate::lookup::{action_param, class_param, is_name};
 use crate::tables::Tables;
-use sml_tree::file::{Action, Class};
+use sml_tree::file::{Action, ActionParam, Class};
 use sml_tree::literal::{Arg, Passed};
 use sml_tree::name::Name;
 use std::alloc::Allocator;
@@ -53,19 +53,29 @@ pub fn passes<A: Allocator + Clone>(args: &[Passed<A>], name: &Name) -> bool
     ensures { result ≡ list_any (look.is_passed name.now) (map passed_content args.now) }
 {
     for passed in args {
-        if *name == passed.name {
+        if is_name(name, &passed.name) {
             return true;
         }
     }
     false
 }
 
-// The first parameter of an action with no default and no argument.
-fn missing_param<A: Allocator + Clone>(action: &Action<A>, args: &[Passed<A>]) -> Option<Name>
-    ensures { result ≡ look.first (flat_map (faults.missing_param (map passed_content args.now)) (action_content action.now).params) }
+// Whether a parameter has no default and no argument.
+fn is_missing<A: Allocator + Clone>(param: &ActionParam<A>, args: &[Passed<A>]) -> bool
+    ensures { result ≡ (not (is_some (action_param_content param.now).default) && not (list_any (look.is_passed param.now.name) (map passed_content args.now))) }
 {
-    for param in &action.params {
-        if param.default.is_none() && !passes(args, &param.name) {
+    param.default.is_none() && !passes(args, &param.name)
+}
+
+// The first of some parameters with no default and no argument.
+fn missing_param<A: Allocator + Clone>(
+    params: &[ActionParam<A>],
+    args: &[Passed<A>],
+) -> Option<Name>
+    ensures { result ≡ look.first (flat_map (faults.missing_param (map passed_content args.now)) (map action_param_content params.now)) }
+{
+    for param in params {
+        if is_missing(param, args) {
             return Some(param.name);
         }
     }
@@ -151,7 +161,7 @@ impl<'a, A: Allocator + Clone> Tables<'a, A> {
         ensures { result ≡ look.first (faults.missing_at (file_content self.now.file.now) called.now (map passed_content args.now) object.now) }
     {
         match self.action_of(called, object) {
-            Some(action) => missing_param(action, args),
+            Some(action) => missing_param(&action.params, args),
             None => None,
         }
     }

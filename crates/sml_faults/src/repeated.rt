@@ -1,12 +1,14 @@
 //! What has the name of something of its kind that stands before it.
-ghost use Rattle.std.specs.Prelude.{◌≡◌, map, []};
+ghost use Rattle.std.specs.Prelude.{◌≡◌, ◌||◌, [], map, take, is_some};
 ghost use Rattle.std.specs.List.{list_any};
 ghost use Rattle.sml_tree.specs.Content.{file_content, class_content, action_content, state_content, item_content, passed_content, class_param_content, action_param_content};
 ghost use Rattle.sml_faults.specs.Lookup as look;
 ghost use Rattle.sml_faults.specs.Repeats as repeats;
 
 use crate::kind::CheckKind;
-use crate::lookup::{class_param, declares_state, is_among};
+use crate::lookup::{
+    action_param_in, class_param, class_param_in, declares_state, is_among, is_name,
+};
 use crate::param::passes;
 use crate::tables::Tables;
 use sml_tree::file::{Action, ActionParam, Class, ClassParam, Item, State};
@@ -38,40 +40,27 @@ pub fn repeated_passed<A: Allocator + Clone>(args: &[Passed<A>]) -> Option<Name>
     None
 }
 
-// Whether a parameter of a class has this name.
-fn names_class_param<A: Allocator + Clone>(params: &[ClassParam<A>], name: &Name) -> bool
-    ensures { result ≡ list_any (look.is_class_param name.now) (map class_param_content params.now) }
-{
-    for param in params {
-        if *name == param.name {
-            return true;
-        }
-    }
-    false
-}
-
 // The first parameter of a class that has one of its name before it.
 fn repeated_class_param<A: Allocator + Clone>(params: &[ClassParam<A>]) -> Option<Name>
     ensures { result ≡ look.first (repeats.each_after repeats.repeated_class_param [] (map class_param_content params.now)) }
 {
     for (i, param) in params.iter().enumerate() {
-        if names_class_param(&params[..i], &param.name) {
+        if class_param_in(&params[..i], &param.name).is_some() {
             return Some(param.name);
         }
     }
     None
 }
 
-// Whether a parameter of an action has this name.
-fn names_action_param<A: Allocator + Clone>(params: &[ActionParam<A>], name: &Name) -> bool
-    ensures { result ≡ list_any (look.is_action_param name.now) (map action_param_content params.now) }
+// Whether a class, or some parameters of an action, have a parameter of a name.
+fn names_param<A: Allocator + Clone>(
+    class: &Class<A>,
+    params: &[ActionParam<A>],
+    name: &Name,
+) -> bool
+    ensures { result ≡ (is_some (look.class_param (class_content class.now) name.now) || list_any (look.is_action_param name.now) (map action_param_content params.now)) }
 {
-    for param in params {
-        if *name == param.name {
-            return true;
-        }
-    }
-    false
+    class_param(class, name).is_some() || action_param_in(params, name).is_some()
 }
 
 // The first parameter of an action that is named as one of its class, or as one before it.
@@ -82,9 +71,7 @@ fn repeated_action_param<A: Allocator + Clone>(
     ensures { result ≡ look.first (repeats.each_after (repeats.repeated_action_param (class_content class.now)) [] (map action_param_content params.now)) }
 {
     for (i, param) in params.iter().enumerate() {
-        if class_param(class, &param.name).is_some()
-            || names_action_param(&params[..i], &param.name)
-        {
+        if names_param(class, &params[..i], &param.name) {
             return Some(param.name);
         }
     }
@@ -96,50 +83,8 @@ fn names_action<A: Allocator + Clone>(actions: &[Action<A>], name: &Name) -> boo
     ensures { result ≡ list_any (look.is_action name.now) (map action_content actions.now) }
 {
     for action in actions {
-        if *name == action.name {
+        if is_name(name, &action.name) {
             return true;
-        }
-    }
-    false
-}
-
-// Whether a class of this name is among some items.
-fn names_class<A: Allocator + Clone>(items: &[Item<A>], name: &Name) -> bool
-    ensures { result ≡ list_any (repeats.is_class name.now) (map item_content items.now) }
-{
-    for item in items {
-        if let Item::Class(class) = item {
-            if *name == class.name {
-                return true;
-            }
-        }
-    }
-    false
-}
-
-// Whether an object of this name is among some items.
-fn names_object<A: Allocator + Clone>(items: &[Item<A>], name: &Name) -> bool
-    ensures { result ≡ list_any (repeats.is_object name.now) (map item_content items.now) }
-{
-    for item in items {
-        if let Item::Object(object) = item {
-            if *name == object.name {
-                return true;
-            }
-        }
-    }
-    false
-}
-
-// Whether a set of this name is among some items.
-fn names_group<A: Allocator + Clone>(items: &[Item<A>], name: &Name) -> bool
-    ensures { result ≡ list_any (repeats.is_group name.now) (map item_content items.now) }
-{
-    for item in items {
-        if let Item::Group(group) = item {
-            if *name == group.name {
-                return true;
-            }
         }
     }
     false
@@ -198,28 +143,27 @@ impl<'a, A: Allocator + Clone> Tables<'a, A> {
         }
     }
 
-    // What an item repeats of those before it, or what is repeated in it.
-    #[tactic(auto, using(crate::proofs::Rests::firsts))]
-    fn repeated_item(&self, before: &[Item<A>], item: &Item<A>) -> Option<Name>
-        ensures { result ≡ look.first (repeats.repeated_item (map item_content before.now) (item_content item.now)) }
+    // What the item at a place repeats of those before it, or what is repeated in it.
+    fn repeated_item(&self, place: usize, item: &Item<A>) -> Option<Name>
+        ensures { result ≡ look.first (repeats.repeated_item (map item_content (take place self.now.file.now.items.items)) (item_content item.now)) }
     {
         match item {
             Item::Class(class) => {
-                if names_class(before, &class.name) {
+                if self.names_class(&class.name, place) {
                     Some(class.name)
                 } else {
                     self.repeated_in_class(class)
                 }
             }
             Item::Object(object) => {
-                if names_object(before, &object.name) {
+                if self.names_object(&object.name, place) {
                     Some(object.name)
                 } else {
                     None
                 }
             }
             Item::Group(group) => {
-                if names_group(before, &group.name) {
+                if self.names_group(&group.name, place) {
                     Some(group.name)
                 } else {
                     repeated_name(&group.members)
@@ -229,13 +173,14 @@ impl<'a, A: Allocator + Clone> Tables<'a, A> {
     }
 
     /// The first name in the text that something of its kind before it has. The cost is the square of
-    /// the counts of items, of the states of a class, of the actions of a state and of the entries of a
-    /// list, all of which are limited.
-    pub fn repeated(&self, items: &[Item<A>]) -> Option<Name>
-        ensures { result ≡ look.first (repeats.each_after repeats.repeated_item [] (map item_content items.now)) }
+    /// the counts of the states of a class, of the actions of a state and of the entries of a list, all
+    /// of which are limited.
+    pub fn repeated(&self) -> Option<Name>
+        ensures { result ≡ look.first (repeats.each_after repeats.repeated_item [] (file_content self.now.file.now)) }
     {
-        for (i, item) in items.iter().enumerate() {
-            if let Some(name) = self.repeated_item(&items[..i], item) {
+        let file = self.file;
+        for (i, item) in file.items.iter().enumerate() {
+            if let Some(name) = self.repeated_item(i, item) {
                 return Some(name);
             }
         }

@@ -16,10 +16,10 @@ impl<'a, A: Allocator + Clone> Tables<'a, A> {
     pub fn unknown_object(&self, set: bool, name: &Name) -> Option<Name>
         ensures { result ≡ look.first (faults.unknown_object (file_content self.now.file.now) set name.now) }
     {
-        if !set && self.object(name).is_none() {
-            Some(*name)
-        } else {
+        if set || self.object(name).is_some() {
             None
+        } else {
+            Some(*name)
         }
     }
 

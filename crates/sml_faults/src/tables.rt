@@ -1,16 +1,17 @@
 //! The items of a file by their names.
-ghost use Rattle.std.specs.Prelude.{◌≡◌, ℕ, List, Some, None, OnOk, IfOk, map, option_map, nat_eq, if◌then◌else◌};
+ghost use Rattle.std.specs.Prelude.{◌≡◌, ℕ, List, Some, None, OnOk, IfOk, map, option_map, take, nat_eq, if◌then◌else◌, not, is_some};
+ghost use Rattle.std.specs.List.{list_any, slice_get};
 ghost use Rattle.std.specs.Cmp.Lexicographic.{pointwise};
 ghost use Rattle.indexmap.specs.IndexMap.{get};
-ghost use Rattle.sml_tree.specs.Content.{file_content, item_content, class_content, object_content, group_content};
-ghost use Rattle.sml_faults.specs.Lookup.{named, class_named, object_named, group_named};
+ghost use Rattle.sml_tree.specs.Content.{file_content, item_content, class_content, object_content, group_content, action_content};
+ghost use Rattle.sml_faults.specs.Lookup.{named, class_named, object_named, group_named, action_in};
 ghost use Rattle.sml_faults.specs.Tables as spec;
 ghost use Rattle.sml_faults.specs.Repeats.{is_class, is_object, is_group};
 ghost use Rattle.sml_faults.specs.Tables.{HasTables, IsNoted, ActionTables, or_else, place_of, item_at};
 
 use crate::actions::{ActionPlace, item_tables};
 use indexmap::IndexMap;
-use sml_tree::file::{Class, Group, Item, Object, SmlFile};
+use sml_tree::file::{Action, Class, Group, Item, Object, SmlFile};
 use sml_tree::name::Name;
 use std::alloc::{AllocError, Allocator, Global};
 
@@ -26,42 +27,62 @@ pub struct Tables<'a, A: Allocator + Clone> {
     ghost declared: { ActionTables (file_content file.now) actions.items },
 }
 
-// The places of some items by their names, a table for each kind of item.
-#[derive(Drop)]
-struct Places {
-    classes: IndexMap<Name, usize>,
-    objects: IndexMap<Name, usize>,
-    groups: IndexMap<Name, usize>,
+// The kinds of items.
+#[derive(Clone, Copy)]
+enum ItemKind {
+    Class,
+    Object,
+    Group,
 }
 
-impl Places {
-    // Gives an item's name its place among those of its kind, unless it has one.
-    fn note<A: Allocator + Clone>(&mut self, item: &Item<A>, place: usize) -> Result<(), AllocError>
-        ensures classes { OnOk result (IsNoted is_class (item_content item.now) place self.old.classes self.new.classes) }
-        ensures objects { OnOk result (IsNoted is_object (item_content item.now) place self.old.objects self.new.objects) }
-        ensures groups { OnOk result (IsNoted is_group (item_content item.now) place self.old.groups self.new.groups) }
-    {
-        match item {
-            Item::Class(class) => note(&mut self.classes, class.name, place),
-            Item::Object(object) => note(&mut self.objects, object.name, place),
-            Item::Group(group) => note(&mut self.groups, group.name, place),
-        }
-    }
-}
-
-// The places of a file's items.
-fn places_of<A: Allocator + Clone>(alloc: Global, items: &[Item<A>]) -> Result<Places, AllocError>
-    ensures { IfOk result (λ p. HasTables (map item_content items.now) p.classes p.objects p.groups) }
+// The name of an item that is of a kind.
+fn name_as<A: Allocator + Clone>(kind: ItemKind, item: &Item<A>) -> Option<Name>
+    ensures { result ≡ spec.name_as kind (item_content item.now) }
 {
-    let mut places = Places {
-        classes: IndexMap::new(alloc),
-        objects: IndexMap::new(alloc),
-        groups: IndexMap::new(alloc),
-    };
-    for (i, item) in items.iter().enumerate() {
-        places.note(item, i)?;
+    match kind {
+        ItemKind::Class => match class_item(item) {
+            Some(class) => Some(class.name),
+            None => None,
+        },
+        ItemKind::Object => match object_item(item) {
+            Some(object) => Some(object.name),
+            None => None,
+        },
+        ItemKind::Group => match group_item(item) {
+            Some(group) => Some(group.name),
+            None => None,
+        },
     }
-    Ok(places)
+}
+
+// Gives the name of an item of a kind its place, unless it has one.
+fn note_item<A: Allocator + Clone>(
+    table: &mut IndexMap<Name, usize>,
+    kind: ItemKind,
+    item: &Item<A>,
+    place: usize,
+) -> Result<(), AllocError>
+    ensures noted { OnOk result (IsNoted (spec.is_named kind) (item_content item.now) place table.old table.new) }
+{
+    match name_as(kind, item) {
+        Some(name) => note(table, name, place),
+        None => Ok(()),
+    }
+}
+
+// The places of the items of a kind.
+fn places_of<A: Allocator + Clone>(
+    alloc: Global,
+    kind: ItemKind,
+    items: &[Item<A>],
+) -> Result<IndexMap<Name, usize>, AllocError>
+    ensures { IfOk result (λ m. spec.Places (spec.is_named kind) (map item_content items.now) m) }
+{
+    let mut table = IndexMap::new(alloc);
+    for (i, item) in items.iter().enumerate() {
+        note_item(&mut table, kind, item, i)?;
+    }
+    Ok(table)
 }
 
 impl<'a, A: Allocator + Clone> Tables<'a, A> {
@@ -70,11 +91,9 @@ impl<'a, A: Allocator + Clone> Tables<'a, A> {
         ensures { IfOk result (λ t. t.file.now ≡ file.now) }
     {
         let actions = item_tables(alloc, &file.items)?;
-        let Places {
-            classes,
-            objects,
-            groups,
-        } = places_of(alloc, &file.items)?;
+        let classes = places_of(alloc, ItemKind::Class, &file.items)?;
+        let objects = places_of(alloc, ItemKind::Object, &file.items)?;
+        let groups = places_of(alloc, ItemKind::Group, &file.items)?;
         Ok(Tables {
             file,
             classes,
@@ -114,19 +133,19 @@ impl<'a, A: Allocator + Clone> Tables<'a, A> {
         }
     }
 
-    /// The place of the class of a name among the items.
-    pub fn class_place(&self, name: &Name) -> Option<usize>
-        ensures { result ≡ place_of (is_class name.now) (file_content self.now.file.now) }
+    // The item at a place.
+    fn item(&self, place: usize) -> Option<&'a Item<A>>
+        ensures { option_map (λ x. item_content x.now) result ≡ slice_get (file_content self.now.file.now) place }
     {
-        self.classes.get(name).copied()
+        let file: &'a SmlFile<A> = self.file;
+        file.items.get(place)
     }
 
     /// The class at a place among the items.
     pub fn class_at(&self, place: usize) -> Option<&'a Class<A>>
         ensures { option_map (λ x. class_content x.now) result ≡ item_at spec.class_item (file_content self.now.file.now) place }
     {
-        let file: &'a SmlFile<A> = self.file;
-        match file.items.get(place) {
+        match self.item(place) {
             Some(item) => class_item(item),
             None => None,
         }
@@ -136,8 +155,7 @@ impl<'a, A: Allocator + Clone> Tables<'a, A> {
     fn object_at(&self, place: usize) -> Option<&'a Object>
         ensures { option_map (λ x. object_content x.now) result ≡ item_at spec.object_item (file_content self.now.file.now) place }
     {
-        let file: &'a SmlFile<A> = self.file;
-        match file.items.get(place) {
+        match self.item(place) {
             Some(item) => object_item(item),
             None => None,
         }
@@ -147,19 +165,66 @@ impl<'a, A: Allocator + Clone> Tables<'a, A> {
     fn group_at(&self, place: usize) -> Option<&'a Group<A>>
         ensures { option_map (λ x. group_content x.now) result ≡ item_at spec.group_item (file_content self.now.file.now) place }
     {
-        let file: &'a SmlFile<A> = self.file;
-        match file.items.get(place) {
+        match self.item(place) {
             Some(item) => group_item(item),
             None => None,
         }
     }
+
+    /// The action that the class of a name declares.
+    pub fn class_action(&self, class: &Name, action: &Name) -> Option<&'a Action<A>>
+        ensures { option_map (λ a. action_content a.now) result ≡ action_in (class_named (file_content self.now.file.now) class.now) action.now }
+    {
+        match self.classes.get(class) {
+            Some(place) => self.action_at(*place, action),
+            None => None,
+        }
+    }
+
+    /// Whether a class of this name stands before a place.
+    pub fn names_class(&self, name: &Name, end: usize) -> bool
+        ensures { result ≡ list_any (is_class name.now) (map item_content (take end self.now.file.now.items.items)) }
+    {
+        stands_before(&self.classes, name, end)
+    }
+
+    /// Whether an object of this name stands before a place.
+    pub fn names_object(&self, name: &Name, end: usize) -> bool
+        ensures { result ≡ list_any (is_object name.now) (map item_content (take end self.now.file.now.items.items)) }
+    {
+        stands_before(&self.objects, name, end)
+    }
+
+    /// Whether a set of this name stands before a place.
+    pub fn names_group(&self, name: &Name, end: usize) -> bool
+        ensures { result ≡ list_any (is_group name.now) (map item_content (take end self.now.file.now.items.items)) }
+    {
+        stands_before(&self.groups, name, end)
+    }
+}
+
+// Whether the place that a name has is before another.
+fn stands_before(table: &IndexMap<Name, usize>, name: &Name, end: usize) -> bool
+    ensures { result ≡ spec.is_before end (get (pointwise nat_eq) table.now name.now) }
+{
+    match table.get(name) {
+        Some(place) => *place < end,
+        None => false,
+    }
+}
+
+// Whether a name has no place.
+fn is_free<P: Copy>(table: &IndexMap<Name, P>, name: &Name) -> bool
+    ensures { result ≡ not (is_some (get (pointwise nat_eq) table.now name.now)) }
+{
+    !table.contains_key(name)
 }
 
 /// Gives a name its place, unless it has one.
 pub fn note<P: Copy>(table: &mut IndexMap<Name, P>, name: Name, place: P) -> Result<(), AllocError>
     ensures noted { OnOk result ((q : List ℕ) → get (pointwise nat_eq) table.new q ≡ or_else (get (pointwise nat_eq) table.old q) (if named q name then Some place else None)) }
 {
-    if !table.contains_key(&name) {
+    if is_free(table, &name) {
         table.insert(name, place)?;
     }
     Ok(())

@@ -6,4 +6,4 @@ use Rattle.sml_faults.proofs.Rests.{Rest}
 use Rattle.sml_faults.proofs.param.missing_param.Given as goal
 
 abbrev pub invariant-loop-param : goal.invariant-loop-param
-invariant-loop-param g l = Rest (λ ys. look.first (flat_map (faults.missing_param (map passed_content l.args)) (map action_param_content ys))) l.action.params.items l.param-index (let ys = l.action.params.items in look.first (flat_map (faults.missing_param (map passed_content l.args)) (map action_param_content ys)))
+invariant-loop-param g l = Rest (λ ys. look.first (flat_map (faults.missing_param (map passed_content l.args)) (map action_param_content ys))) l.params l.param-index (let ys = l.params in look.first (flat_map (faults.missing_param (map passed_content l.args)) (map action_param_content ys)))

@@ -1,10 +1,12 @@
-use Rattle.std.proofs.Common.{◌∙◌, sym, map}
+use Rattle.std.proofs.Common.{◌∙◌, ap, sym, map, is_some}
 use Rattle.std.specs.List.{list_any}
 use Rattle.std.proofs.lemmas.List.Folds.{list_any-append}
-use Rattle.sml_tree.specs.Content.{file_content, class_content, action_content, instr_content, block_of}
-use Rattle.sml_faults.specs.Sites.{block_sites, instr_sites}
-use Rattle.sml_faults.specs.InBlocks.{is_faulty_site}
-use Rattle.sml_faults.proofs.InBlocks.{any_here, any_next}
+use Rattle.sml_tree.specs.Content.{file_content, class_content, action_content, instr_content, block_of, passed_content, arg_content}
+use Rattle.sml_faults.specs.Sites.{asks, sets, ends, block_sites, instr_sites}
+use Rattle.sml_faults.specs.Lookup.{objects_meant}
+use Rattle.sml_faults.specs.InBlocks.{is_faulty_site, is_faulty_send}
+use Rattle.sml_faults.proofs.Instrs.{says_Do, says_Set, ends_in}
+use Rattle.sml_faults.proofs.InBlocks.{any_here, any_next, one_any}
 use Rattle.sml_faults.proofs.tables.Tables.+faulty.Goals as goal
 
 pub is_faulty_block-returns-then-is_faulty_instr : goal.is_faulty_block-returns-then-is_faulty_instr
@@ -20,3 +22,25 @@ is_faulty_block-loop-instr-preserved g t c =
     let own = instr_sites (instr_content c.instr-item.result) in
     any_next (λ ys. list_any p (block_sites (block_of (map instr_content ys)))) c.args.block.now.instrs.items c.deref-instr-items.result.now c.loop-instr.instr-index _ c.instr-item.result (list_any p own)
     c.loop-instr.invariant c.deref-instr-items.ensures.value c.loop-instr-test.true c.instr-item.is (λ zs. list_any-append p own (block_sites (block_of (map instr_content zs)))) (sym c.is_faulty_instr.ensures ∙ c.if-is_faulty_instr.false)
+
+pub is_faulty_instr-returns-in-Do : goal.is_faulty_instr-returns-in-Do
+is_faulty_instr-returns-in-Do g t c =
+    let file = file_content c.args.self.now.file.now in
+    let k = class_content c.args.class.now in
+    let a = action_content c.args.action.now in
+    let p = is_faulty_site file k a in
+    c.is_faulty_send.ensures
+    ∙ ap (λ as'. is_faulty_send file k a (record { action = c.in-Do.called; args = map passed_content as'; all = c.in-Do.all; target = c.in-Do.target }) (objects_meant file c.in-Do.all c.in-Do.target)) c.deref.ensures.value
+    ∙ sym (one_any p (asks (record { action = c.in-Do.called; args = map passed_content c.in-Do.args.items; all = c.in-Do.all; target = c.in-Do.target })))
+    ∙ sym (ap (λ i. list_any p (instr_sites (instr_content i))) c.in-Do.is ∙ ap (λ i. list_any p (instr_sites i)) (says_Do c.in-Do.called c.in-Do.args c.in-Do.all c.in-Do.target))
+
+pub is_faulty_instr-returns-in-Set : goal.is_faulty_instr-returns-in-Set
+is_faulty_instr-returns-in-Set g t c =
+    let p = is_faulty_site (file_content c.args.self.now.file.now) (class_content c.args.class.now) (action_content c.args.action.now) in
+    c.is_some.ensures ∙ ap is_some c.set_unknown_param.ensures ∙ sym (one_any p (sets c.in-Set.param (arg_content c.in-Set.value)))
+    ∙ sym (ap (λ i. list_any p (instr_sites (instr_content i))) c.in-Set.is ∙ ap (λ i. list_any p (instr_sites i)) (says_Set c.in-Set.param c.in-Set.value))
+
+pub is_faulty_instr-returns-in-MoveTo : goal.is_faulty_instr-returns-in-MoveTo
+is_faulty_instr-returns-in-MoveTo g t c =
+    let p = is_faulty_site (file_content c.args.self.now.file.now) (class_content c.args.class.now) (action_content c.args.action.now) in
+    c.is_some-in-MoveTo.ensures ∙ ap is_some c.unknown_end.ensures ∙ sym (one_any p (ends c.in-MoveTo.state)) ∙ sym (ap (list_any p) (ends_in c.args.instr.now c.in-MoveTo.state c.in-MoveTo.is))

@@ -6,5 +6,5 @@ use Rattle.sml_faults.proofs.FaultKinds.{single}
 use Rattle.sml_faults.proofs.tables.Tables.fault_of.Goals as goal
 
 pub returns-in_default : goal.returns-in_default
-returns-in_default g c = c.items_fault.ensures ∙ ap (λ ys. first (flat_map (item_faults c.args.kind (file_content c.args.self.now.file.now)) (map item_content ys))) c.deref-in_default.ensures.value
+returns-in_default g c = c.items_fault.ensures ∙ ap (λ ys. first (flat_map (item_faults c.args.kind (file_content c.args.self.now.file.now)) (map item_content ys))) c.deref.ensures.value
     ∙ sym (ap first (single c.args.kind (file_content c.args.self.now.file.now) c.in_default.not-Duplicate c.in_default.not-ParamsDiffer))

@@ -1,0 +1,10 @@
+use Rattle.sml_tree.specs.Content.{state_content}
+use Rattle.sml_faults.specs.Lookup.{is_state}
+use Rattle.sml_faults.proofs.Rests.{any_one, any_more}
+use Rattle.sml_faults.proofs.lookup.declares_state.Goals as goal
+
+pub returns-then-is_name : goal.returns-then-is_name
+returns-then-is_name g c = any_one (is_state c.args.state.now) state_content c.args.states.now c.loop-declared.declared-index _ c.declared-item.result c.loop-declared.invariant c.loop-declared-test.true c.declared-item.is c.if-is_name.ensures
+
+pub loop-declared-preserved : goal.loop-declared-preserved
+loop-declared-preserved g c = any_more (is_state c.args.state.now) state_content c.args.states.now c.loop-declared.declared-index _ c.declared-item.result c.loop-declared.invariant c.loop-declared-test.true c.declared-item.is c.if-is_name.ensures

@@ -1,9 +1,0 @@
-use Rattle.std.proofs.Common.{map}
-use Rattle.std.specs.List.{list_any}
-use Rattle.sml_tree.specs.Content.{action_param_content}
-use Rattle.sml_faults.specs.Lookup as look
-use Rattle.sml_faults.proofs.Rests.{Rest}
-use Rattle.sml_faults.proofs.repeated.names_action_param.Given as goal
-
-abbrev pub invariant-loop-param : goal.invariant-loop-param
-invariant-loop-param g l = Rest (λ ys. list_any (look.is_action_param l.name) (map action_param_content ys)) l.params l.param-index (let ys = l.params in list_any (look.is_action_param l.name) (map action_param_content ys))
