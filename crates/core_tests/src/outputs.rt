@@ -1,26 +1,24 @@
 //! What schedules write.
 
+use crate::domain_of::has_core;
 use smi_core::{Core, run_schedule};
-use sml_domain::domain::Domain;
 use std::alloc::Global;
-use std::sync::Arc;
-use std::test::Fail;
 
-/// A core of a domain, with mailboxes for 16 requests.
-pub fn core_of(alloc: Global, domain: Arc<Domain>) -> Result<Core, Fail> {
-    match Core::new(alloc, domain, 16, 1_000_000) {
-        Ok(core) => Ok(core),
-        Err(error) => Err(Fail::from(error)),
-    }
+// Whether a schedule is run to its end and writes this.
+fn is_written(alloc: Global, core: &mut Core, schedule: &[u8], expected: &[u8]) -> bool {
+    let mut reader = schedule;
+    let mut written = Vec::new(alloc);
+    let ran = run_schedule(alloc, core, &mut reader, &mut written);
+    ran.is_ok() && written.as_slice() == expected
 }
 
-/// What a schedule writes on a domain.
-pub fn output(alloc: Global, domain: Arc<Domain>, text: &[u8]) -> Result<Vec<u8>, Fail> {
-    let mut core = core_of(alloc, domain)?;
-    let mut reader = text;
-    let mut written = Vec::new(alloc);
-    match run_schedule(alloc, &mut core, &mut reader, &mut written) {
-        Ok(()) => Ok(written),
-        Err(fault) => Err(Fail::from(fault)),
-    }
+/// Whether a schedule writes this on the domain of a text, with mailboxes for 16 requests.
+pub fn writes(alloc: Global, text: &[u8], schedule: &[u8], expected: &[u8]) -> bool {
+    has_core(
+        alloc,
+        text,
+        16,
+        1_000_000,
+        |core| is_written(alloc, core, schedule, expected),
+    )
 }

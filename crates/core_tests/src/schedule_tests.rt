@@ -1,10 +1,9 @@
 //! Schedules on the first path, with readers and writers that fail.
-use crate::domain_of::{domain_of, first};
-use crate::outputs::{core_of, output};
+use crate::domain_of::{FIRST, has_core};
+use crate::outputs::writes;
 use smi_core::{Core, LineError, ScheduleFault, Step, read_step, run_schedule};
 use std::alloc::{AllocError, Global};
 use std::io::{Error, Read, Write};
-use std::test::Fail;
 
 const FIRST_PATH: &[u8] = b"request @1 B GO\nstart B\ngo B\ngo B\nstart L\ngo L\nstart L\n";
 
@@ -56,45 +55,40 @@ impl Read for Failing {
     }
 }
 
-// A core of a lamp and its boss.
-fn core_of_first(alloc: Global) -> Result<Core, Fail> {
-    core_of(alloc, first(alloc)?)
+#[test]
+fn first_path_by_lines(rt: HostRuntime) {
+    assert!(rt; writes(rt.alloc(), FIRST, FIRST_PATH, FIRST_OUTPUT));
 }
 
-#[test]
-fn first_path_by_lines(rt: HostRuntime) -> Result<(), Fail> {
-    let domain = first(rt.alloc())?;
-    let written = output(rt.alloc(), domain, FIRST_PATH)?;
-    assert_eq!(rt; written.as_slice(), FIRST_OUTPUT);
-    Ok(())
-}
+// A schedule, and what it writes.
+type Told = (&'static [u8], &'static [u8]);
+
+const NO_STEPS: &[Told] = &[
+    (
+        b"begin L\nstart SET\nrequest @9 L LIGHT\nrequest @1 L LIGHT ()\n\n ! a comment\r\nrequest@1L light\nstart L L\nstart \x80\n",
+        b"refused BadLine\nrefused BadLine\nrefused BadLine\nrefused BadLine\naccept @1 L 0 LIGHT\nrefused BadLine\nrefused BadLine\n",
+    ),
+    (b"start L", b"refused Empty\n"),
+];
 
 #[test]
-fn lines_that_are_no_steps(rt: HostRuntime) -> Result<(), Fail> {
-    let text =
-        b"begin L\nstart SET\nrequest @9 L LIGHT\nrequest @1 L LIGHT ()\n\n ! a comment\r\nrequest@1L light\nstart L L\nstart \x80\n";
-    let expected =
-        b"refused BadLine\nrefused BadLine\nrefused BadLine\nrefused BadLine\naccept @1 L 0 LIGHT\nrefused BadLine\nrefused BadLine\n";
-    let rows: [(&[u8], &[u8]); 2] = [(text, expected), (b"start L", b"refused Empty\n")];
-    for (schedule, told) in rows {
-        let written = output(rt.alloc(), first(rt.alloc())?, schedule)?;
-        assert_eq!(rt; written.as_slice(), told);
+fn lines_that_are_no_steps(rt: HostRuntime) {
+    for (schedule, told) in NO_STEPS {
+        assert!(rt; writes(rt.alloc(), FIRST, schedule, told));
     }
-    Ok(())
 }
 
+const OF_NOTHING: &[Told] = &[
+    (b"", b""),
+    (b"\n ! nothing\n\t\r\n", b""),
+    (b"start L", b"refused UnknownObject\n"),
+];
+
 #[test]
-fn empty_domain(rt: HostRuntime) -> Result<(), Fail> {
-    let rows: [(&[u8], &[u8]); 3] = [
-        (b"", b""),
-        (b"\n ! nothing\n\t\r\n", b""),
-        (b"start L", b"refused UnknownObject\n"),
-    ];
-    for (schedule, told) in rows {
-        let written = output(rt.alloc(), domain_of(rt.alloc(), b"")?, schedule)?;
-        assert_eq!(rt; written.as_slice(), told);
+fn empty_domain(rt: HostRuntime) {
+    for (schedule, told) in OF_NOTHING {
+        assert!(rt; writes(rt.alloc(), b"", schedule, told));
     }
-    Ok(())
 }
 
 // Whether a line moves the action of an object.
@@ -112,36 +106,56 @@ fn steps_are_read(rt: HostRuntime) {
     assert!(rt; moves(b"Go l_1", b"L_1"));
 }
 
-#[test]
-fn a_front_is_written_at_a_fault_of_the_writer(rt: HostRuntime) -> Result<(), Fail> {
-    let alloc = rt.alloc();
-    for good_calls in 0..FIRST_OUTPUT.len() {
-        let mut core = core_of_first(alloc)?;
-        let mut reader = FIRST_PATH;
-        let mut writer = OneByte {
-            taken: Vec::new(alloc),
-            good_calls,
-        };
-        let ran = run_schedule(alloc, &mut core, &mut reader, &mut writer);
-        assert!(rt; matches!(ran, Err(ScheduleFault::Write)));
-        assert_eq!(rt; writer.taken.as_slice(), &FIRST_OUTPUT[..good_calls]);
-    }
-    Ok(())
+// Whether a schedule writes a front of so many bytes to a writer that fails behind them.
+fn is_cut_by_writer(alloc: Global, core: &mut Core, good_calls: usize) -> bool {
+    let mut reader = FIRST_PATH;
+    let mut writer = OneByte {
+        taken: Vec::new(alloc),
+        good_calls,
+    };
+    let ran = run_schedule(alloc, core, &mut reader, &mut writer);
+    ran == Err(ScheduleFault::Write)
+        && writer.taken.len() == good_calls
+        && FIRST_OUTPUT.starts_with(writer.taken.as_slice())
 }
 
 #[test]
-fn a_front_is_written_at_a_fault_of_the_reader(rt: HostRuntime) -> Result<(), Fail> {
-    let alloc = rt.alloc();
-    for good_calls in 0..FIRST_PATH.len() {
-        let mut core = core_of_first(alloc)?;
-        let mut reader = Failing {
-            given: 0,
-            good_calls,
-        };
-        let mut written = Vec::new(alloc);
-        let ran = run_schedule(alloc, &mut core, &mut reader, &mut written);
-        assert!(rt; matches!(ran, Err(ScheduleFault::Read)));
-        assert!(rt; FIRST_OUTPUT.starts_with(written.as_slice()));
+fn a_front_is_written_at_a_fault_of_the_writer(rt: HostRuntime) {
+    for good_calls in 0..FIRST_OUTPUT.len() {
+        assert!(rt;
+            has_core(
+                rt.alloc(),
+                FIRST,
+                16,
+                1_000_000,
+                |core| is_cut_by_writer(rt.alloc(), core, good_calls)
+            )
+        );
     }
-    Ok(())
+}
+
+// Whether a schedule writes a front where its reader fails behind so many bytes.
+fn is_cut_by_reader(alloc: Global, core: &mut Core, good_calls: usize) -> bool {
+    let mut reader = Failing {
+        given: 0,
+        good_calls,
+    };
+    let mut written = Vec::new(alloc);
+    let ran = run_schedule(alloc, core, &mut reader, &mut written);
+    ran == Err(ScheduleFault::Read) && FIRST_OUTPUT.starts_with(written.as_slice())
+}
+
+#[test]
+fn a_front_is_written_at_a_fault_of_the_reader(rt: HostRuntime) {
+    for good_calls in 0..FIRST_PATH.len() {
+        assert!(rt;
+            has_core(
+                rt.alloc(),
+                FIRST,
+                16,
+                1_000_000,
+                |core| is_cut_by_reader(rt.alloc(), core, good_calls)
+            )
+        );
+    }
 }

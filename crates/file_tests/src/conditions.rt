@@ -1,41 +1,46 @@
 //! Instructions that choose, and their conditions.
 
 use crate::example_domains::{CANONICAL, ONE_LINE};
-use crate::texts::{is, other_limit, other_refusal, refused, repeated, same_file};
-use sml_read::read;
+use crate::texts::{
+    Limit, Refusal, has_file, is, other_limit, other_refusal, refused, repeated, same_file,
+};
 use sml_tree::block::{Block, Instr};
 use sml_tree::cond::{Cond, Scope};
 use sml_tree::file::{Item, SmlFile};
 use std::alloc::Global;
-use std::test::Fail;
 
 const ACTION: &[u8] = b"class:K state:S action:G ";
 
-// The text of an action with one `if`.
-fn with_condition(alloc: Global, condition: &[u8]) -> Result<Vec<u8>, Fail> {
-    repeated(
-        alloc,
-        b"class:K state:S action:G if(",
-        condition,
-        1,
-        b")then endif",
-    )
+const IF: &[u8] = b"class:K state:S action:G if(";
+
+const END: &[u8] = b")then endif";
+
+// Two conditions, and whether they are read as the same file.
+type Same = (&'static [u8], bool, &'static [u8]);
+
+// Whether two conditions are read as the same file where the row says so.
+fn is_same_so(alloc: Global, (left, answer, right): Same) -> bool {
+    match repeated(alloc, IF, left, 1, END) {
+        Ok(text) => is_said_so(alloc, &text, answer, right),
+        Err(_) => false,
+    }
 }
 
-// Whether two conditions are read as the same file.
-fn same(alloc: Global, left: &[u8], right: &[u8]) -> Result<bool, Fail> {
-    let left = with_condition(alloc, left)?;
-    Ok(same_file(alloc, &left, &with_condition(alloc, right)?))
+fn is_said_so(alloc: Global, left: &[u8], answer: bool, right: &[u8]) -> bool {
+    match repeated(alloc, IF, right, 1, END) {
+        Ok(text) => same_file(alloc, left, &text) == answer,
+        Err(_) => false,
+    }
 }
 
 // The first row whose conditions are not read as the same file where it says so, or are where it says not.
-fn other_answer(alloc: Global, rows: &[(&[u8], bool, &[u8])]) -> Result<Option<usize>, Fail> {
-    for (row, (left, answer, right)) in rows.iter().enumerate() {
-        if same(alloc, left, right)? != *answer {
-            return Ok(Some(row));
+fn other_answer(alloc: Global, rows: &[Same]) -> Option<usize> {
+    for (place, row) in rows.iter().enumerate() {
+        if !is_same_so(alloc, *row) {
+            return Some(place);
         }
     }
-    Ok(None)
+    None
 }
 
 /// The first instruction of the first action of a file.
@@ -71,44 +76,75 @@ fn is_inner(cond: &Cond<Global>) -> bool {
     }
 }
 
+fn is_not_inner(cond: &Cond<Global>) -> bool {
+    match cond {
+        Cond::Not(inner) => is_inner(inner),
+        _ => false,
+    }
+}
+
+fn is_choice(cond: &Cond<Global>) -> bool {
+    match cond {
+        Cond::Or(left, right) => is_left(left) && is_not_inner(right),
+        _ => false,
+    }
+}
+
+// Whether a file has an `if` of two empty blocks.
+fn chooses(file: &SmlFile<Global>) -> bool {
+    match first_instr(file) {
+        Some(Instr::If { cond, yes, no }) => {
+            yes.instrs.is_empty() && no.instrs.is_empty() && is_choice(cond)
+        }
+        _ => false,
+    }
+}
+
 #[test]
-fn reads_a_condition(rt: HostRuntime) -> Result<(), Fail> {
-    let text = with_condition(
-        rt.alloc(),
-        b"all_in g in_state {x, y} or not any_in h not_in_state z",
-    )?;
-    let file = read(rt.alloc(), &text).expect(&rt, "it is read");
-    let Some(Instr::If { cond, yes, no }) = first_instr(&file) else {
-        panic!(rt; "an if");
-    };
-    assert!(rt; yes.instrs.is_empty() && no.instrs.is_empty());
-    let Cond::Or(left, right) = cond else {
-        panic!(rt; "an or");
-    };
-    assert!(rt; is_left(left));
-    assert!(rt; matches!(&**right, Cond::Not(inner) if is_inner(inner)));
-    Ok(())
+fn reads_a_condition(rt: HostRuntime) {
+    let text: &[u8] =
+        b"class:K state:S action:G if(all_in g in_state {x, y} or not any_in h not_in_state z)then endif";
+    assert!(rt; has_file(rt.alloc(), text, chooses));
 }
 
 fn moves_to_s(block: &Block<Global>) -> bool {
-    matches!(block.instrs.as_slice(), [Instr::MoveTo(s)] if is(s, b"S"))
+    match block.instrs.as_slice() {
+        [Instr::MoveTo(s)] => is(s, b"S"),
+        _ => false,
+    }
 }
 
 fn moves_to_t(block: &Block<Global>) -> bool {
-    matches!(block.instrs.as_slice(), [Instr::MoveTo(t), Instr::Set { .. }] if is(t, b"T"))
+    match block.instrs.as_slice() {
+        [Instr::MoveTo(t), Instr::Set { .. }] => is(t, b"T"),
+        _ => false,
+    }
+}
+
+fn asks_a(cond: &Cond<Global>) -> bool {
+    match cond {
+        Cond::Test {
+            scope: Scope::One,
+            name,
+            ..
+        } => is(name, b"A"),
+        _ => false,
+    }
+}
+
+// Whether a file has an `if` of two blocks that move.
+fn moves(file: &SmlFile<Global>) -> bool {
+    match first_instr(file) {
+        Some(Instr::If { cond, yes, no }) => asks_a(cond) && moves_to_s(yes) && moves_to_t(no),
+        _ => false,
+    }
 }
 
 #[test]
-fn reads_both_blocks(rt: HostRuntime) -> Result<(), Fail> {
-    let text =
+fn reads_both_blocks(rt: HostRuntime) {
+    let text: &[u8] =
         b"class:K state:S action:G if(A in_state S)then move_to S else move_to T set N=1 endif do G A";
-    let file = read(rt.alloc(), text).expect(&rt, "it is read");
-    let Some(Instr::If { cond, yes, no }) = first_instr(&file) else {
-        panic!(rt; "an if");
-    };
-    assert!(rt; matches!(cond, Cond::Test { scope: Scope::One, name, .. } if is(name, b"A")));
-    assert!(rt; moves_to_s(yes) && moves_to_t(no));
-    Ok(())
+    assert!(rt; has_file(rt.alloc(), text, moves));
 }
 
 #[test]
@@ -116,217 +152,208 @@ fn one_line_is_the_canonical_form(rt: HostRuntime) {
     assert!(rt; same_file(rt.alloc(), ONE_LINE, CANONICAL));
 }
 
-// Whether the text that ends here answers so, where files end at some places.
-fn is_answer(end: usize, files: &[usize], refused: Option<(u8, usize)>) -> bool {
+const WHOLE: usize = ONE_LINE.len();
+
+// Where fronts of the line are files.
+const FILES: &[usize] = &[
+    0,
+    7,
+    8,
+    9,
+    16,
+    27,
+    41,
+    42,
+    50,
+    51,
+    62,
+    WHOLE - 10,
+    WHOLE - 9,
+];
+
+// Whether the text that ends here answers so.
+fn is_answer(end: usize, refused: Option<(u8, usize)>) -> bool {
     match refused {
-        None => files.contains(&end),
-        Some((3, offset)) => offset < end && !files.contains(&end),
-        Some((4, offset)) => offset <= end && !files.contains(&end),
+        None => FILES.contains(&end),
+        Some((3, offset)) => offset < end && !FILES.contains(&end),
+        Some((4, offset)) => offset <= end && !FILES.contains(&end),
         Some(_) => false,
     }
 }
 
-#[test]
-fn every_prefix_is_read_or_refused(rt: HostRuntime) -> Result<(), Fail> {
-    let whole = ONE_LINE.len();
-    let files = [
-        0,
-        7,
-        8,
-        9,
-        16,
-        27,
-        41,
-        42,
-        50,
-        51,
-        62,
-        whole - 10,
-        whole - 9,
-    ];
-    for end in 0..whole {
-        let answer = refused(rt.alloc(), &ONE_LINE[..end]);
-        assert!(rt; is_answer(end, &files, answer), "at {end}");
+// Whether the front of this length is read or refused as it has to be.
+fn is_front(alloc: Global, end: usize) -> bool {
+    match ONE_LINE.get(..end) {
+        Some(text) => is_answer(end, refused(alloc, text)),
+        None => false,
     }
-    Ok(())
 }
 
 #[test]
-fn and_is_before_or(rt: HostRuntime) -> Result<(), Fail> {
-    let a = b"A in_state S or B in_state S and C in_state S".as_slice();
-    let rows = [
-        (
-            a,
-            true,
-            b"A in_state S or (B in_state S and C in_state S)".as_slice(),
-        ),
-        (
-            a,
-            false,
-            b"(A in_state S or B in_state S) and C in_state S".as_slice(),
-        ),
-    ];
-    assert_eq!(rt; other_answer(rt.alloc(), &rows)?, None);
-    Ok(())
-}
-
-#[test]
-fn chains_group_from_the_left(rt: HostRuntime) -> Result<(), Fail> {
-    let ands = b"A in_state S and B in_state S and C in_state S".as_slice();
-    let ors = b"A in_state S or B in_state S or C in_state S".as_slice();
-    let rows = [
-        (
-            ands,
-            true,
-            b"(A in_state S and B in_state S) and C in_state S".as_slice(),
-        ),
-        (
-            ands,
-            false,
-            b"A in_state S and (B in_state S and C in_state S)".as_slice(),
-        ),
-        (
-            ors,
-            true,
-            b"(A in_state S or B in_state S) or C in_state S".as_slice(),
-        ),
-        (
-            ors,
-            false,
-            b"A in_state S or (B in_state S or C in_state S)".as_slice(),
-        ),
-    ];
-    assert_eq!(rt; other_answer(rt.alloc(), &rows)?, None);
-    Ok(())
-}
-
-#[test]
-fn not_is_before_and(rt: HostRuntime) -> Result<(), Fail> {
-    let not = b"not A in_state S and B in_state S".as_slice();
-    let rows = [
-        (not, true, b"(not A in_state S) and B in_state S".as_slice()),
-        (
-            not,
-            false,
-            b"not (A in_state S and B in_state S)".as_slice(),
-        ),
-        (
-            b"not not A in_state S".as_slice(),
-            false,
-            b"A in_state S".as_slice(),
-        ),
-        (
-            b"not A in_state S".as_slice(),
-            false,
-            b"A not_in_state S".as_slice(),
-        ),
-    ];
-    assert_eq!(rt; other_answer(rt.alloc(), &rows)?, None);
-    Ok(())
-}
-
-#[test]
-fn brackets_and_braces_leave_no_trace(rt: HostRuntime) -> Result<(), Fail> {
-    let alloc = rt.alloc();
-    let rows = [
-        (
-            b"((A in_state {ON}))".as_slice(),
-            true,
-            b"A in_state ON".as_slice(),
-        ),
-        (
-            b"A in_state {ON, ON}".as_slice(),
-            false,
-            b"A in_state ON".as_slice(),
-        ),
-    ];
-    assert_eq!(rt; other_answer(alloc, &rows)?, None);
-    let empty = read(
-        alloc,
-        b"class:K state:S action:G if(A in_state S)then else endif",
-    );
-    let none = read(
-        alloc,
-        b"class:K state:S action:G if(A in_state S)then endif",
-    );
-    let (Ok(empty), Ok(none)) = (empty, none) else {
-        panic!(rt; "both are read");
-    };
-    assert!(rt; empty.same(&none));
-    Ok(())
-}
-
-#[test]
-fn refuses_what_is_no_condition(rt: HostRuntime) -> Result<(), Fail> {
-    let alloc = rt.alloc();
-    for (condition, offset) in [
-        (b"".as_slice(), 28),
-        (b"A".as_slice(), 29),
-        (b"A in_state".as_slice(), 38),
-        (b"A in_state {}".as_slice(), 40),
-        (b"A in_state {S,}".as_slice(), 42),
-        (b"A in_state S B".as_slice(), 41),
-        (b"A in_state S and".as_slice(), 44),
-        (b"A in_state S or or".as_slice(), 44),
-        (b"all_in in_state S".as_slice(), 35),
-        (b"(A in_state S".as_slice(), 42),
-        (b"wait A in_state S".as_slice(), 28),
-    ] {
-        let text = with_condition(alloc, condition)?;
-        assert!(rt; refused(alloc, &text) == Some((4, offset)), "at {offset}");
+fn every_prefix_is_read_or_refused(rt: HostRuntime) {
+    for end in 0..WHOLE {
+        assert!(rt; is_front(rt.alloc(), end), "at {end}");
     }
-    let rows = [
-        (
-            b"class:K state:S action:G if A in_state S then endif".as_slice(),
-            Some((4, 28)),
-        ),
-        (b"class:K state:S action:G else".as_slice(), Some((4, 25))),
-        (
-            b"class:K state:S action:G if(A in_state S)then else else endif".as_slice(),
-            Some((4, 51)),
-        ),
-    ];
-    assert_eq!(rt; other_refusal(alloc, &rows), None);
-    Ok(())
+}
+
+const AND_AND_OR: &[u8] = b"A in_state S or B in_state S and C in_state S";
+
+const PRECEDENCE: &[Same] = &[
+    (
+        AND_AND_OR,
+        true,
+        b"A in_state S or (B in_state S and C in_state S)",
+    ),
+    (
+        AND_AND_OR,
+        false,
+        b"(A in_state S or B in_state S) and C in_state S",
+    ),
+];
+
+#[test]
+fn and_is_before_or(rt: HostRuntime) {
+    assert!(rt; other_answer(rt.alloc(), PRECEDENCE) == None);
+}
+
+const ANDS: &[u8] = b"A in_state S and B in_state S and C in_state S";
+
+const ORS: &[u8] = b"A in_state S or B in_state S or C in_state S";
+
+const CHAINS: &[Same] = &[
+    (
+        ANDS,
+        true,
+        b"(A in_state S and B in_state S) and C in_state S",
+    ),
+    (
+        ANDS,
+        false,
+        b"A in_state S and (B in_state S and C in_state S)",
+    ),
+    (ORS, true, b"(A in_state S or B in_state S) or C in_state S"),
+    (
+        ORS,
+        false,
+        b"A in_state S or (B in_state S or C in_state S)",
+    ),
+];
+
+#[test]
+fn chains_group_from_the_left(rt: HostRuntime) {
+    assert!(rt; other_answer(rt.alloc(), CHAINS) == None);
+}
+
+const NOT: &[u8] = b"not A in_state S and B in_state S";
+
+const NEGATIONS: &[Same] = &[
+    (NOT, true, b"(not A in_state S) and B in_state S"),
+    (NOT, false, b"not (A in_state S and B in_state S)"),
+    (b"not not A in_state S", false, b"A in_state S"),
+    (b"not A in_state S", false, b"A not_in_state S"),
+];
+
+#[test]
+fn not_is_before_and(rt: HostRuntime) {
+    assert!(rt; other_answer(rt.alloc(), NEGATIONS) == None);
+}
+
+const BRACKETS: &[Same] = &[
+    (b"((A in_state {ON}))", true, b"A in_state ON"),
+    (b"A in_state {ON, ON}", false, b"A in_state ON"),
+];
+
+#[test]
+fn brackets_and_braces_leave_no_trace(rt: HostRuntime) {
+    assert!(rt; other_answer(rt.alloc(), BRACKETS) == None);
+    let empty: &[u8] = b"class:K state:S action:G if(A in_state S)then else endif";
+    let none: &[u8] = b"class:K state:S action:G if(A in_state S)then endif";
+    assert!(rt; same_file(rt.alloc(), empty, none));
+}
+
+const NO_CONDITIONS: &[Limit] = &[
+    (IF, b"", 1, END, Some((4, 28))),
+    (IF, b"A", 1, END, Some((4, 29))),
+    (IF, b"A in_state", 1, END, Some((4, 38))),
+    (IF, b"A in_state {}", 1, END, Some((4, 40))),
+    (IF, b"A in_state {S,}", 1, END, Some((4, 42))),
+    (IF, b"A in_state S B", 1, END, Some((4, 41))),
+    (IF, b"A in_state S and", 1, END, Some((4, 44))),
+    (IF, b"A in_state S or or", 1, END, Some((4, 44))),
+    (IF, b"all_in in_state S", 1, END, Some((4, 35))),
+    (IF, b"(A in_state S", 1, END, Some((4, 42))),
+    (IF, b"wait A in_state S", 1, END, Some((4, 28))),
+];
+
+const NO_IFS: &[Refusal] = &[
+    (
+        b"class:K state:S action:G if A in_state S then endif",
+        Some((4, 28)),
+    ),
+    (b"class:K state:S action:G else", Some((4, 25))),
+    (
+        b"class:K state:S action:G if(A in_state S)then else else endif",
+        Some((4, 51)),
+    ),
+];
+
+#[test]
+fn refuses_what_is_no_condition(rt: HostRuntime) {
+    assert!(rt; other_limit(rt.alloc(), NO_CONDITIONS) == None);
+    assert!(rt; other_refusal(rt.alloc(), NO_IFS) == None);
+}
+
+const LATER_WORDS: &[Limit] = &[
+    (b"class: ", b"wait", 1, b"", Some((4, 7))),
+    (b"class: ", b"insert", 1, b"", Some((4, 7))),
+    (b"class: ", b"remove", 1, b"", Some((4, 7))),
+    (b"class: ", b"in", 1, b"", Some((4, 7))),
+    (b"class: ", b"from", 1, b"", Some((4, 7))),
+    (ACTION, b"wait", 1, b"", Some((4, 25))),
+    (ACTION, b"insert", 1, b"", Some((4, 25))),
+    (ACTION, b"remove", 1, b"", Some((4, 25))),
+    (ACTION, b"in", 1, b"", Some((4, 25))),
+    (ACTION, b"from", 1, b"", Some((4, 25))),
+];
+
+#[test]
+fn later_words_are_reserved(rt: HostRuntime) {
+    assert!(rt; other_limit(rt.alloc(), LATER_WORDS) == None);
+}
+
+const OPEN: &[u8] = b"if(A in_state S)then ";
+
+const SIXTEEN: &[u8] =
+    b"endif endif endif endif endif endif endif endif endif endif endif endif endif endif endif endif ";
+
+const SEVENTEEN: &[u8] =
+    b"endif endif endif endif endif endif endif endif endif endif endif endif endif endif endif endif endif ";
+
+const ONE_MORE: &[u8] =
+    b"endif endif endif endif endif endif endif endif endif endif endif endif endif endif endif endif if(A in_state S)then endif";
+
+const IFS: &[Limit] = &[
+    (ACTION, OPEN, 17, SEVENTEEN, Some((5, 25 + 16 * 21))),
+    (ACTION, OPEN, 16, ONE_MORE, None),
+];
+
+/// Whether so many `if`s stand in one another in the first instruction of the first action.
+pub fn is_deep(file: &SmlFile<Global>, depth: u32) -> bool {
+    match first_instr(file) {
+        Some(instr) => instr.depth() == depth,
+        None => false,
+    }
+}
+
+fn are_sixteen(alloc: Global) -> bool {
+    match repeated(alloc, ACTION, OPEN, 16, SIXTEEN) {
+        Ok(text) => has_file(alloc, &text, |file| is_deep(file, 16)),
+        Err(_) => false,
+    }
 }
 
 #[test]
-fn later_words_are_reserved(rt: HostRuntime) -> Result<(), Fail> {
-    let class = b"class: ".as_slice();
-    let none = b"".as_slice();
-    let rows = [
-        (class, b"wait".as_slice(), 1, none, Some((4, 7))),
-        (class, b"insert".as_slice(), 1, none, Some((4, 7))),
-        (class, b"remove".as_slice(), 1, none, Some((4, 7))),
-        (class, b"in".as_slice(), 1, none, Some((4, 7))),
-        (class, b"from".as_slice(), 1, none, Some((4, 7))),
-        (ACTION, b"wait".as_slice(), 1, none, Some((4, 25))),
-        (ACTION, b"insert".as_slice(), 1, none, Some((4, 25))),
-        (ACTION, b"remove".as_slice(), 1, none, Some((4, 25))),
-        (ACTION, b"in".as_slice(), 1, none, Some((4, 25))),
-        (ACTION, b"from".as_slice(), 1, none, Some((4, 25))),
-    ];
-    assert_eq!(rt; other_limit(rt.alloc(), &rows)?, None);
-    Ok(())
-}
-
-#[test]
-fn sixteen_ifs_are_read(rt: HostRuntime) -> Result<(), Fail> {
-    let alloc = rt.alloc();
-    let open = b"if(A in_state S)then ".as_slice();
-    let closed = repeated(alloc, b"", b"endif ", 16, b"")?;
-    let text = repeated(alloc, ACTION, open, 16, &closed)?;
-    let file = read(alloc, &text).expect(&rt, "it is read");
-    let Some(instr) = first_instr(&file) else {
-        panic!(rt; "an if");
-    };
-    assert!(rt; instr.depth() == 16);
-    let deeper = repeated(alloc, b"", b"endif ", 17, b"")?;
-    let after = repeated(alloc, &closed, open, 1, b"endif")?;
-    let rows = [
-        (ACTION, open, 17, deeper.as_slice(), Some((5, 25 + 16 * 21))),
-        (ACTION, open, 16, after.as_slice(), None),
-    ];
-    assert_eq!(rt; other_limit(alloc, &rows)?, None);
-    Ok(())
+fn sixteen_ifs_are_read(rt: HostRuntime) {
+    assert!(rt; are_sixteen(rt.alloc()));
+    assert!(rt; other_limit(rt.alloc(), IFS) == None);
 }

@@ -1,14 +1,14 @@
 //! A counter, which keeps a number and a string and sends them to a sink.
 
-use crate::domain_of::{has_domain, numbers_actions, numbers_objects, numbers_states};
+use crate::domain_of::has_domain;
 use crate::example_domains::COUNTER;
+use crate::facts::{Fact, Shown, Sort, is_shown};
 use crate::shapes::{instructions_of, is_given, is_int, is_own, is_param, is_text, passes_own};
 use sml_domain::domain::Domain;
-use sml_domain::ids::{ActionId, ClassId, ObjId, SetId, StateId};
+use sml_domain::ids::{ActionId, ObjId};
 use sml_domain::instr::{Instr, Operand, Target};
 use sml_domain::value::Value;
 use sml_tree::file::Kind;
-use sml_tree::name::Name;
 use std::test::*;
 
 const OUT: usize = 0;
@@ -27,50 +27,37 @@ const PUT: usize = 1;
 
 const SHOW: usize = 2;
 
-fn has_numbers(domain: &Domain) -> bool {
-    let objects: [&[u8]; 2] = [b"OUT", b"C"];
-    let states: [&[u8]; 3] = [b"READY", b"IDLE", b"DEAD"];
-    let actions: [&[u8]; 3] = [b"TAKE", b"PUT", b"SHOW"];
-    numbers_objects(domain, &objects)
-        && numbers_states(domain, &states)
-        && numbers_actions(domain, &actions)
-        && domain.class(&Name::from_word(b"SINK")) == Some(ClassId::new(0))
-        && domain.class(&Name::from_word(b"COUNTER")) == Some(ClassId::new(1))
-        && domain.set(&Name::from_word(b"OUT")).is_none()
-        && domain.members(SetId::new(0)).is_empty()
-}
-
-fn has_sink(domain: &Domain) -> bool {
-    let Some(out) = domain.object(&Name::from_word(b"OUT")) else {
-        return false;
-    };
-    let (ready, idle) = (StateId::new(READY), StateId::new(IDLE));
-    domain.class_of(out) == ClassId::new(0)
-        && domain.associated(out)
-        && domain.initial(out) == ready
-        && domain.dead(out) == StateId::new(DEAD)
-        && !domain.is_state(out, idle)
-        && domain.declares(out, ready, ActionId::new(TAKE))
-        && !domain.declares(out, ready, ActionId::new(PUT))
-        && domain.class_parameters(out).is_empty()
-        && domain.parameters(out, ActionId::new(PUT)).is_none()
-}
-
-fn has_counter(domain: &Domain) -> bool {
-    let Some(c) = domain.object(&Name::from_word(b"C")) else {
-        return false;
-    };
-    let (idle, dead) = (StateId::new(IDLE), StateId::new(DEAD));
-    domain.class_of(c) == ClassId::new(1)
-        && !domain.associated(c)
-        && domain.initial(c) == idle
-        && domain.dead(c) == dead
-        && domain.declares(c, idle, ActionId::new(PUT))
-        && domain.declares(c, idle, ActionId::new(SHOW))
-        && !domain.declares(c, dead, ActionId::new(SHOW))
-        && matches!(domain.parameters(c, ActionId::new(SHOW)), Some([]))
-        && domain.parameters(c, ActionId::new(TAKE)).is_none()
-}
+const SINK_AND_COUNTER: Shown = Shown {
+    objects: &[b"OUT", b"C"],
+    states: &[b"READY", b"IDLE", b"DEAD"],
+    actions: &[b"TAKE", b"PUT", b"SHOW"],
+    names: &[
+        (Sort::Class, b"SINK", Some(0)),
+        (Sort::Class, b"COUNTER", Some(1)),
+        (Sort::Set, b"OUT", None),
+    ],
+    facts: &[
+        (Fact::Members(0, 0), true),
+        (Fact::IsOf(OUT, 0), true),
+        (Fact::IsAssociated(OUT), true),
+        (Fact::Begins(OUT, READY), true),
+        (Fact::Dies(OUT, DEAD), true),
+        (Fact::IsState(OUT, IDLE), false),
+        (Fact::Declares(OUT, READY, TAKE), true),
+        (Fact::Declares(OUT, READY, PUT), false),
+        (Fact::Keeps(OUT, 0), true),
+        (Fact::Lists(OUT, PUT), false),
+        (Fact::IsOf(C, 1), true),
+        (Fact::IsAssociated(C), false),
+        (Fact::Begins(C, IDLE), true),
+        (Fact::Dies(C, DEAD), true),
+        (Fact::Declares(C, IDLE, PUT), true),
+        (Fact::Declares(C, IDLE, SHOW), true),
+        (Fact::Declares(C, DEAD, SHOW), false),
+        (Fact::Takes(C, SHOW, 0), true),
+        (Fact::Lists(C, TAKE), false),
+    ],
+};
 
 // Whether the class has its two parameters with their values.
 fn has_class_parameters(domain: &Domain) -> bool {
@@ -110,9 +97,7 @@ fn is_put(domain: &Domain) -> bool {
 }
 
 fn shows_sink_and_counter(domain: &Domain) -> bool {
-    has_numbers(domain)
-        && has_sink(domain)
-        && has_counter(domain)
+    is_shown(domain, SINK_AND_COUNTER)
         && has_class_parameters(domain)
         && takes(domain)
         && is_put(domain)

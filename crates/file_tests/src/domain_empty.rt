@@ -1,12 +1,12 @@
 //! Domains with a set that has no members, and with nothing at all.
 
-use crate::domain_of::{has_domain, numbers_actions, numbers_objects, numbers_states};
+use crate::domain_of::has_domain;
 use crate::example_domains::EMPTY_SET;
+use crate::facts::{Fact, Shown, Sort, has_shown, is_shown, names};
 use crate::shapes::{asks, instructions_of, is_empty, is_move};
 use sml_domain::domain::Domain;
-use sml_domain::ids::{ActionId, ClassId, ObjId, SetId, StateId};
+use sml_domain::ids::SetId;
 use sml_domain::instr::{Asked, Cond, Instr, Target};
-use sml_tree::name::Name;
 use std::test::*;
 
 const X: usize = 0;
@@ -26,34 +26,28 @@ fn e() -> SetId {
     SetId::new(0)
 }
 
-fn has_numbers(domain: &Domain) -> bool {
-    let objects: [&[u8]; 1] = [b"X"];
-    let states: [&[u8]; 4] = [b"S", b"GOOD", b"BAD", b"DEAD"];
-    let actions: [&[u8]; 1] = [b"GO"];
-    numbers_objects(domain, &objects)
-        && numbers_states(domain, &states)
-        && numbers_actions(domain, &actions)
-        && domain.class(&Name::from_word(b"T")) == Some(ClassId::new(0))
-        && domain.set(&Name::from_word(b"E")) == Some(e())
-        && domain.members(e()).is_empty()
-}
-
-fn has_object(domain: &Domain) -> bool {
-    let Some(x) = domain.object(&Name::from_word(b"X")) else {
-        return false;
-    };
-    let (s, good, dead) = (StateId::new(S), StateId::new(GOOD), StateId::new(DEAD));
-    let go = ActionId::new(GO);
-    domain.class_of(x) == ClassId::new(0)
-        && !domain.associated(x)
-        && domain.initial(x) == s
-        && domain.dead(x) == dead
-        && domain.is_state(x, good)
-        && domain.is_state(x, dead)
-        && domain.declares(x, s, go)
-        && !domain.declares(x, good, go)
-        && !domain.declares(x, dead, go)
-}
+const WITH_EMPTY_SET: Shown = Shown {
+    objects: &[b"X"],
+    states: &[b"S", b"GOOD", b"BAD", b"DEAD"],
+    actions: &[b"GO"],
+    names: &[
+        (Sort::Class, b"T", Some(0)),
+        (Sort::Set, b"E", Some(0)),
+        (Sort::Object, b"X", Some(X)),
+    ],
+    facts: &[
+        (Fact::Members(0, 0), true),
+        (Fact::IsOf(X, 0), true),
+        (Fact::IsAssociated(X), false),
+        (Fact::Begins(X, S), true),
+        (Fact::Dies(X, DEAD), true),
+        (Fact::IsState(X, GOOD), true),
+        (Fact::IsState(X, DEAD), true),
+        (Fact::Declares(X, S, GO), true),
+        (Fact::Declares(X, GOOD, GO), false),
+        (Fact::Declares(X, DEAD, GO), false),
+    ],
+};
 
 // Whether a condition asks for some member in the first state, or not all of them.
 fn is_some_or_not_all(cond: &Cond) -> bool {
@@ -83,7 +77,7 @@ fn goes(domain: &Domain) -> bool {
 }
 
 fn shows_empty_set(domain: &Domain) -> bool {
-    has_numbers(domain) && has_object(domain) && goes(domain)
+    is_shown(domain, WITH_EMPTY_SET) && goes(domain)
 }
 
 #[test]
@@ -122,7 +116,7 @@ fn tests_nobody(domain: &Domain) -> bool {
 }
 
 fn shows_tests_of_nobody(domain: &Domain) -> bool {
-    domain.state(&Name::from_word(b"NOWHERE")).is_none() && tests_nobody(domain)
+    names(domain, &[(Sort::State, b"NOWHERE", None)]) && tests_nobody(domain)
 }
 
 #[test]
@@ -142,7 +136,7 @@ fn sends_to_nobody(domain: &Domain) -> bool {
 }
 
 fn shows_requests_to_nobody(domain: &Domain) -> bool {
-    domain.action(&Name::from_word(b"NOPE")).is_none() && sends_to_nobody(domain)
+    names(domain, &[(Sort::Action, b"NOPE", None)]) && sends_to_nobody(domain)
 }
 
 #[test]
@@ -152,20 +146,17 @@ fn requests_to_nobody(rt: HostRuntime) {
     assert!(rt; has_domain(rt.alloc(), text, shows_requests_to_nobody));
 }
 
-fn has_nothing(domain: &Domain) -> bool {
-    domain.objects() == 0
-        && !domain.has(ObjId::new(0))
-        && numbers_objects(domain, &[])
-        && numbers_states(domain, &[])
-        && numbers_actions(domain, &[])
-        && domain.object(&Name::from_word(b"X")).is_none()
-        && domain.state(&Name::from_word(b"DEAD")).is_none()
-}
+const NOTHING: Shown = Shown {
+    objects: &[],
+    states: &[],
+    actions: &[],
+    names: &[(Sort::Object, b"X", None), (Sort::State, b"DEAD", None)],
+    facts: &[(Fact::Has(0), false)],
+};
 
 #[test]
 fn empty_domain(rt: HostRuntime) {
-    let texts: [&[u8]; 3] = [b"", b" \t\r\n", b"! nothing"];
-    for text in texts {
-        assert!(rt; has_domain(rt.alloc(), text, has_nothing));
-    }
+    assert!(rt; has_shown(rt.alloc(), b"", NOTHING));
+    assert!(rt; has_shown(rt.alloc(), b" \t\r\n", NOTHING));
+    assert!(rt; has_shown(rt.alloc(), b"! nothing", NOTHING));
 }

@@ -1,12 +1,12 @@
 //! A lamp and its boss.
 
-use crate::domain_of::{has_domain, numbers_actions, numbers_objects, numbers_states};
+use crate::domain_of::has_domain;
 use crate::example_domains::FIRST;
+use crate::facts::{Fact, Shown, Sort, is_shown};
 use crate::shapes::instructions_of;
 use sml_domain::domain::Domain;
-use sml_domain::ids::{ActionId, ClassId, ObjId, StateId};
+use sml_domain::ids::{ActionId, ObjId, StateId};
 use sml_domain::instr::{Instr, Target};
-use sml_tree::name::Name;
 use std::test::*;
 
 const L: usize = 0;
@@ -27,46 +27,35 @@ const LIGHT: usize = 0;
 
 const GO: usize = 1;
 
-fn has_numbers(domain: &Domain) -> bool {
-    let objects: [&[u8]; 2] = [b"L", b"B"];
-    let states: [&[u8]; 5] = [b"OFF", b"ON", b"IDLE", b"DONE", b"DEAD"];
-    let actions: [&[u8]; 2] = [b"LIGHT", b"GO"];
-    numbers_objects(domain, &objects)
-        && numbers_states(domain, &states)
-        && numbers_actions(domain, &actions)
-        && domain.class(&Name::from_word(b"LAMP")) == Some(ClassId::new(0))
-        && domain.class(&Name::from_word(b"BOSS")) == Some(ClassId::new(1))
-}
-
-fn has_lamp(domain: &Domain) -> bool {
-    let Some(lamp) = domain.object(&Name::from_word(b"L")) else {
-        return false;
-    };
-    let (off, on, light) = (StateId::new(OFF), StateId::new(ON), ActionId::new(LIGHT));
-    domain.class_of(lamp) == ClassId::new(0)
-        && !domain.associated(lamp)
-        && domain.initial(lamp) == off
-        && domain.dead(lamp) == StateId::new(DEAD)
-        && domain.is_state(lamp, on)
-        && !domain.is_state(lamp, StateId::new(IDLE))
-        && domain.declares(lamp, off, light)
-        && !domain.declares(lamp, on, light)
-        && domain.class_parameters(lamp).is_empty()
-        && matches!(domain.parameters(lamp, light), Some([]))
-}
-
-fn has_boss(domain: &Domain) -> bool {
-    let Some(boss) = domain.object(&Name::from_word(b"B")) else {
-        return false;
-    };
-    let (idle, done, go) = (StateId::new(IDLE), StateId::new(DONE), ActionId::new(GO));
-    domain.class_of(boss) == ClassId::new(1)
-        && domain.initial(boss) == idle
-        && domain.dead(boss) == StateId::new(DEAD)
-        && domain.declares(boss, idle, go)
-        && !domain.declares(boss, done, go)
-        && domain.parameters(boss, ActionId::new(LIGHT)).is_none()
-}
+const LAMP_AND_BOSS: Shown = Shown {
+    objects: &[b"L", b"B"],
+    states: &[b"OFF", b"ON", b"IDLE", b"DONE", b"DEAD"],
+    actions: &[b"LIGHT", b"GO"],
+    names: &[
+        (Sort::Class, b"LAMP", Some(0)),
+        (Sort::Class, b"BOSS", Some(1)),
+        (Sort::Object, b"L", Some(L)),
+        (Sort::Object, b"B", Some(B)),
+    ],
+    facts: &[
+        (Fact::IsOf(L, 0), true),
+        (Fact::IsAssociated(L), false),
+        (Fact::Begins(L, OFF), true),
+        (Fact::Dies(L, DEAD), true),
+        (Fact::IsState(L, ON), true),
+        (Fact::IsState(L, IDLE), false),
+        (Fact::Declares(L, OFF, LIGHT), true),
+        (Fact::Declares(L, ON, LIGHT), false),
+        (Fact::Keeps(L, 0), true),
+        (Fact::Takes(L, LIGHT, 0), true),
+        (Fact::IsOf(B, 1), true),
+        (Fact::Begins(B, IDLE), true),
+        (Fact::Dies(B, DEAD), true),
+        (Fact::Declares(B, IDLE, GO), true),
+        (Fact::Declares(B, DONE, GO), false),
+        (Fact::Lists(B, LIGHT), false),
+    ],
+};
 
 fn lights(domain: &Domain) -> bool {
     match instructions_of(domain, L, OFF, LIGHT) {
@@ -107,12 +96,7 @@ fn ends(domain: &Domain) -> bool {
 }
 
 fn shows_lamp_and_boss(domain: &Domain) -> bool {
-    has_numbers(domain)
-        && has_lamp(domain)
-        && has_boss(domain)
-        && lights(domain)
-        && goes(domain)
-        && ends(domain)
+    is_shown(domain, LAMP_AND_BOSS) && lights(domain) && goes(domain) && ends(domain)
 }
 
 #[test]

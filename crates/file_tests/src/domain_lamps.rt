@@ -1,11 +1,11 @@
 //! A lamp that keeps how bright it is and asks all lamps to light.
 
 use crate::domain_of::has_domain;
+use crate::facts::{Fact, Named, Row, Sort, is_as_said, names};
 use crate::shapes::{instructions_of, is_given, is_int};
 use sml_domain::domain::Domain;
-use sml_domain::ids::{ActionId, ObjId, SetId, StateId};
+use sml_domain::ids::{ActionId, ObjId, SetId};
 use sml_domain::instr::{Instr, Target};
-use sml_tree::name::Name;
 use std::test::*;
 
 /// A lamp, its class and the set of it.
@@ -31,22 +31,39 @@ const DEAD: usize = 2;
 
 const LIGHT: usize = 0;
 
-fn has_states(domain: &Domain) -> bool {
-    let (l, on, off) = (ObjId::new(L), StateId::new(ON), StateId::new(OFF));
-    let dead = StateId::new(DEAD);
-    domain.object(&Name::from_word(b"L")) == Some(l)
-        && domain.state(&Name::from_word(b"ON")) == Some(on)
-        && domain.state(&Name::from_word(b"OFF")) == Some(off)
-        && domain.state(&Name::from_word(b"DEAD")) == Some(dead)
-        && domain.initial(l) == off
-        && domain.dead(l) == dead
-        && matches!(domain.members(SetId::new(0)), [only] if *only == l)
+const NAMES: &[Named] = &[
+    (Sort::Object, b"L", Some(L)),
+    (Sort::State, b"ON", Some(ON)),
+    (Sort::State, b"OFF", Some(OFF)),
+    (Sort::State, b"DEAD", Some(DEAD)),
+];
+
+const FACTS: &[Row] = &[(Fact::Begins(L, OFF), true), (Fact::Dies(L, DEAD), true)];
+
+fn has_lamp_alone(domain: &Domain) -> bool {
+    match domain.members(SetId::new(0)) {
+        [only] => only.get() == L,
+        _ => false,
+    }
 }
 
+// Whether the class has one parameter, and the action another, with these values.
 fn has_parameters(domain: &Domain) -> bool {
-    let l = ObjId::new(L);
-    matches!(domain.class_parameters(l), [bright] if is_int(&bright.value, 3))
-        && matches!(domain.parameters(l, ActionId::new(LIGHT)), Some([how]) if is_int(&how.value, 5))
+    keeps_three(domain) && takes_five(domain)
+}
+
+fn keeps_three(domain: &Domain) -> bool {
+    match domain.class_parameters(ObjId::new(L)) {
+        [bright] => is_int(&bright.value, 3),
+        _ => false,
+    }
+}
+
+fn takes_five(domain: &Domain) -> bool {
+    match domain.parameters(ObjId::new(L), ActionId::new(LIGHT)) {
+        Some([how]) => is_int(&how.value, 5),
+        _ => false,
+    }
 }
 
 // Whether to light is to keep how bright, to ask all lamps, and to be on.
@@ -64,7 +81,10 @@ fn lights(domain: &Domain) -> bool {
 }
 
 fn shows_makes_a_domain(domain: &Domain) -> bool {
-    has_states(domain) && has_parameters(domain)
+    names(domain, NAMES)
+        && is_as_said(domain, FACTS)
+        && has_lamp_alone(domain)
+        && has_parameters(domain)
 }
 
 #[test]

@@ -1,9 +1,10 @@
 //! A boss with a set of lamps, by each look-up.
 
-use crate::domain_of::{has_domain, numbers_actions, numbers_objects, numbers_states};
+use crate::domain_of::has_domain;
+use crate::facts::{Fact, Row, Shown, Sort, has_shown, is_as_said};
 use crate::shapes::{instructions_of, is_empty, is_param, is_text};
 use sml_domain::domain::Domain;
-use sml_domain::ids::{ActionId, BlockId, ClassId, ObjId, SetId, StateId};
+use sml_domain::ids::{ActionId, BlockId, ObjId, SetId};
 use sml_domain::instr::Instr;
 use sml_tree::file::Kind;
 use sml_tree::name::Name;
@@ -46,64 +47,52 @@ const LIGHT: usize = 0;
 
 const GO: usize = 1;
 
-fn numbers_names(domain: &Domain) -> bool {
-    let objects: [&[u8]; 2] = [b"L", b"B"];
-    let states: [&[u8]; 4] = [b"OFF", b"ON", b"IDLE", b"DEAD"];
-    let actions: [&[u8]; 2] = [b"LIGHT", b"GO"];
-    numbers_objects(domain, &objects)
-        && numbers_states(domain, &states)
-        && numbers_actions(domain, &actions)
-        && domain.object(&Name::from_word(b"l")) == Some(ObjId::new(L))
-        && domain.state(&Name::from_word(b"Dead")) == Some(StateId::new(DEAD))
-        && domain.class(&Name::from_word(b"BOSS")) == Some(ClassId::new(1))
-        && domain.set(&Name::from_word(b"NONE")) == Some(SetId::new(1))
-}
-
-// Whether names of one sort are none of another.
-fn keeps_names_apart(domain: &Domain) -> bool {
-    domain.object(&Name::from_word(b"LAMP")).is_none()
-        && domain.class(&Name::from_word(b"LAMPS")).is_none()
-        && domain.set(&Name::from_word(b"LAMP")).is_none()
-        && domain.state(&Name::from_word(b"GO")).is_none()
-        && domain.state(&Name::from_word(b"DONE")).is_none()
-        && domain.action(&Name::from_word(b"OFF")).is_none()
-}
-
-fn has_objects(domain: &Domain) -> bool {
-    let (l, b) = (ObjId::new(L), ObjId::new(B));
-    domain.objects() == 2
-        && domain.has(b)
-        && !domain.has(ObjId::new(2))
-        && domain.class_of(b) == ClassId::new(1)
-        && domain.associated(l)
-        && !domain.associated(b)
-        && domain.initial(b) == StateId::new(IDLE)
-        && domain.dead(l) == StateId::new(DEAD)
-}
-
-fn has_states(domain: &Domain) -> bool {
-    let (l, b) = (ObjId::new(L), ObjId::new(B));
-    let (off, on, light) = (StateId::new(OFF), StateId::new(ON), ActionId::new(LIGHT));
-    domain.is_state(l, on)
-        && !domain.is_state(b, on)
-        && domain.declares(l, off, light)
-        && !domain.declares(l, on, light)
-}
-
-fn shows_answers_look_ups(domain: &Domain) -> bool {
-    numbers_names(domain) && keeps_names_apart(domain) && has_objects(domain) && has_states(domain)
-}
+const LOOK_UPS: Shown = Shown {
+    objects: &[b"L", b"B"],
+    states: &[b"OFF", b"ON", b"IDLE", b"DEAD"],
+    actions: &[b"LIGHT", b"GO"],
+    names: &[
+        (Sort::Object, b"l", Some(L)),
+        (Sort::State, b"Dead", Some(DEAD)),
+        (Sort::Class, b"BOSS", Some(1)),
+        (Sort::Set, b"NONE", Some(1)),
+        // Names of one sort are none of another.
+        (Sort::Object, b"LAMP", None),
+        (Sort::Class, b"LAMPS", None),
+        (Sort::Set, b"LAMP", None),
+        (Sort::State, b"GO", None),
+        (Sort::State, b"DONE", None),
+        (Sort::Action, b"OFF", None),
+    ],
+    facts: &[
+        (Fact::Has(B), true),
+        (Fact::Has(2), false),
+        (Fact::IsOf(B, 1), true),
+        (Fact::IsAssociated(L), true),
+        (Fact::IsAssociated(B), false),
+        (Fact::Begins(B, IDLE), true),
+        (Fact::Dies(L, DEAD), true),
+        (Fact::IsState(L, ON), true),
+        (Fact::IsState(B, ON), false),
+        (Fact::Declares(L, OFF, LIGHT), true),
+        (Fact::Declares(L, ON, LIGHT), false),
+    ],
+};
 
 #[test]
 fn answers_look_ups(rt: HostRuntime) {
-    assert!(rt; has_domain(rt.alloc(), BOSS_OF_LAMPS, shows_answers_look_ups));
+    assert!(rt; has_shown(rt.alloc(), BOSS_OF_LAMPS, LOOK_UPS));
 }
 
-// Whether the action of the boss has its two parameters, and the lamp none of it.
+const PARAMETERS: &[Row] = &[
+    (Fact::Lists(L, GO), false),
+    (Fact::Keeps(B, 1), true),
+    (Fact::Keeps(L, 0), true),
+];
+
+// Whether the action of the boss has its two parameters.
 fn has_parameters(domain: &Domain) -> bool {
-    let (l, b) = (ObjId::new(L), ObjId::new(B));
-    let go = ActionId::new(GO);
-    let of_go = match domain.parameters(b, go) {
+    match domain.parameters(ObjId::new(B), ActionId::new(GO)) {
         Some([count, shade]) => {
             is_param(count, b"COUNT_NOW", Kind::Int)
                 && count.value.is_none()
@@ -111,11 +100,7 @@ fn has_parameters(domain: &Domain) -> bool {
                 && is_text(&shade.value, b"white")
         }
         _ => false,
-    };
-    of_go
-        && domain.parameters(l, go).is_none()
-        && domain.class_parameters(b).len() == 1
-        && domain.class_parameters(l).is_empty()
+    }
 }
 
 fn has_members(domain: &Domain) -> bool {
@@ -153,7 +138,10 @@ fn has_block(domain: &Domain) -> bool {
 }
 
 fn shows_answers_of_parameters_and_blocks(domain: &Domain) -> bool {
-    has_parameters(domain) && has_members(domain) && has_block(domain)
+    has_parameters(domain)
+        && is_as_said(domain, PARAMETERS)
+        && has_members(domain)
+        && has_block(domain)
 }
 
 #[test]

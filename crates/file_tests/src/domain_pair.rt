@@ -1,12 +1,12 @@
 //! Two objects that ask one another.
 
-use crate::domain_of::{has_domain, numbers_actions, numbers_objects, numbers_states};
+use crate::domain_of::has_domain;
 use crate::example_domains::PAIR;
+use crate::facts::{Fact, Shown, Sort, is_shown};
 use crate::shapes::{asks, instructions_of, is_empty};
 use sml_domain::domain::Domain;
-use sml_domain::ids::{ActionId, ClassId, ObjId, StateId};
+use sml_domain::ids::ObjId;
 use sml_domain::instr::{Asked, Instr};
-use sml_tree::name::Name;
 use std::test::*;
 
 const A: usize = 0;
@@ -19,31 +19,35 @@ const DEAD: usize = 1;
 
 const GO: usize = 0;
 
-fn has_numbers(domain: &Domain) -> bool {
-    let objects: [&[u8]; 2] = [b"A", b"B"];
-    let states: [&[u8]; 2] = [b"S", b"DEAD"];
-    let actions: [&[u8]; 1] = [b"GO"];
-    numbers_objects(domain, &objects)
-        && numbers_states(domain, &states)
-        && numbers_actions(domain, &actions)
-        && domain.class(&Name::from_word(b"LEFT")) == Some(ClassId::new(0))
-        && domain.class(&Name::from_word(b"RIGHT")) == Some(ClassId::new(1))
-}
-
-fn is_half(domain: &Domain, name: &Name, class: usize) -> bool {
-    let Some(object) = domain.object(name) else {
-        return false;
-    };
-    let (s, dead, go) = (StateId::new(S), StateId::new(DEAD), ActionId::new(GO));
-    domain.class_of(object) == ClassId::new(class)
-        && !domain.associated(object)
-        && domain.initial(object) == s
-        && domain.dead(object) == dead
-        && domain.is_state(object, dead)
-        && domain.declares(object, s, go)
-        && !domain.declares(object, dead, go)
-        && domain.class_parameters(object).is_empty()
-}
+const TWO_OBJECTS: Shown = Shown {
+    objects: &[b"A", b"B"],
+    states: &[b"S", b"DEAD"],
+    actions: &[b"GO"],
+    names: &[
+        (Sort::Class, b"LEFT", Some(0)),
+        (Sort::Class, b"RIGHT", Some(1)),
+        (Sort::Object, b"A", Some(A)),
+        (Sort::Object, b"B", Some(B)),
+    ],
+    facts: &[
+        (Fact::IsOf(A, 0), true),
+        (Fact::IsAssociated(A), false),
+        (Fact::Begins(A, S), true),
+        (Fact::Dies(A, DEAD), true),
+        (Fact::IsState(A, DEAD), true),
+        (Fact::Declares(A, S, GO), true),
+        (Fact::Declares(A, DEAD, GO), false),
+        (Fact::Keeps(A, 0), true),
+        (Fact::IsOf(B, 1), true),
+        (Fact::IsAssociated(B), false),
+        (Fact::Begins(B, S), true),
+        (Fact::Dies(B, DEAD), true),
+        (Fact::IsState(B, DEAD), true),
+        (Fact::Declares(B, S, GO), true),
+        (Fact::Declares(B, DEAD, GO), false),
+        (Fact::Keeps(B, 0), true),
+    ],
+};
 
 // Whether an object asks another, and does nothing either way.
 fn asks_other(domain: &Domain, own: usize, other: usize) -> bool {
@@ -58,11 +62,7 @@ fn asks_other(domain: &Domain, own: usize, other: usize) -> bool {
 }
 
 fn shows_pair_of_objects(domain: &Domain) -> bool {
-    has_numbers(domain)
-        && is_half(domain, &Name::from_word(b"A"), 0)
-        && is_half(domain, &Name::from_word(b"B"), 1)
-        && asks_other(domain, A, B)
-        && asks_other(domain, B, A)
+    is_shown(domain, TWO_OBJECTS) && asks_other(domain, A, B) && asks_other(domain, B, A)
 }
 
 #[test]

@@ -1,28 +1,41 @@
 //! Sets whose members stand in an order of their own.
 
 use crate::domain_of::{has_domain, numbers_objects};
+use crate::facts::{Fact, Named, Row, Sort, is_as_said, names};
 use sml_domain::domain::Domain;
 use sml_domain::ids::SetId;
-use sml_tree::name::Name;
 use std::test::*;
 
-fn has_numbers(domain: &Domain) -> bool {
-    let objects: [&[u8]; 3] = [b"A", b"B", b"C"];
-    numbers_objects(domain, &objects)
-        && domain.set(&Name::from_word(b"G")) == Some(SetId::new(0))
-        && domain.set(&Name::from_word(b"H")) == Some(SetId::new(1))
-        && domain.set(&Name::from_word(b"A")).is_none()
+const OBJECTS: &[&[u8]] = &[b"A", b"B", b"C"];
+
+const NAMES: &[Named] = &[
+    (Sort::Set, b"G", Some(0)),
+    (Sort::Set, b"H", Some(1)),
+    (Sort::Set, b"A", None),
+];
+
+const FACTS: &[Row] = &[(Fact::Members(2, 0), true)];
+
+fn has_c_and_a(domain: &Domain) -> bool {
+    match domain.members(SetId::new(0)) {
+        [c, a] => c.get() == 2 && a.get() == 0,
+        _ => false,
+    }
 }
 
-fn has_members(domain: &Domain) -> bool {
-    let (g, h) = (domain.members(SetId::new(0)), domain.members(SetId::new(1)));
-    matches!(g, [c, a] if c.get() == 2 && a.get() == 0)
-        && matches!(h, [b] if b.get() == 1)
-        && domain.members(SetId::new(2)).is_empty()
+fn has_b(domain: &Domain) -> bool {
+    match domain.members(SetId::new(1)) {
+        [b] => b.get() == 1,
+        _ => false,
+    }
 }
 
 fn shows_members_as_written(domain: &Domain) -> bool {
-    has_numbers(domain) && has_members(domain)
+    numbers_objects(domain, OBJECTS)
+        && names(domain, NAMES)
+        && is_as_said(domain, FACTS)
+        && has_c_and_a(domain)
+        && has_b(domain)
 }
 
 #[test]

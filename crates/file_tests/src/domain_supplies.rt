@@ -1,12 +1,12 @@
 //! Two supplies, switched on together by a run.
 
-use crate::domain_of::{has_domain, numbers_actions, numbers_objects, numbers_states};
+use crate::domain_of::has_domain;
 use crate::example_domains::SUPPLIES;
+use crate::facts::{Fact, Named, Row, Shown, Sort, has_shown, is_as_said, names};
 use crate::shapes::{asks, instructions_of, is_empty, is_move};
 use sml_domain::domain::Domain;
-use sml_domain::ids::{ActionId, ClassId, ObjId, SetId, StateId};
+use sml_domain::ids::SetId;
 use sml_domain::instr::{Asked, Instr, Target};
-use sml_tree::name::Name;
 use std::test::*;
 
 const HV1: usize = 0;
@@ -14,6 +14,9 @@ const HV1: usize = 0;
 const HV2: usize = 1;
 
 const RUN: usize = 2;
+
+// The greatest number.
+const LAST: usize = usize::MAX;
 
 const OFF: usize = 0;
 
@@ -33,115 +36,108 @@ const SWITCH_OFF: usize = 1;
 
 const CONFIGURE: usize = 2;
 
-fn has_numbers(domain: &Domain) -> bool {
-    let objects: [&[u8]; 3] = [b"HV1", b"HV2", b"RUN"];
-    let states: [&[u8]; 6] = [b"OFF", b"ON", b"NOT_READY", b"READY", b"ERROR", b"DEAD"];
-    let actions: [&[u8]; 3] = [b"SWITCH_ON", b"SWITCH_OFF", b"CONFIGURE"];
-    numbers_objects(domain, &objects)
-        && numbers_states(domain, &states)
-        && numbers_actions(domain, &actions)
-        && domain.class(&Name::from_word(b"SUPPLY")) == Some(ClassId::new(0))
-        && domain.class(&Name::from_word(b"RUN_TYPE")) == Some(ClassId::new(1))
-        && domain.set(&Name::from_word(b"HV")) == Some(SetId::new(0))
-}
+const NAMES: &[Named] = &[
+    (Sort::Class, b"SUPPLY", Some(0)),
+    (Sort::Class, b"RUN_TYPE", Some(1)),
+    (Sort::Set, b"HV", Some(0)),
+    (Sort::Object, b"HV1", Some(HV1)),
+    (Sort::Object, b"hv2", Some(HV2)),
+    // Names of one sort are none of another, and others none at all.
+    (Sort::Object, b"HV", None),
+    (Sort::Object, b"SUPPLY", None),
+    (Sort::Class, b"HV1", None),
+    (Sort::Set, b"HV1", None),
+    (Sort::State, b"SWITCH_ON", None),
+    (Sort::State, b"BROKEN", None),
+    (Sort::Action, b"ON", None),
+    (Sort::Action, b"NOPE", None),
+];
 
-// Whether names of one sort are none of another, and others none at all.
-fn keeps_names_apart(domain: &Domain) -> bool {
-    domain.object(&Name::from_word(b"HV")).is_none()
-        && domain.object(&Name::from_word(b"SUPPLY")).is_none()
-        && domain.class(&Name::from_word(b"HV1")).is_none()
-        && domain.set(&Name::from_word(b"HV1")).is_none()
-        && domain.state(&Name::from_word(b"SWITCH_ON")).is_none()
-        && domain.state(&Name::from_word(b"BROKEN")).is_none()
-        && domain.action(&Name::from_word(b"ON")).is_none()
-        && domain.action(&Name::from_word(b"NOPE")).is_none()
-}
-
-// Whether a number is that of no object and no set.
-fn is_out_of_range(domain: &Domain, number: usize) -> bool {
-    let object = ObjId::new(number);
-    !domain.has(object)
-        && domain.object_name(object).is_none()
-        && !domain.associated(object)
-        && !domain.is_state(object, StateId::new(OFF))
-        && domain.class_parameters(object).is_empty()
-        && domain
-            .parameters(object, ActionId::new(SWITCH_ON))
-            .is_none()
-        && domain.members(SetId::new(number)).is_empty()
-}
-
-fn is_supply(domain: &Domain, name: &Name) -> bool {
-    let Some(supply) = domain.object(name) else {
-        return false;
-    };
-    domain.has(supply)
-        && domain.class_of(supply) == ClassId::new(0)
-        && domain.associated(supply)
-        && domain.initial(supply) == StateId::new(OFF)
-        && domain.dead(supply) == StateId::new(DEAD)
-        && domain.is_state(supply, StateId::new(OFF))
-        && domain.is_state(supply, StateId::new(ON))
-        && domain.is_state(supply, StateId::new(DEAD))
-        && !domain.is_state(supply, StateId::new(NOT_READY))
-        && domain.class_parameters(supply).is_empty()
-}
-
-// Whether a supply is switched on where it is off, and off where it is on, and nothing else.
-fn is_switched(domain: &Domain, supply: ObjId) -> bool {
-    let (off, on, dead) = (StateId::new(OFF), StateId::new(ON), StateId::new(DEAD));
-    let (switch_on, switch_off) = (ActionId::new(SWITCH_ON), ActionId::new(SWITCH_OFF));
-    domain.declares(supply, off, switch_on)
-        && domain.declares(supply, on, switch_off)
-        && !domain.declares(supply, off, switch_off)
-        && !domain.declares(supply, on, switch_on)
-        && !domain.declares(supply, dead, switch_on)
-        && !domain.declares(supply, off, ActionId::new(CONFIGURE))
-        && matches!(domain.parameters(supply, switch_on), Some([]))
-        && matches!(domain.parameters(supply, switch_off), Some([]))
-        && domain
-            .parameters(supply, ActionId::new(CONFIGURE))
-            .is_none()
-        && matches!(
-            instructions_of(domain, supply.get(), OFF, SWITCH_ON),
-            Some([])
-        )
-}
-
-fn shows_two_supplies(domain: &Domain) -> bool {
-    has_numbers(domain)
-        && keeps_names_apart(domain)
-        && is_out_of_range(domain, 3)
-        && is_out_of_range(domain, usize::MAX)
-        && is_supply(domain, &Name::from_word(b"HV1"))
-        && is_supply(domain, &Name::from_word(b"hv2"))
-        && is_switched(domain, ObjId::new(HV1))
-        && is_switched(domain, ObjId::new(HV2))
-}
+// Two supplies, each switched on where it is off, and off where it is on, and no third one.
+const TWO_SUPPLIES: Shown = Shown {
+    objects: &[b"HV1", b"HV2", b"RUN"],
+    states: &[b"OFF", b"ON", b"NOT_READY", b"READY", b"ERROR", b"DEAD"],
+    actions: &[b"SWITCH_ON", b"SWITCH_OFF", b"CONFIGURE"],
+    names: NAMES,
+    facts: &[
+        (Fact::Has(3), false),
+        (Fact::IsNamed(3), false),
+        (Fact::IsAssociated(3), false),
+        (Fact::IsState(3, OFF), false),
+        (Fact::Keeps(3, 0), true),
+        (Fact::Lists(3, SWITCH_ON), false),
+        (Fact::Members(3, 0), true),
+        (Fact::Has(LAST), false),
+        (Fact::IsNamed(LAST), false),
+        (Fact::IsAssociated(LAST), false),
+        (Fact::IsState(LAST, OFF), false),
+        (Fact::Keeps(LAST, 0), true),
+        (Fact::Lists(LAST, SWITCH_ON), false),
+        (Fact::Members(LAST, 0), true),
+        (Fact::Has(HV1), true),
+        (Fact::IsOf(HV1, 0), true),
+        (Fact::IsAssociated(HV1), true),
+        (Fact::Begins(HV1, OFF), true),
+        (Fact::Dies(HV1, DEAD), true),
+        (Fact::IsState(HV1, OFF), true),
+        (Fact::IsState(HV1, ON), true),
+        (Fact::IsState(HV1, DEAD), true),
+        (Fact::IsState(HV1, NOT_READY), false),
+        (Fact::Keeps(HV1, 0), true),
+        (Fact::Has(HV2), true),
+        (Fact::IsOf(HV2, 0), true),
+        (Fact::IsAssociated(HV2), true),
+        (Fact::Begins(HV2, OFF), true),
+        (Fact::Dies(HV2, DEAD), true),
+        (Fact::IsState(HV2, OFF), true),
+        (Fact::IsState(HV2, ON), true),
+        (Fact::IsState(HV2, DEAD), true),
+        (Fact::IsState(HV2, NOT_READY), false),
+        (Fact::Keeps(HV2, 0), true),
+        (Fact::Declares(HV1, OFF, SWITCH_ON), true),
+        (Fact::Declares(HV1, ON, SWITCH_OFF), true),
+        (Fact::Declares(HV1, OFF, SWITCH_OFF), false),
+        (Fact::Declares(HV1, ON, SWITCH_ON), false),
+        (Fact::Declares(HV1, DEAD, SWITCH_ON), false),
+        (Fact::Declares(HV1, OFF, CONFIGURE), false),
+        (Fact::Takes(HV1, SWITCH_ON, 0), true),
+        (Fact::Takes(HV1, SWITCH_OFF, 0), true),
+        (Fact::Lists(HV1, CONFIGURE), false),
+        (Fact::Does(HV1, OFF, SWITCH_ON, 0), true),
+        (Fact::Declares(HV2, OFF, SWITCH_ON), true),
+        (Fact::Declares(HV2, ON, SWITCH_OFF), true),
+        (Fact::Declares(HV2, OFF, SWITCH_OFF), false),
+        (Fact::Declares(HV2, ON, SWITCH_ON), false),
+        (Fact::Declares(HV2, DEAD, SWITCH_ON), false),
+        (Fact::Declares(HV2, OFF, CONFIGURE), false),
+        (Fact::Takes(HV2, SWITCH_ON, 0), true),
+        (Fact::Takes(HV2, SWITCH_OFF, 0), true),
+        (Fact::Lists(HV2, CONFIGURE), false),
+        (Fact::Does(HV2, OFF, SWITCH_ON, 0), true),
+    ],
+};
 
 #[test]
 fn two_supplies(rt: HostRuntime) {
-    assert!(rt; has_domain(rt.alloc(), SUPPLIES, shows_two_supplies));
+    assert!(rt; has_shown(rt.alloc(), SUPPLIES, TWO_SUPPLIES));
 }
 
-fn has_run(domain: &Domain) -> bool {
-    let Some(run) = domain.object(&Name::from_word(b"RUN")) else {
-        return false;
-    };
-    let (not_ready, configure) = (StateId::new(NOT_READY), ActionId::new(CONFIGURE));
-    domain.class_of(run) == ClassId::new(1)
-        && !domain.associated(run)
-        && domain.initial(run) == not_ready
-        && domain.dead(run) == StateId::new(DEAD)
-        && domain.is_state(run, StateId::new(ERROR))
-        && domain.is_state(run, StateId::new(DEAD))
-        && !domain.is_state(run, StateId::new(ON))
-        && domain.declares(run, not_ready, configure)
-        && !domain.declares(run, StateId::new(READY), configure)
-        && !domain.declares(run, not_ready, ActionId::new(SWITCH_ON))
-        && matches!(domain.parameters(run, configure), Some([]))
-        && domain.parameters(run, ActionId::new(SWITCH_ON)).is_none()
-}
+const RUN_OF_SUPPLIES: &[Row] = &[
+    (Fact::IsOf(RUN, 1), true),
+    (Fact::IsAssociated(RUN), false),
+    (Fact::Begins(RUN, NOT_READY), true),
+    (Fact::Dies(RUN, DEAD), true),
+    (Fact::IsState(RUN, ERROR), true),
+    (Fact::IsState(RUN, DEAD), true),
+    (Fact::IsState(RUN, ON), false),
+    (Fact::Declares(RUN, NOT_READY, CONFIGURE), true),
+    (Fact::Declares(RUN, READY, CONFIGURE), false),
+    (Fact::Declares(RUN, NOT_READY, SWITCH_ON), false),
+    (Fact::Takes(RUN, CONFIGURE, 0), true),
+    (Fact::Lists(RUN, SWITCH_ON), false),
+];
+
+const RUN_BY_NAME: &[Named] = &[(Sort::Object, b"RUN", Some(RUN))];
 
 fn sends_to_all(instr: &Instr) -> bool {
     match instr {
@@ -187,7 +183,10 @@ fn has_members(domain: &Domain) -> bool {
 }
 
 fn shows_run_of_supplies(domain: &Domain) -> bool {
-    has_run(domain) && configures(domain) && has_members(domain)
+    names(domain, RUN_BY_NAME)
+        && is_as_said(domain, RUN_OF_SUPPLIES)
+        && configures(domain)
+        && has_members(domain)
 }
 
 #[test]

@@ -32,6 +32,8 @@ mod domain_supplies;
 #[cfg(test)]
 mod example_domains;
 #[cfg(test)]
+mod facts;
+#[cfg(test)]
 mod fault_domains;
 #[cfg(test)]
 mod fault_edges;

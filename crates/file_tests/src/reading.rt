@@ -1,12 +1,14 @@
 //! Texts that are read, and texts that are refused.
 
 use crate::example_domains::FIRST;
-use crate::texts::{is, other_refusal};
-use sml_read::{ReadError, ReadErrorKind, read};
+use crate::texts::{Refusal, has_file, is, other_refusal};
+use sml_read::{ReadError, ReadErrorKind};
 use sml_tree::block::Instr;
-use sml_tree::file::{Action, ActionParam, Class, ClassParam, Item, Kind, Object, State};
+use sml_tree::file::{
+    Action, ActionParam, Class, ClassParam, Group, Item, Kind, Object, SmlFile, State,
+};
 use sml_tree::literal::{Arg, Literal, Passed};
-use std::alloc::Global;
+use std::alloc::{AllocError, Global};
 use std::test::Fail;
 
 fn is_light(action: &Action<Global>) -> bool {
@@ -61,46 +63,52 @@ fn is_object(object: &Object, name: &[u8], class: &[u8]) -> bool {
     is(&object.name, name) && is(&object.class, class)
 }
 
-#[test]
-fn reads_classes(rt: HostRuntime) -> Result<(), Fail> {
-    let file = read(rt.alloc(), FIRST).expect(&rt, "FIRST is read");
-    let [
-        Item::Class(lamp),
-        Item::Class(boss),
-        Item::Object(_),
-        Item::Object(_),
-    ] = file.items.as_slice()
-    else {
-        panic!(rt; "two classes and two objects");
-    };
-    assert!(rt; is_lamp(lamp));
-    assert!(rt; is_boss(boss));
-    Ok(())
+// Whether a file has a lamp, its boss, and an object of each.
+fn is_first(file: &SmlFile<Global>) -> bool {
+    match file.items.as_slice() {
+        [
+            Item::Class(lamp),
+            Item::Class(boss),
+            Item::Object(_),
+            Item::Object(_),
+        ] => is_lamp(lamp) && is_boss(boss),
+        _ => false,
+    }
 }
 
 #[test]
-fn reads_sends_and_objects(rt: HostRuntime) -> Result<(), Fail> {
-    let file = read(rt.alloc(), FIRST).expect(&rt, "FIRST is read");
-    let [_, Item::Class(boss), Item::Object(l), Item::Object(b)] = file.items.as_slice() else {
-        panic!(rt; "two classes and two objects");
-    };
-    assert!(rt; is_boss(boss));
-    assert!(rt; is_object(l, b"L", b"LAMP") && is_object(b, b"B", b"BOSS"));
-    Ok(())
+fn reads_classes(rt: HostRuntime) {
+    assert!(rt; has_file(rt.alloc(), FIRST, is_first));
+}
+
+fn has_boss_and_objects(file: &SmlFile<Global>) -> bool {
+    match file.items.as_slice() {
+        [_, Item::Class(boss), Item::Object(l), Item::Object(b)] => {
+            is_boss(boss) && is_object(l, b"L", b"LAMP") && is_object(b, b"B", b"BOSS")
+        }
+        _ => false,
+    }
 }
 
 #[test]
-fn words_count_behind_a_slash_alone(rt: HostRuntime) -> Result<(), Fail> {
-    let file = read(rt.alloc(), b"object: ASSOCIATED is_of_class dead_state").expect(
-        &rt,
-        "they are names",
-    );
-    assert!(rt;
-        matches!(file.items.as_slice(), [Item::Object(o)] if is_object(o, b"ASSOCIATED", b"DEAD_STATE"))
-    );
-    let rows = [(b"object: CLASS is_of_class C".as_slice(), Some((4, 8)))];
-    assert_eq!(rt; other_refusal(rt.alloc(), &rows), None);
-    Ok(())
+fn reads_sends_and_objects(rt: HostRuntime) {
+    assert!(rt; has_file(rt.alloc(), FIRST, has_boss_and_objects));
+}
+
+fn has_odd_object(file: &SmlFile<Global>) -> bool {
+    match file.items.as_slice() {
+        [Item::Object(o)] => is_object(o, b"ASSOCIATED", b"DEAD_STATE"),
+        _ => false,
+    }
+}
+
+const NO_NAMES: &[Refusal] = &[(b"object: CLASS is_of_class C", Some((4, 8)))];
+
+#[test]
+fn words_count_behind_a_slash_alone(rt: HostRuntime) {
+    let text: &[u8] = b"object: ASSOCIATED is_of_class dead_state";
+    assert!(rt; has_file(rt.alloc(), text, has_odd_object));
+    assert!(rt; other_refusal(rt.alloc(), NO_NAMES) == None);
 }
 
 // Whether a state is marked so.
@@ -108,33 +116,49 @@ fn is_marked(state: &State<Global>, initial: bool, dead: bool) -> bool {
     state.initial == initial && state.dead == dead
 }
 
+// Whether four states are marked so.
+fn are_marked(states: &[State<Global>]) -> bool {
+    match states {
+        [a, b, d, e] => {
+            is_marked(a, true, true)
+                && is_marked(b, true, false)
+                && is_marked(d, false, true)
+                && is_marked(e, false, false)
+        }
+        _ => false,
+    }
+}
+
+// The one class of a file.
+fn only_class(file: &SmlFile<Global>) -> Option<&Class<Global>> {
+    match file.items.as_slice() {
+        [Item::Class(class)] => Some(class),
+        _ => None,
+    }
+}
+
+fn has_marks(file: &SmlFile<Global>) -> bool {
+    match only_class(file) {
+        Some(class) => class.associated && are_marked(&class.states),
+        None => false,
+    }
+}
+
+const NO_MARKS: &[Refusal] = &[
+    (
+        b"class:C state:S /initial_state /initial_state",
+        Some((4, 32)),
+    ),
+    (b"class:C state:S /dead_state/initial_state/", Some((4, 41))),
+    (b"class:C /dead_state", Some((4, 9))),
+];
+
 #[test]
-fn reads_marks_in_either_order(rt: HostRuntime) -> Result<(), Fail> {
-    let text =
+fn reads_marks_in_either_order(rt: HostRuntime) {
+    let text: &[u8] =
         b"class: C / associated state: A /dead_state/initial_state state: B /initial_state state: D /dead_state state: E";
-    let file = read(rt.alloc(), text).expect(&rt, "it is read");
-    let [Item::Class(class)] = file.items.as_slice() else {
-        panic!(rt; "one class");
-    };
-    assert!(rt; class.associated);
-    let [a, b, d, e] = class.states.as_slice() else {
-        panic!(rt; "four states");
-    };
-    assert!(rt; is_marked(a, true, true) && is_marked(b, true, false));
-    assert!(rt; is_marked(d, false, true) && is_marked(e, false, false));
-    let rows = [
-        (
-            b"class:C state:S /initial_state /initial_state".as_slice(),
-            Some((4, 32)),
-        ),
-        (
-            b"class:C state:S /dead_state/initial_state/".as_slice(),
-            Some((4, 41)),
-        ),
-        (b"class:C /dead_state".as_slice(), Some((4, 9))),
-    ];
-    assert_eq!(rt; other_refusal(rt.alloc(), &rows), None);
-    Ok(())
+    assert!(rt; has_file(rt.alloc(), text, has_marks));
+    assert!(rt; other_refusal(rt.alloc(), NO_MARKS) == None);
 }
 
 fn is_n(param: &ClassParam<Global>) -> bool {
@@ -155,25 +179,40 @@ fn is_m(param: &ActionParam<Global>) -> bool {
     param.kind == Kind::Str && is(&param.name, b"M") && param.default.is_none()
 }
 
-// The actions of the first state of a class.
-fn first_actions(class: &Class<Global>) -> Option<&[Action<Global>]> {
-    Some(class.states.first()?.actions.as_slice())
+fn has_n_and_p(class: &Class<Global>) -> bool {
+    match class.params.as_slice() {
+        [n, p] => is_n(n) && is_p(p),
+        _ => false,
+    }
+}
+
+fn has_t_and_m(action: &Action<Global>) -> bool {
+    match action.params.as_slice() {
+        [t, m] => is_t(t) && is_m(m),
+        _ => false,
+    }
+}
+
+// The one action of the first state of the one class of a file.
+fn only_action(file: &SmlFile<Global>) -> Option<&Action<Global>> {
+    match only_class(file)?.states.first()?.actions.as_slice() {
+        [action] => Some(action),
+        _ => None,
+    }
+}
+
+fn has_parameters(file: &SmlFile<Global>) -> bool {
+    match (only_class(file), only_action(file)) {
+        (Some(class), Some(go)) => has_n_and_p(class) && has_t_and_m(go),
+        _ => false,
+    }
 }
 
 #[test]
-fn reads_parameters(rt: HostRuntime) -> Result<(), Fail> {
-    let text =
+fn reads_parameters(rt: HostRuntime) {
+    let text: &[u8] =
         b"class: C parameters: int N = -07, string P = \"x\" state: S action: GO (int T = 3, string M)";
-    let file = read(rt.alloc(), text).expect(&rt, "it is read");
-    let [Item::Class(class)] = file.items.as_slice() else {
-        panic!(rt; "one class");
-    };
-    assert!(rt; matches!(class.params.as_slice(), [n, p] if is_n(n) && is_p(p)));
-    let Some([go]) = first_actions(class) else {
-        panic!(rt; "one action");
-    };
-    assert!(rt; matches!(go.params.as_slice(), [t, m] if is_t(t) && is_m(m)));
-    Ok(())
+    assert!(rt; has_file(rt.alloc(), text, has_parameters));
 }
 
 fn is_passed_m(passed: &Passed<Global>) -> bool {
@@ -185,62 +224,95 @@ fn is_param(arg: &Arg<Global>, name: &[u8]) -> bool {
     matches!(arg, Arg::Param(param) if is(param, name))
 }
 
+fn passes_both(args: &[Passed<Global>]) -> bool {
+    match args {
+        [m, t] => is_passed_m(m) && is(&t.name, b"T") && is_param(&t.value, b"N"),
+        _ => false,
+    }
+}
+
+fn sends_to_all(instr: &Instr<Global>) -> bool {
+    match instr {
+        Instr::Do { args, all, .. } => *all && passes_both(args),
+        _ => false,
+    }
+}
+
+fn sets_n(instr: &Instr<Global>) -> bool {
+    match instr {
+        Instr::Set { param, value } => is(param, b"N") && is_param(value, b"T"),
+        _ => false,
+    }
+}
+
+fn has_instructions(file: &SmlFile<Global>) -> bool {
+    let Some(go) = only_action(file) else {
+        return false;
+    };
+    match go.body.instrs.as_slice() {
+        [send, set, Instr::Terminate(s)] => sends_to_all(send) && sets_n(set) && is(s, b"S"),
+        _ => false,
+    }
+}
+
 #[test]
-fn reads_instructions(rt: HostRuntime) -> Result<(), Fail> {
-    let text =
+fn reads_instructions(rt: HostRuntime) {
+    let text: &[u8] =
         b"class: C state: S action: GO do GO (M = \"a\", T = N) all_in G set N = T terminate_action / state = S";
-    let file = read(rt.alloc(), text).expect(&rt, "it is read");
-    let [Item::Class(class)] = file.items.as_slice() else {
-        panic!(rt; "one class");
-    };
-    let Some([go]) = first_actions(class) else {
-        panic!(rt; "one action");
-    };
-    let [
-        Instr::Do { args, all, .. },
-        Instr::Set { param, value },
-        Instr::Terminate(s),
-    ] = go.body.instrs.as_slice()
-    else {
-        panic!(rt; "three instructions");
-    };
+    assert!(rt; has_file(rt.alloc(), text, has_instructions));
+}
+
+fn has_a_and_b(set: &Group<Global>) -> bool {
+    match set.members.as_slice() {
+        [a, b] => is(a, b"A") && is(b, b"B"),
+        _ => false,
+    }
+}
+
+fn has_sets(file: &SmlFile<Global>) -> bool {
+    match file.items.as_slice() {
+        [Item::Group(g), Item::Group(e)] => {
+            has_a_and_b(g) && is(&e.name, b"E") && e.members.is_empty()
+        }
+        _ => false,
+    }
+}
+
+const NO_SETS: &[Refusal] = &[(b"objectset: E { A, }", Some((4, 18)))];
+
+#[test]
+fn reads_sets(rt: HostRuntime) {
     assert!(rt;
-        *all && matches!(args.as_slice(), [m, t] if is_passed_m(m) && is(&t.name, b"T") && is_param(&t.value, b"N"))
+        has_file(
+            rt.alloc(),
+            b"objectset: G { A, b } objectset: E { }",
+            has_sets
+        )
     );
-    assert!(rt; is(param, b"N") && is_param(value, b"T") && is(s, b"S"));
-    Ok(())
+    assert!(rt; other_refusal(rt.alloc(), NO_SETS) == None);
 }
 
-#[test]
-fn reads_sets(rt: HostRuntime) -> Result<(), Fail> {
-    let file = read(rt.alloc(), b"objectset: G { A, b } objectset: E { }").expect(
-        &rt,
-        "it is read",
-    );
-    let [Item::Group(g), Item::Group(e)] = file.items.as_slice() else {
-        panic!(rt; "two sets");
-    };
-    assert!(rt; matches!(g.members.as_slice(), [a, b] if is(a, b"A") && is(b, b"B")));
-    assert!(rt; is(&e.name, b"E") && e.members.is_empty());
-    let rows = [(b"objectset: E { A, }".as_slice(), Some((4, 18)))];
-    assert_eq!(rt; other_refusal(rt.alloc(), &rows), None);
-    Ok(())
-}
+const REFUSED: &[Refusal] = &[
+    (b"class: A\xC4 9A", Some((2, 8))),
+    (b"class: 9A", Some((3, 7))),
+    (b"class: \"abc", Some((3, 7))),
+    (b"object: class: \"abc", Some((3, 15))),
+    (b"class", Some((4, 5))),
+    (b"class: A state", Some((4, 14))),
+    (b"class: class", Some((4, 7))),
+    (b"class: A object", Some((4, 15))),
+];
 
 #[test]
-fn refuses_by_kind_and_place(rt: HostRuntime) -> Result<(), Fail> {
-    let rows = [
-        (b"class: A\xC4 9A".as_slice(), Some((2, 8))),
-        (b"class: 9A".as_slice(), Some((3, 7))),
-        (b"class: \"abc".as_slice(), Some((3, 7))),
-        (b"object: class: \"abc".as_slice(), Some((3, 15))),
-        (b"class".as_slice(), Some((4, 5))),
-        (b"class: A state".as_slice(), Some((4, 14))),
-        (b"class: class".as_slice(), Some((4, 7))),
-        (b"class: A object".as_slice(), Some((4, 15))),
-    ];
-    assert_eq!(rt; other_refusal(rt.alloc(), &rows), None);
-    Ok(())
+fn refuses_by_kind_and_place(rt: HostRuntime) {
+    assert!(rt; other_refusal(rt.alloc(), REFUSED) == None);
+}
+
+// Whether an error is told so.
+fn is_told(alloc: Global, error: ReadError, told: &str) -> Result<bool, AllocError> {
+    let mut text = String::new(alloc);
+    write!(text, "{error}")?;
+    Ok(text.as_str() == told)
 }
 
 #[test]
@@ -251,8 +323,6 @@ fn names_its_kinds(rt: HostRuntime) -> Result<(), Fail> {
         kind: ReadErrorKind::TooMany,
         offset: 1024,
     };
-    let mut text = String::new(rt.alloc());
-    write!(text, "{error}")?;
-    assert_eq!(rt; text.as_str(), "TooMany at 1024");
+    assert!(rt; is_told(rt.alloc(), error, "TooMany at 1024")?);
     Ok(())
 }

@@ -1,5 +1,6 @@
 //! Tokens, and the writing of bytes and numbers.
 
+use crate::texts::repeated;
 use sml_text::decimal::{tell_i64, tell_u64};
 use sml_text::front::{Front, front_at};
 use sml_text::source::{Sign, Source};
@@ -9,133 +10,194 @@ use std::alloc::{AllocError, Global};
 use std::io::{Error, Write};
 use std::test::Fail;
 
-fn int(value: i64, length: usize) -> Front {
-    Front::Int { value, length }
-}
+// A text, and what stands at its front.
+type Row = (&'static [u8], Front);
 
 // The first of these rows in whose text something else stands in front.
-fn other_front(source: Source, rows: &[(&[u8], Front)]) -> Option<usize> {
-    rows.iter()
-        .position(|(text, front)| front_at(source, text) != *front)
+fn other_front(source: Source, rows: &[Row]) -> Option<usize> {
+    for (place, (text, front)) in rows.iter().enumerate() {
+        if front_at(source, text) != *front {
+            return Some(place);
+        }
+    }
+    None
 }
 
-// A string of so many bytes between its quotes.
-fn string_of(alloc: Global, length: u32) -> Result<Vec<u8>, AllocError> {
-    let mut text = Vec::from_slice(alloc, b"\"")?;
-    for _ in 0..length {
-        text.push(b'x')?;
+// Whether this stands at the front of a string of so many bytes between its quotes.
+fn is_at_string(alloc: Global, length: usize, front: Front) -> bool {
+    match repeated(alloc, b"\"", b"x", length, b"\"") {
+        Ok(text) => front_at(Source::Domain, &text) == front,
+        Err(_) => false,
     }
-    text.push(b'"')?;
-    Ok(text)
 }
+
+const SKIPS: &[Row] = &[
+    (b"", Front::End),
+    (b"  A", Front::Skip(1)),
+    (b"\t", Front::Skip(1)),
+    (b"\r", Front::Skip(1)),
+    (b"\n", Front::Skip(1)),
+    (b"! a \"comment\"\nA", Front::Skip(13)),
+    (b"! to the end", Front::Skip(12)),
+    (b"!\rA\nB", Front::Skip(3)),
+    (b"!\x00\xff", Front::Skip(3)),
+];
 
 #[test]
 fn skips_blanks_and_comments(rt: HostRuntime) {
-    let rows: [(&[u8], Front); 9] = [
-        (b"", Front::End),
-        (b"  A", Front::Skip(1)),
-        (b"\t", Front::Skip(1)),
-        (b"\r", Front::Skip(1)),
-        (b"\n", Front::Skip(1)),
-        (b"! a \"comment\"\nA", Front::Skip(13)),
-        (b"! to the end", Front::Skip(12)),
-        (b"!\rA\nB", Front::Skip(3)),
-        (b"!\x00\xff", Front::Skip(3)),
-    ];
-    assert_eq!(rt; other_front(Source::Domain, &rows), None);
+    assert!(rt; other_front(Source::Domain, SKIPS) == None);
 }
+
+const LONGEST: &[u8] = &[b'w'; 64];
+
+const TOO_LONG: &[u8] = &[b'w'; 65];
+
+const WORDS: &[Row] = &[
+    (b"class:", Front::Word(5)),
+    (b"A-5", Front::Word(1)),
+    (b"z_9Z", Front::Word(4)),
+    (b"_A", Front::Bad),
+    (LONGEST, Front::Word(64)),
+    (TOO_LONG, Front::Bad),
+];
 
 #[test]
 fn reads_words(rt: HostRuntime) {
-    let longest = [b'w'; 64];
-    let too_long = [b'w'; 65];
-    let rows: [(&[u8], Front); 6] = [
-        (b"class:", Front::Word(5)),
-        (b"A-5", Front::Word(1)),
-        (b"z_9Z", Front::Word(4)),
-        (b"_A", Front::Bad),
-        (&longest, Front::Word(64)),
-        (&too_long, Front::Bad),
-    ];
-    assert_eq!(rt; other_front(Source::Domain, &rows), None);
-    assert_eq!(rt; first_bad(Source::Domain, &too_long), Some(0));
+    assert!(rt; other_front(Source::Domain, WORDS) == None);
+    assert!(rt; first_bad(Source::Domain, TOO_LONG) == Some(0));
 }
+
+const INTS: &[Row] = &[
+    (
+        b"0",
+        Front::Int {
+            value: 0,
+            length: 1,
+        },
+    ),
+    (
+        b"-0",
+        Front::Int {
+            value: 0,
+            length: 2,
+        },
+    ),
+    (
+        b"007 ",
+        Front::Int {
+            value: 7,
+            length: 3,
+        },
+    ),
+    (
+        b"5-3",
+        Front::Int {
+            value: 5,
+            length: 1,
+        },
+    ),
+    (
+        b"-3",
+        Front::Int {
+            value: -3,
+            length: 2,
+        },
+    ),
+    (
+        b"9223372036854775807",
+        Front::Int {
+            value: i64::MAX,
+            length: 19,
+        },
+    ),
+    (
+        b"-9223372036854775808",
+        Front::Int {
+            value: i64::MIN,
+            length: 20,
+        },
+    ),
+    (
+        b"0000000000000000000000000000000000000042",
+        Front::Int {
+            value: 42,
+            length: 40,
+        },
+    ),
+    (b"9223372036854775808", Front::Bad),
+    (b"-9223372036854775809", Front::Bad),
+    (b"18446744073709551616", Front::Bad),
+    (b"99999999999999999999999", Front::Bad),
+    (b"-", Front::Bad),
+    (b"--5", Front::Bad),
+    (b"5a", Front::Bad),
+    (b"5_", Front::Bad),
+    (b"-5a", Front::Bad),
+];
 
 #[test]
 fn reads_ints(rt: HostRuntime) {
-    let rows: [(&[u8], Front); 17] = [
-        (b"0", int(0, 1)),
-        (b"-0", int(0, 2)),
-        (b"007 ", int(7, 3)),
-        (b"5-3", int(5, 1)),
-        (b"-3", int(-3, 2)),
-        (b"9223372036854775807", int(i64::MAX, 19)),
-        (b"-9223372036854775808", int(i64::MIN, 20)),
-        (b"0000000000000000000000000000000000000042", int(42, 40)),
-        (b"9223372036854775808", Front::Bad),
-        (b"-9223372036854775809", Front::Bad),
-        (b"18446744073709551616", Front::Bad),
-        (b"99999999999999999999999", Front::Bad),
-        (b"-", Front::Bad),
-        (b"--5", Front::Bad),
-        (b"5a", Front::Bad),
-        (b"5_", Front::Bad),
-        (b"-5a", Front::Bad),
-    ];
-    assert_eq!(rt; other_front(Source::Domain, &rows), None);
+    assert!(rt; other_front(Source::Domain, INTS) == None);
 }
 
+const STRINGS: &[Row] = &[
+    (b"\"\"", Front::Str(0)),
+    (b"\"a\"b", Front::Str(1)),
+    (b"\"! ~\"", Front::Str(3)),
+    (b"\"abc", Front::Bad),
+    (b"\"a\nb\"", Front::Bad),
+    (b"\"\x7f\"", Front::Bad),
+    (b"\"\x80\"", Front::Bad),
+];
+
+const STRING_LENGTHS: &[(usize, Front)] = &[
+    (255, Front::Str(255)),
+    (256, Front::Bad),
+    (300, Front::Bad),
+];
+
 #[test]
-fn reads_strings(rt: HostRuntime) -> Result<(), Fail> {
-    let rows: [(&[u8], Front); 7] = [
-        (b"\"\"", Front::Str(0)),
-        (b"\"a\"b", Front::Str(1)),
-        (b"\"! ~\"", Front::Str(3)),
-        (b"\"abc", Front::Bad),
-        (b"\"a\nb\"", Front::Bad),
-        (b"\"\x7f\"", Front::Bad),
-        (b"\"\x80\"", Front::Bad),
-    ];
-    assert_eq!(rt; other_front(Source::Domain, &rows), None);
-    for (length, front) in [(255, Front::Str(255)), (256, Front::Bad), (300, Front::Bad)] {
-        let text = string_of(rt.alloc(), length)?;
+fn reads_strings(rt: HostRuntime) {
+    assert!(rt; other_front(Source::Domain, STRINGS) == None);
+    for (length, front) in STRING_LENGTHS {
         assert!(rt;
-            front_at(Source::Domain, &text) == front,
+            is_at_string(rt.alloc(), *length, *front),
             "of {length} bytes"
         );
     }
-    Ok(())
 }
+
+const SIGNS: &[Row] = &[
+    (b":", Front::Sign(Sign::Colon)),
+    (b",,", Front::Sign(Sign::Comma)),
+    (b"=", Front::Sign(Sign::Equals)),
+    (b"(", Front::Sign(Sign::OpenBracket)),
+    (b")", Front::Sign(Sign::CloseBracket)),
+    (b"{", Front::Sign(Sign::OpenBrace)),
+    (b"}", Front::Sign(Sign::CloseBrace)),
+    (b"/", Front::Sign(Sign::Slash)),
+    (b";", Front::Bad),
+    (b"\x00", Front::Bad),
+];
 
 #[test]
 fn reads_signs(rt: HostRuntime) {
-    let rows: [(&[u8], Front); 10] = [
-        (b":", Front::Sign(Sign::Colon)),
-        (b",,", Front::Sign(Sign::Comma)),
-        (b"=", Front::Sign(Sign::Equals)),
-        (b"(", Front::Sign(Sign::OpenBracket)),
-        (b")", Front::Sign(Sign::CloseBracket)),
-        (b"{", Front::Sign(Sign::OpenBrace)),
-        (b"}", Front::Sign(Sign::CloseBrace)),
-        (b"/", Front::Sign(Sign::Slash)),
-        (b";", Front::Bad),
-        (b"\x00", Front::Bad),
-    ];
-    assert_eq!(rt; other_front(Source::Domain, &rows), None);
+    assert!(rt; other_front(Source::Domain, SIGNS) == None);
 }
+
+const SESSIONS: &[Row] = &[
+    (b"@1", Front::Session(1)),
+    (b"@8RUN", Front::Session(8)),
+    (b"@12", Front::Session(1)),
+    (b"@0", Front::Bad),
+    (b"@9", Front::Bad),
+    (b"@", Front::Bad),
+];
 
 #[test]
 fn sessions_stand_in_lines_alone(rt: HostRuntime) {
-    let rows: [(&[u8], Front); 6] = [
-        (b"@1", Front::Session(1)),
-        (b"@8RUN", Front::Session(8)),
-        (b"@12", Front::Session(1)),
-        (b"@0", Front::Bad),
-        (b"@9", Front::Bad),
-        (b"@", Front::Bad),
-    ];
-    assert_eq!(rt; other_front(Source::Line, &rows), None);
-    assert_eq!(rt; front_at(Source::Domain, b"@1"), Front::Bad);
+    assert!(rt; other_front(Source::Line, SESSIONS) == None);
+    assert!(rt; front_at(Source::Domain, b"@1") == Front::Bad);
 }
 
 // The place behind the first token of a line.
@@ -144,21 +206,26 @@ fn behind_token(text: &[u8]) -> Option<usize> {
     Some(place)
 }
 
+// A text, the place behind the first token of it as a line, and that of the first thing that is no token.
+type Place = (&'static [u8], Option<usize>, Option<usize>);
+
+const PLACES: &[Place] = &[
+    (b"", None, None),
+    (b";", None, Some(0)),
+    (b" A", Some(2), None),
+    (b"\"abc\"", Some(5), None),
+    (b"-7", Some(2), None),
+    (b"@1", Some(2), None),
+];
+
+fn stands_so((text, behind, bad): Place) -> bool {
+    behind_token(text) == behind && first_bad(Source::Line, text) == bad
+}
+
 #[test]
 fn knows_what_stands_and_its_size(rt: HostRuntime) {
-    let rows: [(&[u8], Option<usize>, Option<usize>); 6] = [
-        (b"", None, None),
-        (b";", None, Some(0)),
-        (b" A", Some(2), None),
-        (b"\"abc\"", Some(5), None),
-        (b"-7", Some(2), None),
-        (b"@1", Some(2), None),
-    ];
-    for (i, (text, behind, bad)) in rows.into_iter().enumerate() {
-        assert!(rt;
-            behind_token(text) == behind && first_bad(Source::Line, text) == bad,
-            "at {i}"
-        );
+    for (i, row) in PLACES.iter().enumerate() {
+        assert!(rt; stands_so(*row), "at {i}");
     }
 }
 
@@ -187,23 +254,24 @@ fn gives_one_token_after_another(rt: HostRuntime) -> Result<(), Fail> {
     Ok(())
 }
 
+const BAD: &[(Source, &[u8], Option<usize>)] = &[
+    (Source::Domain, b"", None),
+    (Source::Domain, b"class:A state:S 0 \"x\" ! \xff", None),
+    (Source::Domain, b"A 9A", Some(2)),
+    (Source::Domain, b"A  \"abc", Some(3)),
+    (Source::Domain, b"5--3", Some(1)),
+    (Source::Domain, b"5-3", None),
+    (Source::Domain, b"5 -5a", Some(2)),
+    (Source::Domain, b"\n@1", Some(1)),
+    (Source::Line, b"\n@1", None),
+    (Source::Line, b"@12@9", Some(3)),
+    (Source::Domain, b"!\r;\n;", Some(4)),
+];
+
 #[test]
 fn finds_the_first_bad_place(rt: HostRuntime) {
-    let rows: [(Source, &[u8], Option<usize>); 11] = [
-        (Source::Domain, b"", None),
-        (Source::Domain, b"class:A state:S 0 \"x\" ! \xff", None),
-        (Source::Domain, b"A 9A", Some(2)),
-        (Source::Domain, b"A  \"abc", Some(3)),
-        (Source::Domain, b"5--3", Some(1)),
-        (Source::Domain, b"5-3", None),
-        (Source::Domain, b"5 -5a", Some(2)),
-        (Source::Domain, b"\n@1", Some(1)),
-        (Source::Line, b"\n@1", None),
-        (Source::Line, b"@12@9", Some(3)),
-        (Source::Domain, b"!\r;\n;", Some(4)),
-    ];
-    for (i, (source, text, bad)) in rows.into_iter().enumerate() {
-        assert!(rt; first_bad(source, text) == bad, "at {i}");
+    for (i, (source, text, bad)) in BAD.iter().enumerate() {
+        assert!(rt; first_bad(*source, text) == *bad, "at {i}");
     }
 }
 

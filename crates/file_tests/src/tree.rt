@@ -1,8 +1,8 @@
 //! Names, words, and trees that are copied and compared.
 
-use crate::conditions::first_instr;
-use crate::texts::same_file;
-use sml_read::read;
+use crate::conditions::is_deep;
+use crate::texts::{has_file, same_file};
+use sml_tree::file::SmlFile;
 use sml_tree::name::Name;
 use sml_tree::token_kind::TokenKind;
 use sml_tree::words::{is_reserved, word_kind};
@@ -52,36 +52,31 @@ fn names_are_folded(rt: HostRuntime) {
     assert!(rt; Name::from_word(b"A") < Name::from_word(b"A1"));
 }
 
-// Whether the file of a text is the same as its copy.
-fn is_copied(alloc: Global, text: &[u8]) -> bool {
-    match read(alloc, text) {
-        Ok(file) => match file.copy_in(alloc) {
-            Ok(copy) => copy.same(&file),
-            Err(_) => false,
-        },
+// Whether a file is the same as its copy.
+fn is_copied(alloc: Global, file: &SmlFile<Global>) -> bool {
+    match file.copy_in(alloc) {
+        Ok(copy) => copy.same(file),
         Err(_) => false,
     }
 }
 
-#[test]
-fn copies_are_the_same(rt: HostRuntime) {
-    for text in [CHOICE, EVERY_FORM, b"".as_slice()] {
-        assert!(rt; is_copied(rt.alloc(), text));
-    }
-    for text in [CHOICE, EVERY_FORM] {
-        assert!(rt; !same_file(rt.alloc(), text, b""));
-    }
+// Whether the file of a text is the same as its copy.
+fn copies(alloc: Global, text: &[u8]) -> bool {
+    has_file(alloc, text, |file| is_copied(alloc, file))
 }
 
-// How deep `if`s stand in one another in the first instruction of the first action.
-fn depth_of(alloc: Global, text: &[u8]) -> Option<u32> {
-    let file = read(alloc, text).ok()?;
-    Some(first_instr(&file)?.depth())
+#[test]
+fn copies_are_the_same(rt: HostRuntime) {
+    assert!(rt; copies(rt.alloc(), CHOICE));
+    assert!(rt; copies(rt.alloc(), EVERY_FORM));
+    assert!(rt; copies(rt.alloc(), b""));
+    assert!(rt; !same_file(rt.alloc(), CHOICE, b""));
+    assert!(rt; !same_file(rt.alloc(), EVERY_FORM, b""));
 }
 
 #[test]
 fn an_if_is_one_deep(rt: HostRuntime) {
-    assert!(rt; depth_of(rt.alloc(), CHOICE) == Some(1));
+    assert!(rt; has_file(rt.alloc(), CHOICE, |file| is_deep(file, 1)));
 }
 
 #[test]

@@ -132,28 +132,59 @@ fn action_text(
 ) -> Result<String, AllocError>
     requires { state < STATES }
 {
-    let Place { near, far, .. } = place;
-    let sent = action / 2;
     let next = (state + 1) % STATES;
-    format!(in alloc;
-        "    action: ACTION_{action} (int T = {action}, string M)
-      do ACTION_{sent} (M = M, T = LIMIT) OBJECT_{near}
-      if ( OBJECT_{near} in_state {{ STATE_1, STATE_2 }} and not ( all_in GROUP_{near} in_state STATE_{state}
+    let mut text = String::new(alloc);
+    add_request(&mut text, place, action)?;
+    add_test(&mut text, place, state)?;
+    add_both_ways(&mut text, place, next, action)?;
+    writeln!(text, "      terminate_action /state=STATE_{next}")?;
+    Ok(text)
+}
+
+fn add_request(text: &mut String, place: Place, action: usize) -> Result<(), AllocError> {
+    let Place { near, .. } = place;
+    let sent = action / 2;
+    writeln!(
+        text,
+        "    action: ACTION_{action} (int T = {action}, string M)"
+    )?;
+    writeln!(
+        text,
+        "      do ACTION_{sent} (M = M, T = LIMIT) OBJECT_{near}"
+    )
+}
+
+fn add_test(text: &mut String, place: Place, state: usize) -> Result<(), AllocError> {
+    let Place { near, far, .. } = place;
+    write!(
+        text,
+        "      if ( OBJECT_{near} in_state {{ STATE_1, STATE_2 }} and not ( all_in GROUP_{near} in_state STATE_{state}
            or any_in GROUP_{far} not_in_state STATE_3 ) ) then
-        set LIMIT = T ! keep it
+"
+    )
+}
+
+fn add_both_ways(
+    text: &mut String,
+    place: Place,
+    next: usize,
+    action: usize,
+) -> Result<(), AllocError> {
+    let Place { near, .. } = place;
+    let sent = action / 2;
+    write!(
+        text,
+        "        set LIMIT = T ! keep it
         move_to STATE_{next}
       else
         do ACTION_{sent} (M = \"a text of some length\", T = -{action}) all_in GROUP_{near}
       endif
-      terminate_action /state=STATE_{next}
 "
     )
 }
 
 // How many bytes are left of the part that is begun.
-fn room_of(text: &str) -> usize
-    ensures { result ≤ 4096 }
-{
+fn room_of(text: &str) -> usize {
     PART - text.len() % PART
 }
 
