@@ -5,6 +5,7 @@ use Rattle.std.specs.declared.alloc.Global.{Global}
 use Rattle.std.proofs.lemmas.List.{map-append}
 use Rattle.std.proofs.Math.ListN.{get_or-append}
 use Rattle.std.proofs.Math.Seq.{get_or-append_seam}
+use Rattle.sml_domain.specs.declared.instr.Cond.{Cond}
 use Rattle.sml_domain.specs.declared.instr.Instr.{Instr}
 use Rattle.sml_domain.specs.declared.instr.Instr.TheVariants as instrs
 use Rattle.sml_domain.specs.Domain.{block_items}
@@ -12,10 +13,11 @@ use Rattle.sml_domain.specs.Program.{Program, Nothing, IfThen}
 use Rattle.sml_domain.specs.Trees.{formula, tree_at, with_instr, onto, trees_from, trees_of}
 use Rattle.sml_domain.specs.Places.{NamesBefore, NameBefore, AreOrdered}
 use Rattle.sml_tree.proofs.Blocks.{instr_content-If}
-use Rattle.sml_tree.specs.Syntax.{InstrData, ClassData, ActionData}
+use Rattle.sml_tree.specs.Syntax.{InstrData, CondData, BlockData, ClassData, ActionData, choose}
 use Rattle.sml_tree.specs.Content.{block_of}
 use Rattle.sml_check.specs.Numbers.{Names}
 use Rattle.sml_check.specs.Programs.{instr_then}
+use Rattle.sml_check.specs.Programs as says
 use Rattle.sml_check.specs.Placed.{InstrPlaced, BlockPlaced}
 use Rattle.sml_check.specs.Grown.{Grows, IsInstr}
 
@@ -37,7 +39,7 @@ pub onto_kept : (n : ℕ) (xs ys : List Program) (is : List Instr) (k : Program)
 onto_kept n xs ys [] k same h = refl
 onto_kept n xs ys (i ∷ is) k same h = ap (with_instr ys i) (onto_kept n xs ys is k same h.1) ∙ with_kept n xs ys i (onto xs is k) same h.0
 
-names_more : (m n : ℕ) (i : Instr) → m ≤ n → NamesBefore m i → NamesBefore n i
+pub names_more : (m n : ℕ) (i : Instr) → m ≤ n → NamesBefore m i → NamesBefore n i
 names_more m n (instrs.Set p v) le h = tt
 names_more m n (instrs.Send t a args) le h = tt
 names_more m n (instrs.SendNone set) le h = tt
@@ -105,6 +107,13 @@ pub one_more : (was now : List (List Instr)) (fs gs : List Instr) (f : Instr) (n
 one_more was now fs gs f n c a x p g fit e same =
     ap (onto (trees_of was) fs) (sym (same p)) ∙ sym (onto_kept (length was) (trees_of was) (trees_of now) fs (with_instr (trees_of now) f p) g.kept fit)
     ∙ sym (ap (λ hs. onto (trees_of now) hs p) e ∙ onto-push (trees_of now) fs f p)
+
+-- a choice between two blocks that were laid out
+pub choice_laid : (n : Names) (c : ClassData) (a : ActionData) (mid now : List (List Instr)) (f : Cond) (y z : ℕ) (x : InstrData) (fx : CondData) (yx zx : BlockData) → x ≡ choose fx yx zx → formula f ≡ says.formula n fx
+    → Grows mid now → y < length mid → tree_at (trees_of mid) y ≡ says.program n c a yx → tree_at (trees_of now) z ≡ says.program n c a zx → IsInstr n c a (trees_of now) x (instrs.If f y z)
+choice_laid n c a mid now f y z x fx yx zx is ef g within ey ez rest =
+    ap (λ h. IfThen h (tree_at (trees_of now) y) (tree_at (trees_of now) z) rest) ef ∙ ap (λ t. IfThen (says.formula n fx) t (tree_at (trees_of now) z) rest) (g.kept y within ∙ ey)
+    ∙ ap (λ t. IfThen (says.formula n fx) (says.program n c a yx) t rest) ez ∙ sym (ap (λ i. instr_then n c a i rest) is)
 
 -- an instruction of a block whose names have numbers
 pub placed_at : {X : Type 0} (n : Names) (c : ClassData) (a : ActionData) (g : X → InstrData) (xs : List X) (k : ℕ) (x : X) → BlockPlaced n c a (block_of (map g xs)) → k < length xs → x ≡ get_or xs k x → InstrPlaced n c a (g x)

@@ -3,6 +3,7 @@ pub mod Gathered
 pub mod Elements
 pub mod Foldings
 pub mod Founds
+pub mod Said
 pub mod Shown
 pub mod Numbered
 pub mod Signing

@@ -1,7 +1,7 @@
 -- Blocks that are put behind others, and what instructions stand for.
 use Rattle.std.specs.Prelude.{◌≡◌, ◌≤◌, ◌<◌, ℕ, Bool, List, length}
 use Rattle.sml_domain.specs.declared.instr.Instr.{Instr}
-use Rattle.sml_tree.specs.Syntax.{PassedData, SendData, InstrData, send, ClassData, ActionData}
+use Rattle.sml_tree.specs.Syntax.{ArgData, PassedData, SendData, InstrData, send, assign, ClassData, ActionData}
 use Rattle.std.specs.List.{AllByRecursion}
 use Rattle.sml_domain.specs.Domain.{Action, State, Class}
 use Rattle.sml_domain.specs.Program.{Program}
@@ -26,6 +26,10 @@ IsInstr n c a known x i = (rest : Program) → with_instr known i rest ≡ instr
 -- a request stands for one of the file, and names no block
 abbrev pub IsRequest : Names → ClassData → ActionData → SendData → Instr → Type 0
 IsRequest n c a s i = NamesBefore 0 i × ((known : List Program) → IsInstr n c a known (send s) i)
+
+-- an instruction stands for the setting of a parameter, and names no block
+abbrev pub IsAssignment : Names → ClassData → ActionData → List ℕ → ArgData → Instr → Type 0
+IsAssignment n c a x v i = NamesBefore 0 i × ((known : List Program) → IsInstr n c a known (assign x v) i)
 
 -- ---- parts with blocks
 

@@ -1,8 +1,15 @@
 //! The domain of the items of a file.
-ghost use Rattle.std.specs.Prelude.{IfOk, map};
+ghost use Rattle.std.specs.Prelude.{◌≡◌, IfOk, length, map};
+ghost use Rattle.std.specs.List.{AllByRecursion};
 ghost use Rattle.sml_tree.specs.Content.{item_content};
 ghost use Rattle.sml_faults.specs.Kinds.{IsWellFormed};
 ghost use Rattle.sml_check.specs.Texts.{HasTexts};
+ghost use Rattle.sml_domain.specs.Places.{AreOrdered};
+ghost use Rattle.sml_domain.specs.Trees.{trees_of};
+ghost use Rattle.sml_check.specs.Numbers.{classes_in, objects_in, groups_in};
+ghost use Rattle.sml_check.specs.Placed.{FilePlaced};
+ghost use Rattle.sml_check.specs.Grown.{ClassThere};
+ghost use Rattle.sml_check.specs.Rows as rows;
 ghost use Rattle.sml_check.specs.FileDomain.{IsDomainOf, AreInPlace};
 
 use crate::blocks::Blocks;
@@ -48,6 +55,52 @@ impl Model for Parts {
     } };
 }
 
+// The rows of a domain.
+#[derive(Drop)]
+struct Listed {
+    objects: Vec<Object>,
+    classes: Vec<Class>,
+    groups: Vec<Group>,
+}
+
+// The rows of the items of a file, whose blocks are put behind the others.
+fn all_rows<A: Allocator + Clone>(
+    alloc: Global,
+    blocks: &mut Blocks,
+    names: &Names,
+    items: &[Item<A>],
+) -> Result<Listed, AllocError>
+    requires { FilePlaced names.now (map item_content items.now) }
+    ensures objects { IfOk result (λ d. d.objects.items ≡ map (rows.object_row names.now) (objects_in (map item_content items.now))) }
+    ensures groups { IfOk result (λ d. d.groups.items ≡ map (rows.group_row names.now) (groups_in (map item_content items.now))) }
+    ensures there { IfOk result (λ d. AllByRecursion (ClassThere (length blocks.new)) d.classes.items) }
+    ensures classes { IfOk result (λ d. map (rows.class_shown (trees_of blocks.new)) d.classes.items ≡ map (rows.class_row names.now) (classes_in (map item_content items.now))) }
+{
+    let classes = class_rows(alloc, blocks, names, items)?;
+    let objects = object_rows(alloc, names, items)?;
+    let groups = group_rows(alloc, names, items)?;
+    Ok(Listed {
+        objects,
+        classes,
+        groups,
+    })
+}
+
+// Rows, names and blocks as the parts of a domain.
+fn parts_of(listed: Listed, names: Names, blocks: Blocks) -> Parts
+    ensures is { result ≡ record { objects = listed.objects.items; classes = listed.classes.items; groups = listed.groups.items; states = names.states; actions = names.actions; blocks = blocks } }
+    ensures ordered { AreOrdered 0 blocks }
+{
+    Parts {
+        objects: listed.objects,
+        classes: listed.classes,
+        groups: listed.groups,
+        states: names.states,
+        actions: names.actions,
+        blocks: blocks.into_vec(),
+    }
+}
+
 /// The parts of the domain of the items of a file.
 pub fn lay_out<A: Allocator + Clone>(alloc: Global, items: &[Item<A>]) -> Result<Parts, AllocError>
     requires well_formed { IsWellFormed (map item_content items.now) }
@@ -57,22 +110,8 @@ pub fn lay_out<A: Allocator + Clone>(alloc: Global, items: &[Item<A>]) -> Result
 {
     let names = Names::of(alloc, items)?;
     let mut blocks = Blocks::new(alloc);
-    let classes = class_rows(alloc, &mut blocks, &names, items)?;
-    let objects = object_rows(alloc, &names, items)?;
-    let groups = group_rows(alloc, &names, items)?;
-    let Names {
-        states,
-        actions,
-        ..
-    } = names;
-    Ok(Parts {
-        objects,
-        classes,
-        groups,
-        states,
-        actions,
-        blocks: blocks.into_vec(),
-    })
+    let listed = all_rows(alloc, &mut blocks, &names, items)?;
+    Ok(parts_of(listed, names, blocks))
 }
 
 /// The domain of the items of a well-formed file.

@@ -1,14 +1,14 @@
 //! Nested blocks, laid out as numbered ones.
-ghost use Rattle.std.specs.Prelude.{◌≡◌, ◌<◌, ℕ, length, IfOk, map, option_map};
+ghost use Rattle.std.specs.Prelude.{◌≡◌, ◌<◌, true, is_some, length, IfOk, map};
 ghost use Rattle.sml_tree.specs.Syntax.{SendData};
-ghost use Rattle.sml_tree.specs.Content.{class_content, action_content, passed_content, instr_content, block_content};
+ghost use Rattle.sml_tree.specs.Content.{class_content, action_content, arg_content, passed_content, instr_content, block_content};
 ghost use Rattle.sml_domain.specs.Program.{Program};
 ghost use Rattle.sml_domain.specs.Trees as trees;
 ghost use Rattle.sml_domain.specs.Places.{NamesBefore};
 ghost use Rattle.sml_check.specs.Numbers.{place};
 ghost use Rattle.sml_check.specs.Programs as says;
-ghost use Rattle.sml_check.specs.Placed.{TargetPlaced, RequestPlaced, InstrPlaced, BlockPlaced};
-ghost use Rattle.sml_check.specs.Grown.{Grows, send_data, IsInstr, IsRequest};
+ghost use Rattle.sml_check.specs.Placed.{ValuePlaced, TargetPlaced, RequestPlaced, InstrPlaced, BlockPlaced};
+ghost use Rattle.sml_check.specs.Grown.{Grows, send_data, IsInstr, IsRequest, IsAssignment};
 
 use crate::blocks::Blocks;
 use crate::condition::condition;
@@ -18,7 +18,7 @@ use sml_domain::ids::BlockId;
 use sml_domain::instr::{Instr, Target};
 use sml_tree::block::Block;
 use sml_tree::file::{Action, Class};
-use sml_tree::literal::Passed;
+use sml_tree::literal::{Arg, Passed};
 use sml_tree::name::Name;
 use std::alloc::{AllocError, Allocator, Global};
 
@@ -67,6 +67,18 @@ impl<'a, A: Allocator + Clone> Scope<'a, A> {
         }
     }
 
+    // A parameter that is set.
+    fn assignment(&self, alloc: Global, param: &Name, value: &Arg<A>) -> Result<Instr, AllocError>
+        requires param { is_some (says.class_place (class_content self.now.class.now) param.now) ≡ true }
+        requires value { ValuePlaced (class_content self.now.class.now) (action_content self.now.action.now) (arg_content value.now) }
+        ensures { IfOk result (IsAssignment self.now.names.now (class_content self.now.class.now) (action_content self.now.action.now) param.now (arg_content value.now)) }
+    {
+        Ok(Instr::Set {
+            param: own_param(self.class, param),
+            value: operand(alloc, self.class, self.action, value)?,
+        })
+    }
+
     // An instruction, with the blocks that it names laid out.
     #[cycle(layout)]
     #[tactic(auto, using(crate::proofs::Flats::layouts))]
@@ -89,15 +101,12 @@ impl<'a, A: Allocator + Clone> Scope<'a, A> {
                 target,
             } => self.request(alloc, action, args, *all, target),
             sml_tree::block::Instr::If { cond, yes, no } => {
-                let cond = condition(alloc, self.names, cond)?;
                 let yes = self.block(alloc, blocks, yes)?;
                 let no = self.block(alloc, blocks, no)?;
+                let cond = condition(alloc, self.names, cond)?;
                 Ok(Instr::If { cond, yes, no })
             }
-            sml_tree::block::Instr::Set { param, value } => Ok(Instr::Set {
-                param: own_param(self.class, param),
-                value: operand(alloc, self.class, self.action, value)?,
-            }),
+            sml_tree::block::Instr::Set { param, value } => self.assignment(alloc, param, value),
             sml_tree::block::Instr::MoveTo(state) => Ok(Instr::MoveTo(self.names.state(state))),
             sml_tree::block::Instr::Terminate(state) => Ok(Instr::Terminate(
                 self.names.state(state),

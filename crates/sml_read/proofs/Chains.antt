@@ -1,8 +1,10 @@
 -- A conjunction is read as its first operand, and a condition as its first conjunction.
-use Rattle.std.proofs.Common.{◌≡◌, ◌+◌, ℕ, true, false, List, [], ◌∷◌, refl, ap, ◌∙◌, length, nat_lt, Result, Ok, Err, arith}
+use Rattle.std.proofs.Common.{◌≡◌, ◌+◌, ℕ, true, false, List, [], ◌∷◌, refl, ap, ◌∙◌, length, nat_lt, Result, Ok, Err, OnOk, arith}
 use Rattle.sml_tree.specs.declared.token_kind.TokenKind.{TokenKind}
 use Rattle.sml_tree.specs.declared.token_kind.TokenKind.TheVariants.{Class, And, Or, Not, OpenBracket, CloseBracket}
 use Rattle.sml_tree.specs.Piece.{Piece}
+use Rattle.sml_tree.specs.declared.cond.Cond.{Cond}
+use Rattle.sml_tree.specs.Content.{cond_content}
 use Rattle.sml_tree.specs.Syntax.{CondData, both, either, neither}
 use Rattle.sml_tree.specs.Form as of
 use Rattle.sml_tree.specs.Form.{Bone, P, Form, Part, family, Value, Counted, calls}
@@ -12,6 +14,8 @@ use Rattle.sml_read.specs.declared.fault.Stop.{Stop}
 use Rattle.sml_read.specs.declared.fault.Stop.TheVariants as stop
 use Rattle.sml_read.specs.Reads.{Reads, Passes, Refuses, Stops, SeesKind, ReadsToken}
 use Rattle.sml_read.specs.Machine.{chosen, Move, Stuck, take_rule, or_else, run}
+use Rattle.sml_read.specs.Made.{OrMemory}
+use Rattle.sml_read.specs.Stands.{Closes}
 use Rattle.sml_read.proofs.Heads.{Read}
 use Rattle.sml_read.proofs.Steps.{Taken, seen}
 
@@ -95,11 +99,29 @@ bracket_open d n v t old mid u new (stop.Fault f) first sees room a none =
     let kind = seen OpenBracket t old mid first sees in
     λ g more k. rw (first, kind, room) (a.1 g _ _ ∙ none g _ _ _)
 
+-- a `not` was made
+pub not_made : {A : Type 0} (d n n' : ℕ) (inner : CondData) (r : Result (Cond A) Stop) (t : Piece) (old mid new : List Piece) → old ≡ t ∷ mid → SeesKind Not old → nat_lt d 16 ≡ true
+    → Read (of.Unit' (d + 1) n) (record { formula = inner; count = n' }) mid new → OrMemory r (λ x. cond_content x ≡ neither inner)
+    → Reads (of.Unit' d n) (λ c. record { formula = cond_content c; count = n' }) old new r
+not_made d n n' inner (Ok x) t old mid new first sees room a made = not_ok d n n' inner (cond_content x) t old mid new first sees room a made
+not_made d n n' inner (Err e) t old mid new first sees room a made = rw made tt
+
 pub bracket_ok : (d n : ℕ) (v : Counted) (t s : Piece) (old mid u new : List Piece) → old ≡ t ∷ mid → SeesKind OpenBracket old → nat_lt d 16 ≡ true
     → Read (of.Cond (d + 1) n) v mid u → Taken CloseBracket s u new → Read (of.Unit' d n) v old new
 bracket_ok d n v t s old mid u new first sees room a close =
     let kind = seen OpenBracket t old mid first sees in
     (omega (arith, ap length first, a.0, ap length close.0), λ g more k. rw (first, kind, room) (a.1 g _ _ ∙ rw close.0 (rw close.1 refl)))
+
+-- what stands in brackets, and what may be the second of them
+pub bracket_closed : {X : Type 0} (view : X → Counted) (d n : ℕ) (x : X) (r : Result X Stop) (t : Piece) (old mid u new : List Piece) → old ≡ t ∷ mid → SeesKind OpenBracket old → nat_lt d 16 ≡ true
+    → Read (of.Cond (d + 1) n) (view x) mid u → Closes CloseBracket u new x r → Reads (of.Unit' d n) view old new r
+bracket_closed view d n x (Ok y) t old mid u new first sees room a close = rw close.0 (bracket_ok d n (view x) t close.1.0 old mid u new first sees room a (close.1.1, close.1.2))
+bracket_closed view d n x (Err e) t old mid u new first sees room a close = bracket_open d n (view x) t old mid u new e first sees room a close
+
+-- what holds whatever was read holds where something was
+pub on_ok : {X Y : Type 0} (r : Result X Y) (Q : Type 0) → Q → OnOk r Q
+on_ok (Ok x) Q q = q
+on_ok (Err e) Q q = tt
 
 -- the first operand is refused
 pub conj_err : (d n : ℕ) (old : List Piece) (e : Stop) → Stops (of.Unit' d n) old e → Stops (of.Conj d n) old e

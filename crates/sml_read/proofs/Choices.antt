@@ -1,17 +1,23 @@
 -- What is read of an `if`, by the tokens and parts that were read of it.
-use Rattle.std.proofs.Common.{◌≡◌, ◌+◌, ℕ, List, [], ◌∷◌, refl, ap, ◌∙◌, length, nat_lt, true, false, Result, Ok, Err, arith}
+use Rattle.std.proofs.Common.{◌≡◌, ◌≤◌, ◌+◌, ℕ, Option, map, List, [], ◌∷◌, refl, ap, ◌∙◌, length, nat_lt, true, false, Result, Ok, Err, arith}
 use Rattle.sml_tree.specs.declared.token_kind.TokenKind.TheVariants.{If, Then, Else, Endif, OpenBracket, CloseBracket}
 use Rattle.sml_tree.specs.Piece.{Piece}
 use Rattle.sml_tree.specs.Syntax as said
 use Rattle.sml_tree.specs.Syntax.{InstrData, CondData}
-use Rattle.sml_tree.specs.Content.{block_of}
+use Rattle.sml_tree.specs.declared.block.Block.{Block as InBlock}
+use Rattle.sml_tree.specs.Content.{block_of, instr_content}
 use Rattle.sml_tree.specs.Grammar.{way}
 use Rattle.sml_tree.specs.Form.{Block, Branch, Arm, Cond, Value, Form, B, P, Fine, word, part, gives, ◌>>=◌, ◌>>◌}
 use Rattle.sml_tree.specs.Form as of
 use Rattle.sml_read.specs.declared.fault.Stop.{Stop}
 use Rattle.sml_read.specs.declared.fault.Stop.TheVariants as stop
 use Rattle.sml_read.specs.declared.fault.Fault.TheVariants.{TooDeep}
-use Rattle.sml_read.specs.Reads.{Reads, ReadsFront, Refuses, Stops, SeesKind, ReadsToken}
+use Rattle.sml_read.specs.Reads.{Reads, ReadsNext, ReadsFront, Refuses, Stops, SeesKind, ReadsToken}
+use Rattle.sml_read.specs.Arms.{armed, ReadsAskedFor}
+use Rattle.sml_read.specs.Made.{OrMemory, found_of}
+use Rattle.sml_read.specs.Stands.{Lacks, Closes}
+use Rattle.sml_read.specs.Trails.{Trail}
+use Rattle.sml_read.proofs.Behind.{lacking}
 use Rattle.sml_read.proofs.Steps.{Taken, seen}
 use Rattle.sml_read.proofs.Heads.{Read}
 use Rattle.sml_read.proofs.Trails.{only_way, token_refused}
@@ -56,11 +62,23 @@ pub branch_sign_err : (d count : ℕ) (old u x new : List Piece) (t : Piece) (fo
 branch_sign_err d count old u x new t formula stop.Memory first a none = tt
 branch_sign_err d count old u x new t formula (stop.Fault f) first a none = λ g more k. rw (first.0, first.1) (a.1 g _ _ ∙ none g _ _ _)
 
--- the blocks are refused
-pub branch_arms_err : (d count : ℕ) (old u x y : List Piece) (t s : Piece) (formula : CondData) (e : Stop) → Taken OpenBracket t old u
-    → Read (Cond 0 0) (record { formula = formula; count = count }) u x → Taken CloseBracket s x y → Stops (Arm d) y e → Stops (Branch d) old e
-branch_arms_err d count old u x y t s formula stop.Memory first a close b = tt
-branch_arms_err d count old u x y t s formula (stop.Fault f) first a close b = λ g more k. rw (first.0, first.1) (a.1 g _ _ ∙ rw close.0 (rw close.1 (b g _ _)))
+-- the condition, and what may be the second bracket
+pub asked_for_closed : {X : Type 0} (view : X → CondData) (count : ℕ) (old u v new : List Piece) (t : Piece) (x : X) (r : Result X Stop) → Taken OpenBracket t old u
+    → Read (Cond 0 0) (record { formula = view x; count = count }) u v → Closes CloseBracket v new x r → ReadsAskedFor view old new r
+asked_for_closed view count old u v new t x (Ok y) first a close =
+    let sign = close.1 in
+    (omega (arith, ap length first.0, a.0, ap length sign.1), λ depth g more k. rw (first.0, first.1, close.0) (a.1 g _ _ ∙ rw sign.1 (rw sign.2 refl)))
+asked_for_closed view count old u v new t x (Err e) first a close = λ depth. branch_sign_err depth count old u v new t (view x) e first a close
+
+-- the blocks stand behind the condition
+pub branch_read : (d : ℕ) (old u new : List Piece) (formula : CondData) (yes' no' : List InstrData) → length u ≤ length old → Trail (Branch d) (P of.Arms ∷ []) (armed d formula) old u
+    → Read (Arm d) (record { yes_part = yes'; no_part = no' }) u new → Read (Branch d) (said.choose formula (block_of yes') (block_of no')) old new
+branch_read d old u new formula yes' no' le a b = (omega (arith, le, b.0), λ g more k. a g more k ∙ b.1 g _ _)
+
+-- the blocks behind the condition are refused
+pub branch_refused : (d : ℕ) (old u : List Piece) (formula : CondData) (e : Stop) → Trail (Branch d) (P of.Arms ∷ []) (armed d formula) old u → Stops (Arm d) u e → Stops (Branch d) old e
+branch_refused d old u formula stop.Memory a b = tt
+branch_refused d old u formula (stop.Fault f) a b = λ g more k. a g more k ∙ b g _ _
 
 pub arms_ok : (d : ℕ) (old u x y new : List Piece) (t e : Piece) (yes' no' : List InstrData) → old ≡ t ∷ u → t.kind ≡ Then → Read (Block (d + 1)) yes' u x
     → Read (of.Else (d + 1)) no' x y → Taken Endif e y new → Read (Arm d) (record { yes_part = yes'; no_part = no' }) old new
@@ -79,11 +97,13 @@ pub arms_open : (d : ℕ) (old u x y new : List Piece) (t : Piece) (yes' no' : L
 arms_open d old u x y new t yes' no' stop.Memory first kind a b none = tt
 arms_open d old u x y new t yes' no' (stop.Fault f) first kind a b none = λ g more k. rw (first, kind) (a.1 g _ _ ∙ b.1 g _ _ ∙ none g _ _ _)
 
-pub branch_ok : (d count : ℕ) (old u x y new : List Piece) (t c : Piece) (formula : CondData) (yes' no' : List InstrData) → old ≡ t ∷ u → t.kind ≡ OpenBracket
-    → Read (Cond 0 0) (record { formula = formula; count = count }) u x → Taken CloseBracket c x y → Read (Arm d) (record { yes_part = yes'; no_part = no' }) y new
-    → Read (Branch d) (said.choose formula (block_of yes') (block_of no')) old new
-branch_ok d count old u x y new t c formula yes' no' first kind a close b =
-    (omega (arith, ap length first, a.0, ap length close.0, b.0), λ g more k. rw (first, kind) (a.1 g _ _ ∙ rw close.0 (rw close.1 (b.1 g _ _))))
+-- two blocks, and what may be `endif`
+pub arms_closed : {X : Type 0} (view : X → of.Two) (d : ℕ) (old u x y new : List Piece) (t : Piece) (both : X) (r : Result X Stop) (yes' no' : List InstrData) → old ≡ t ∷ u → t.kind ≡ Then
+    → view both ≡ record { yes_part = yes'; no_part = no' } → Read (Block (d + 1)) yes' u x → Read (of.Else (d + 1)) no' x y → Closes Endif y new both r → Reads (Arm d) view old new r
+arms_closed view d old u x y new t both (Ok z) yes' no' first kind is a b close =
+    let word' = close.1 in
+    rw (close.0, is) (arms_ok d old u x y new t word'.0 yes' no' first kind a b (word'.1, word'.2))
+arms_closed view d old u x y new t both (Err e) yes' no' first kind is a b close = arms_open d old u x y new t yes' no' e first kind a b close
 
 -- an `if` inside too many others
 pub if_deep : (d : ℕ) (t : Piece) (old new : List Piece) → old ≡ t ∷ new → SeesKind If old → nat_lt d 16 ≡ false → Refuses (Block d) old (TooDeep t.at)
@@ -95,6 +115,18 @@ pub if_front : {X : Type 0} (view : X → InstrData) (d : ℕ) (r : Result X Sto
 if_front view d (Ok x) t old u new e sees room a = let kind = seen If t old u e sees in (omega (arith, ap length e, a.0), λ g more k. rw (e, kind, room) (a.1 g _ _))
 if_front view d (Err stop.Memory) t old u new e sees room a = tt
 if_front view d (Err (stop.Fault f)) t old u new e sees room a = let kind = seen If t old u e sees in λ g more k. rw (e, kind, room) (a g _ _)
+
+-- an `else` that is left out
+pub else_left_out : {A : Type 0} (d : ℕ) (r : Result (InBlock A) Stop) (old new : List Piece) → new ≡ old → Lacks Else old → OrMemory r (λ b. b.instrs.items ≡ [])
+    → Reads (of.Else d) (λ b. map instr_content b.instrs.items) old new r
+else_left_out d (Ok b) old new same lacks made = (omega (arith, ap length same), rw (same, made) (lacking (of.Else d) _ [] old refl refl lacks))
+else_left_out d (Err e) old new same lacks made = rw made tt
+
+-- what was found is the front of a list
+pub found_front : {X : Type 0} (n next : of.Part) (front : X → Value next → Value n) (none : Value n) (read : Result X Stop) (r : Result (Option X) Stop) (old new : List Piece)
+    → r ≡ found_of read → ReadsFront n next front old new read → ReadsNext n next front none old new r
+found_front n next front none (Ok x) r old new e h = rw e h
+found_front n next front none (Err s) r old new e h = rw e h
 
 -- an `else` and its block
 pub else_block : {X : Type 0} (view : X → List InstrData) (d : ℕ) (r : Result X Stop) (t : Piece) (old u new : List Piece) → old ≡ t ∷ u → t.kind ≡ Else

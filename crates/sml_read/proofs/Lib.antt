@@ -1,4 +1,5 @@
 pub mod Asked
+pub mod Behind
 pub mod Bracketed
 pub mod Chains
 pub mod Choices
@@ -10,7 +11,6 @@ pub mod Heads
 pub mod Late
 pub mod Lists
 pub mod Naming
-pub mod NextNames
 pub mod Only
 pub mod Params
 pub mod Passing

@@ -1,18 +1,18 @@
 -- What is read of an argument.
-use Rattle.std.proofs.Common.{◌≡◌, ℕ, true, false, List, [], ◌∷◌, refl, ap, ◌∙◌, length, nat_lt, arith, Err}
+use Rattle.std.proofs.Common.{◌≡◌, ℕ, true, List, [], ◌∷◌, refl, ap, ◌∙◌, length, nat_lt, arith, Err}
 use Rattle.sml_tree.specs.declared.token_kind.TokenKind.TheVariants.{Name, Equals}
 use Rattle.sml_tree.specs.Piece.{Piece}
 use Rattle.sml_tree.specs.Syntax.{ArgData}
 use Rattle.sml_tree.specs.Grammar.{way, most, name}
 use Rattle.sml_tree.specs.Form.{B, P, Form, Args, Arg, Passed, Value, Many, needs, gives, word, part, ◌>>=◌, ◌>>◌}
-use Rattle.sml_read.specs.declared.fault.Fault.TheVariants.{TooMany}
 use Rattle.sml_read.specs.declared.fault.Stop.{Stop}
 use Rattle.sml_read.specs.declared.fault.Stop.TheVariants as stop
-use Rattle.sml_read.specs.Reads.{Refuses, Stops, ReadsToken}
+use Rattle.sml_read.specs.Reads.{Stops, ReadsToken}
+use Rattle.sml_read.specs.Stands.{ReadsLimited}
 use Rattle.sml_read.specs.Trails.{Trail}
 use Rattle.sml_read.proofs.Heads.{Read}
 use Rattle.sml_read.proofs.Steps.{Taken}
-use Rattle.sml_read.proofs.Trails.{only_way, token_read, token_too_many, token_refused}
+use Rattle.sml_read.proofs.Trails.{only_way, token_read}
 
 -- what stands behind the name
 abbrev rest : (before : ℕ) → Piece → Form (Value (Passed before)) (B Equals ∷ P Args ∷ [])
@@ -28,11 +28,10 @@ begun before old = only_way (Passed before) (way Name (most 16 before Many) (res
 named : (before : ℕ) (old new : List Piece) (t : Piece) → nat_lt before 16 ≡ true → Taken Name t old new → Trail (Passed before) (B Equals ∷ P Args ∷ []) (rest before t) old new
 named before old new t room taken = token_read (Passed before) Name (most 16 before Many) (B Equals ∷ P Args ∷ []) (rest before) t old old new (begun before old) (rw room refl) taken
 
-pub passed_name_err : (before : ℕ) (old new : List Piece) (e : Stop) → ReadsToken Name old new (Err e) → Stops (Passed before) old e
-passed_name_err before old new e none = token_refused (Passed before) Name (most 16 before Many) (B Equals ∷ P Args ∷ []) (rest before) old old new e (begun before old) none
-
-pub passed_too_many : (before : ℕ) (old new : List Piece) (t : Piece) → nat_lt before 16 ≡ false → Taken Name t old new → Refuses (Passed before) old (TooMany t.at)
-passed_too_many before old new t full taken = token_too_many (Passed before) Name (most 16 before Many) (B Equals ∷ P Args ∷ []) (rest before) t old old new (begun before old) (rw full refl) taken
+-- no name stands there, or one too many
+pub passed_name_err : (before : ℕ) (old new : List Piece) (e : Stop) → ReadsLimited 16 before old new (Err e) → Stops (Passed before) old e
+passed_name_err before old new stop.Memory none = absurd none
+passed_name_err before old new (stop.Fault f) none = λ g more k. begun before old g more k ∙ none g _ _
 
 pub passed_sign_err : (before : ℕ) (old u new : List Piece) (t : Piece) (e : Stop) → nat_lt before 16 ≡ true → Taken Name t old u → ReadsToken Equals u new (Err e) → Stops (Passed before) old e
 passed_sign_err before old u new t stop.Memory room taken none = tt

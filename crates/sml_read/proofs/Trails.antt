@@ -2,13 +2,12 @@
 use Rattle.std.proofs.Common.{◌≡◌, Bool, true, false, Some, None, List, [], ◌∷◌, ◌++◌, refl, sym, ap, ◌∙◌, ◌==◌, cond, Err}
 use Rattle.sml_tree.specs.declared.token_kind.TokenKind.{TokenKind}
 use Rattle.sml_tree.specs.Piece.{Piece}
-use Rattle.sml_tree.specs.Form.{Bone, B, P, Form, needs, calls, ◌>>=◌, Mark, Fine, Many, Part, family, Value}
+use Rattle.sml_tree.specs.Form.{Bone, B, P, Form, needs, calls, ◌>>=◌, Mark, Fine, Part, family, Value}
 use Rattle.sml_tree.specs.Grammar.{Rule, rules, empty}
-use Rattle.sml_read.specs.declared.fault.Fault.TheVariants.{TooMany}
 use Rattle.sml_read.specs.declared.fault.Stop.{Stop}
 use Rattle.sml_read.specs.declared.fault.Stop.TheVariants as stop
 use Rattle.sml_read.specs.Machine.{code, Stuck, Goes, take_rule, or_else, go_on, run}
-use Rattle.sml_read.specs.Reads.{Passes, Refuses, Stops, ReadsToken}
+use Rattle.sml_read.specs.Reads.{Passes, Stops, ReadsToken}
 use Rattle.sml_read.specs.Trails.{Trail}
 use Rattle.sml_read.proofs.Codes.{same_code}
 use Rattle.sml_read.proofs.Steps.{Taken}
@@ -16,10 +15,6 @@ use Rattle.sml_read.proofs.Steps.{Taken}
 pub token_read : (n : Part) (kind : TokenKind) (mark : Mark) (bones : List Bone) (f : Piece → Form (Value n) bones) (t : Piece) (old mid new : List Piece)
     → Trail n (B kind ∷ bones) (needs kind mark f) old mid → mark ≡ Fine → Taken kind t mid new → Trail n bones (f t) old new
 token_read n kind mark bones f t old mid new a fine b g more k = a g more k ∙ rw b.0 (rw (same_code kind t.kind (sym b.1), fine) refl)
-
-pub token_too_many : (n : Part) (kind : TokenKind) (mark : Mark) (bones : List Bone) (f : Piece → Form (Value n) bones) (t : Piece) (old mid new : List Piece)
-    → Trail n (B kind ∷ bones) (needs kind mark f) old mid → mark ≡ Many → Taken kind t mid new → Refuses n old (TooMany t.at)
-token_too_many n kind mark bones f t old mid new a many b g more k = a g more k ∙ rw b.0 (rw (same_code kind t.kind (sym b.1), many) refl)
 
 pub token_refused : (n : Part) (kind : TokenKind) (mark : Mark) (bones : List Bone) (f : Piece → Form (Value n) bones) (old mid new : List Piece) (e : Stop)
     → Trail n (B kind ∷ bones) (needs kind mark f) old mid → ReadsToken kind mid new (Err e) → Stops n old e

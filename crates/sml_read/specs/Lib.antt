@@ -7,7 +7,9 @@ pub mod Held
 pub mod Left
 pub mod Lists
 pub mod Machine
+pub mod Made
 pub mod Promise
 pub mod Reads
 pub mod Refusal
+pub mod Stands
 pub mod Trails

@@ -1,16 +1,17 @@
 //! Instructions.
-ghost use Rattle.std.specs.Prelude.{◌≡◌, ◌≤◌, ◌<◌, ◌+◌, List, [], ◌∷◌, map, Ok, IfOk, IsSome};
-ghost use Rattle.sml_tree.specs.Form.{Literal as Literal', Arg as Arg', Every, Passed as Passed', ArgList, MorePassedArg, Branch, Arm, Block as Block'};
+ghost use Rattle.std.specs.Prelude.{◌≤◌, ◌<◌, [], ◌∷◌, map, Ok, IfOk};
+ghost use Rattle.sml_tree.specs.Form.{Literal as Literal', Arg as Arg', Every, Passed as Passed', ArgList, Branch, Arm, Block as Block'};
 ghost use Rattle.sml_tree.specs.Form.{Else};
-ghost use Rattle.sml_tree.specs.Content.{literal_content, arg_content, passed_content, instr_content};
+ghost use Rattle.sml_tree.specs.Content.{literal_content, arg_content, passed_content, cond_content, instr_content};
 ghost use Rattle.sml_tree.specs.declared.token_kind.TokenKind.TheVariants as kinds;
 ghost use Rattle.sml_read.specs.Reads.{Reads, ReadsNext, ReadsFront, SeesKind};
-ghost use Rattle.sml_read.specs.Arms.{arms_content};
+ghost use Rattle.sml_read.specs.Arms.{arms_content, ReadsAskedFor};
 
-use crate::fault::{Fault, Stop};
+use crate::fault::Stop;
 use crate::make;
 use crate::reader::Reader;
 use sml_tree::block::{Block, Instr};
+use sml_tree::cond::Cond;
 use sml_tree::literal::{Arg, Literal, Passed};
 use sml_tree::token_kind::TokenKind;
 use std::alloc::Allocator;
@@ -62,13 +63,7 @@ impl Reader<'_> {
     fn every(&mut self) -> bool
         ensures { Reads Every (λ all. all) self.old self.new (Ok result) }
     {
-        match self.peek() {
-            Some(TokenKind::AllIn) => {
-                self.take();
-                true
-            }
-            _ => false,
-        }
+        self.skip(TokenKind::AllIn)
     }
 
     /// An argument that has so many before it.
@@ -77,49 +72,26 @@ impl Reader<'_> {
         ensures read { Reads (Passed' before) passed_content self.old self.new result }
         ensures room { IfOk result (λ p. before < 16) }
     {
-        let held = self.expect(TokenKind::Name)?;
-        if before >= MAX_ARGS {
-            return Err(Stop::Fault(Fault::TooMany(held.at())));
-        }
+        let name = self.limited(before, MAX_ARGS)?;
         self.expect(TokenKind::Equals)?;
-        Ok(Passed {
-            name: held.name(),
-            value: self.arg(alloc)?,
-        })
-    }
-
-    /// The next argument of a list that has so many before it, where a comma stands there.
-    fn next_passed<A: Allocator + Clone>(
-        &mut self,
-        alloc: &A,
-        before: usize,
-    ) -> Result<Option<Passed<A>>, Stop>
-        requires { before ≤ 16 }
-        ensures next { ReadsNext (MorePassedArg before) (MorePassedArg (before + 1)) (λ p v. passed_content p ∷ v) [] self.old self.new result }
-        ensures room { IfOk result (λ p. IsSome p → before < 16) }
-    {
-        if !matches!(self.peek(), Some(TokenKind::Comma)) {
-            return Ok(None);
-        }
-        self.take();
-        Ok(Some(self.passed(alloc, before)?))
+        let value = self.arg(alloc)?;
+        Ok(Passed { name, value })
     }
 
     /// The arguments of a `do`, where a bracket stands there.
     fn args<A: Allocator + Clone>(&mut self, alloc: &A) -> Result<Vec<Passed<A>, A>, Stop>
         ensures { Reads ArgList (λ v. map passed_content v.items) self.old self.new result }
     {
-        let mut args = Vec::new(alloc.clone()?);
-        if !matches!(self.peek(), Some(TokenKind::OpenBracket)) {
-            return Ok(args);
+        if !self.skip(TokenKind::OpenBracket) {
+            return make::none(alloc);
         }
-        self.take();
-        args.push(self.passed(alloc, 0)?)?;
-        while let Some(passed) = self.next_passed(alloc, args.len())? {
-            args.push(passed)?;
+        let first = self.passed(alloc, 0)?;
+        let mut args = make::one(alloc, first)?;
+        'more: while self.skip(TokenKind::Comma) {
+            let passed = self.passed(alloc, args.len())?;
+            args = make::longer(args, passed)?;
         }
-        self.expect(TokenKind::CloseBracket)?;
-        Ok(args)
+        self.closed(TokenKind::CloseBracket, args)
     }
 
     /// A `do`, whose word stands in front.
@@ -181,11 +153,11 @@ impl Reader<'_> {
         ensures { ReadsNext (Block' depth) (Block' depth) (λ i v. instr_content i ∷ v) [] self.old self.new result }
     {
         match self.peek() {
-            Some(TokenKind::Do) => Ok(Some(self.send(alloc, depth)?)),
-            Some(TokenKind::If) => Ok(Some(self.choice(alloc, depth)?)),
-            Some(TokenKind::Set) => Ok(Some(self.assignment(alloc, depth)?)),
-            Some(TokenKind::MoveTo) => Ok(Some(self.movement(depth)?)),
-            Some(TokenKind::TerminateAction) => Ok(Some(self.termination(depth)?)),
+            Some(TokenKind::Do) => make::found(self.send(alloc, depth)),
+            Some(TokenKind::If) => make::found(self.choice(alloc, depth)),
+            Some(TokenKind::Set) => make::found(self.assignment(alloc, depth)),
+            Some(TokenKind::MoveTo) => make::found(self.movement(depth)),
+            Some(TokenKind::TerminateAction) => make::found(self.termination(depth)),
             _ => Ok(None),
         }
     }
@@ -197,11 +169,18 @@ impl Reader<'_> {
         requires depth { depth ≤ 16 }
         ensures { ReadsFront (Block' depth) (Block' depth) (λ i v. instr_content i ∷ v) self.old self.new result }
     {
-        let held = self.take();
-        if depth >= MAX_IFS {
-            return Err(Stop::Fault(Fault::TooDeep(held.at())));
-        }
+        self.deeper(depth, MAX_IFS)?;
         self.branch(alloc, depth)
+    }
+
+    /// The condition of an `if`, in its brackets.
+    fn asked_for<A: Allocator + Clone>(&mut self, alloc: &A) -> Result<Cond<A>, Stop>
+        ensures { ReadsAskedFor cond_content self.old self.new result }
+    {
+        self.expect(TokenKind::OpenBracket)?;
+        let mut tests = 0;
+        let cond = self.condition(alloc, 0, &mut tests)?;
+        self.closed(TokenKind::CloseBracket, cond)
     }
 
     /// What follows the word of an `if` inside so many others.
@@ -210,10 +189,7 @@ impl Reader<'_> {
         requires { depth < 16 }
         ensures { Reads (Branch depth) instr_content self.old self.new result }
     {
-        self.expect(TokenKind::OpenBracket)?;
-        let mut tests = 0;
-        let cond = self.condition(alloc, 0, &mut tests)?;
-        self.expect(TokenKind::CloseBracket)?;
+        let cond = self.asked_for(alloc)?;
         let arms = self.arms(alloc, depth)?;
         Ok(make::choose(cond, arms.yes, arms.no))
     }
@@ -227,8 +203,7 @@ impl Reader<'_> {
         self.expect(TokenKind::Then)?;
         let yes = self.block(alloc, depth + 1)?;
         let no = self.otherwise(alloc, depth + 1)?;
-        self.expect(TokenKind::Endif)?;
-        Ok(Arms { yes, no })
+        self.closed(TokenKind::Endif, Arms { yes, no })
     }
 
     /// The second block of an `if`, which may be left out.
@@ -237,12 +212,9 @@ impl Reader<'_> {
         requires { depth ≤ 16 }
         ensures { Reads (Else depth) (λ b. map instr_content b.instrs.items) self.old self.new result }
     {
-        if !matches!(self.peek(), Some(TokenKind::Else)) {
-            return Ok(Block {
-                instrs: Vec::new(alloc.clone()?),
-            });
+        if !self.skip(TokenKind::Else) {
+            return make::no_block(alloc);
         }
-        self.take();
         self.block(alloc, depth)
     }
 
@@ -252,9 +224,9 @@ impl Reader<'_> {
         requires { depth ≤ 16 }
         ensures { Reads (Block' depth) (λ b. map instr_content b.instrs.items) self.old self.new result }
     {
-        let mut instrs = Vec::new(alloc.clone()?);
-        while let Some(instr) = self.instr(alloc, depth)? {
-            instrs.push(instr)?;
+        let mut instrs = make::none(alloc)?;
+        'more: while let Some(instr) = self.instr(alloc, depth)? {
+            instrs = make::longer(instrs, instr)?;
         }
         Ok(Block { instrs })
     }

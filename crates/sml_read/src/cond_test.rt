@@ -1,8 +1,8 @@
 //! Tests of conditions.
-ghost use Rattle.std.specs.Prelude.{◌≡◌, ◌≤◌, ◌<◌, ◌+◌, ◌∷◌, List, [], IfOk, OnOk, IsSome};
-ghost use Rattle.sml_tree.specs.Form.{Sense, StateList, Names, MoreName, Unit' as Operand};
+ghost use Rattle.std.specs.Prelude.{◌≤◌, ◌<◌, IfOk, OnOk};
+ghost use Rattle.sml_tree.specs.Form.{Sense, StateList, Names, Unit' as Operand};
 ghost use Rattle.sml_tree.specs.Content.{cond_content};
-ghost use Rattle.sml_read.specs.Reads.{Reads, ReadsNext, SeesKind};
+ghost use Rattle.sml_read.specs.Reads.{Reads, SeesKind};
 ghost use Rattle.sml_read.specs.Asks.{first_of, ReadsAsked};
 
 use crate::fault::{Fault, Stop};
@@ -37,32 +37,15 @@ impl Reader<'_> {
         }
     }
 
-    /// The next state of a list that has so many before it, where a comma stands there.
-    fn next_name(&mut self, before: usize) -> Result<Option<Name>, Stop>
-        requires { before ≤ 32 }
-        ensures next { ReadsNext (MoreName before) (MoreName (before + 1)) (λ x v. x ∷ v) [] self.old self.new result }
-        ensures room { IfOk result (λ x. IsSome x → before < 32) }
-    {
-        if !matches!(self.peek(), Some(TokenKind::Comma)) {
-            return Ok(None);
-        }
-        self.take();
-        let held = self.expect(TokenKind::Name)?;
-        if before >= MAX_NAMES {
-            return Err(Stop::Fault(Fault::TooMany(held.at())));
-        }
-        Ok(Some(held.name()))
-    }
-
     /// The states between braces.
     fn names<A: Allocator + Clone>(&mut self, alloc: &A) -> Result<Vec<Name, A>, Stop>
         ensures { Reads Names (λ v. v.items) self.old self.new result }
     {
         let first = self.expect(TokenKind::Name)?;
-        let mut names = Vec::new(alloc.clone()?);
-        names.push(first.name())?;
-        while let Some(state) = self.next_name(names.len())? {
-            names.push(state)?;
+        let mut names = make::one(alloc, first.name())?;
+        'more: while self.skip(TokenKind::Comma) {
+            let state = self.limited(names.len(), MAX_NAMES)?;
+            names = make::longer(names, state)?;
         }
         Ok(names)
     }
@@ -71,20 +54,14 @@ impl Reader<'_> {
     fn state_list<A: Allocator + Clone>(&mut self, alloc: &A) -> Result<Vec<Name, A>, Stop>
         ensures { Reads StateList (λ v. v.items) self.old self.new result }
     {
-        match self.peek() {
-            Some(TokenKind::Name) => {
-                let mut states = Vec::new(alloc.clone()?);
-                states.push(self.take().name())?;
-                Ok(states)
-            }
-            Some(TokenKind::OpenBrace) => {
-                self.take();
-                let states = self.names(alloc)?;
-                self.expect(TokenKind::CloseBrace)?;
-                Ok(states)
-            }
-            _ => Err(self.refusal()),
+        if self.skip(TokenKind::OpenBrace) {
+            let states = self.names(alloc)?;
+            return self.closed(TokenKind::CloseBrace, states);
         }
+        if !self.stands(TokenKind::Name) {
+            return Err(self.refusal());
+        }
+        make::one(alloc, self.take().name())
     }
 
     /// Whom a test asks, whose first token stands in front, with so many tests before it.

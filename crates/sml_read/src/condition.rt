@@ -6,7 +6,7 @@ ghost use Rattle.sml_tree.specs.Content.{cond_content};
 ghost use Rattle.sml_tree.specs.declared.token_kind.TokenKind.TheVariants as kinds;
 ghost use Rattle.sml_read.specs.Reads.{Reads, SeesKind};
 
-use crate::fault::{Fault, Stop};
+use crate::fault::Stop;
 use crate::make;
 use crate::reader::Reader;
 use sml_tree::cond::{Cond, Scope};
@@ -54,12 +54,9 @@ impl Reader<'_> {
         ensures read { Reads (Operand depth tests.old) (λ c. record { formula = cond_content c; count = tests.new }) self.old self.new result }
         ensures room { OnOk result (tests.new ≤ 64) }
     {
-        let held = self.take();
-        if depth >= MAX_OPEN {
-            return Err(Stop::Fault(Fault::TooDeep(held.at())));
-        }
+        self.deeper(depth, MAX_OPEN)?;
         let operand = self.operand(alloc, depth + 1, tests)?;
-        Ok(make::neither(alloc, operand)?)
+        make::neither(alloc, operand)
     }
 
     /// A condition in brackets, the first of which stands in front.
@@ -76,13 +73,9 @@ impl Reader<'_> {
         ensures read { Reads (Operand depth tests.old) (λ c. record { formula = cond_content c; count = tests.new }) self.old self.new result }
         ensures room { OnOk result (tests.new ≤ 64) }
     {
-        let held = self.take();
-        if depth >= MAX_OPEN {
-            return Err(Stop::Fault(Fault::TooDeep(held.at())));
-        }
+        self.deeper(depth, MAX_OPEN)?;
         let inner = self.condition(alloc, depth + 1, tests)?;
-        self.expect(TokenKind::CloseBracket)?;
-        Ok(inner)
+        self.closed(TokenKind::CloseBracket, inner)
     }
 
     /// Operands with `and` between them.
@@ -116,8 +109,7 @@ impl Reader<'_> {
         ensures read { Reads (MoreAnd depth tests.old (cond_content left)) (λ c. record { formula = cond_content c; count = tests.new }) self.old self.new result }
         ensures room { OnOk result (tests.new ≤ 64) }
     {
-        'ands: while matches!(self.peek(), Some(TokenKind::And)) {
-            self.take();
+        'ands: while self.skip(TokenKind::And) {
             let right = self.operand(alloc, depth, tests)?;
             left = make::both(alloc, left, right)?;
         }
@@ -155,8 +147,7 @@ impl Reader<'_> {
         ensures read { Reads (MoreOr depth tests.old (cond_content left)) (λ c. record { formula = cond_content c; count = tests.new }) self.old self.new result }
         ensures room { OnOk result (tests.new ≤ 64) }
     {
-        'ors: while matches!(self.peek(), Some(TokenKind::Or)) {
-            self.take();
+        'ors: while self.skip(TokenKind::Or) {
             let right = self.conjunction(alloc, depth, tests)?;
             left = make::either(alloc, left, right)?;
         }

@@ -1,6 +1,7 @@
 //! The front of a class, an object, a set, a state or an action.
 ghost use Rattle.std.specs.Prelude.{◌<◌, IfOk, IsSome, slice_get};
 ghost use Rattle.sml_read.specs.Heads.{ReadsHead};
+ghost use Rattle.sml_read.specs.Stands.{ReadsLimited, Deeper};
 
 use crate::fault::{Fault, Stop};
 use crate::reader::Reader;
@@ -20,5 +21,29 @@ impl Reader<'_> {
         }
         self.expect(TokenKind::Colon)?;
         Ok(self.expect(TokenKind::Name)?.name())
+    }
+
+    /// Takes the token in front, which stands inside so many of its sort where so many may be open.
+    pub fn deeper(&mut self, depth: u32, limit: u32) -> Result<(), Stop>
+        requires { IsSome (slice_get self.old 0) }
+        ensures { Deeper limit depth self.old self.new result }
+    {
+        let held = self.take();
+        if depth >= limit {
+            return Err(Stop::Fault(Fault::TooDeep(held.at())));
+        }
+        Ok(())
+    }
+
+    /// A name, where so many stand before it and so many may stand.
+    pub fn limited(&mut self, before: usize, limit: usize) -> Result<Name, Stop>
+        ensures read { ReadsLimited limit before self.old self.new result }
+        ensures room { IfOk result (λ name. before < limit) }
+    {
+        let held = self.expect(TokenKind::Name)?;
+        if before >= limit {
+            return Err(Stop::Fault(Fault::TooMany(held.at())));
+        }
+        Ok(held.name())
     }
 }

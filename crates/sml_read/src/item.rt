@@ -1,12 +1,13 @@
 //! The items of a file.
-ghost use Rattle.std.specs.Prelude.{◌≡◌, ◌≤◌, ◌<◌, ◌+◌, List, [], ◌∷◌, map, IfOk, OnOk, IsSome};
-ghost use Rattle.sml_tree.specs.Form.{File, ClassMark, Members, MoreMember};
+ghost use Rattle.std.specs.Prelude.{◌∷◌, [], map, OnOk};
+ghost use Rattle.sml_tree.specs.Form.{File, ClassMark, Members};
 ghost use Rattle.sml_tree.specs.Content.{item_content};
 ghost use Rattle.sml_tree.specs.declared.token_kind.TokenKind.TheVariants as kinds;
 ghost use Rattle.sml_read.specs.Counts.{file_part, IsWithin};
 ghost use Rattle.sml_read.specs.Reads.{Reads, ReadsNext, ReadsFront, SeesKind};
 
-use crate::fault::{Fault, Stop};
+use crate::fault::Stop;
+use crate::make;
 use crate::reader::Reader;
 use sml_tree::file::{Class, Group, Item, Object};
 use sml_tree::name::Name;
@@ -86,34 +87,17 @@ impl Reader<'_> {
         Ok(Item::Object(Object { name, class }))
     }
 
-    /// The next member of a set that has so many before it, where a comma stands there.
-    fn next_member(&mut self, before: usize) -> Result<Option<Name>, Stop>
-        requires { before ≤ 64 }
-        ensures next { ReadsNext (MoreMember before) (MoreMember (before + 1)) (λ x v. x ∷ v) [] self.old self.new result }
-        ensures room { IfOk result (λ x. IsSome x → before < 64) }
-    {
-        if !matches!(self.peek(), Some(TokenKind::Comma)) {
-            return Ok(None);
-        }
-        self.take();
-        let held = self.expect(TokenKind::Name)?;
-        if before >= MAX_MEMBERS {
-            return Err(Stop::Fault(Fault::TooMany(held.at())));
-        }
-        Ok(Some(held.name()))
-    }
-
     /// The members of a set.
     fn members<A: Allocator + Clone>(&mut self, alloc: &A) -> Result<Vec<Name, A>, Stop>
         ensures { Reads Members (λ v. v.items) self.old self.new result }
     {
-        let mut members = Vec::new(alloc.clone()?);
-        if !matches!(self.peek(), Some(TokenKind::Name)) {
-            return Ok(members);
+        if !self.stands(TokenKind::Name) {
+            return make::none(alloc);
         }
-        members.push(self.take().name())?;
-        while let Some(member) = self.next_member(members.len())? {
-            members.push(member)?;
+        let mut members = make::one(alloc, self.take().name())?;
+        'more: while self.skip(TokenKind::Comma) {
+            let member = self.limited(members.len(), MAX_MEMBERS)?;
+            members = make::longer(members, member)?;
         }
         Ok(members)
     }
@@ -144,9 +128,9 @@ impl Reader<'_> {
         ensures within { OnOk result (IsWithin counts.new) }
     {
         match self.peek() {
-            Some(TokenKind::Class) => Ok(Some(self.class(alloc, counts)?)),
-            Some(TokenKind::Object) => Ok(Some(self.object(counts)?)),
-            Some(TokenKind::ObjectSet) => Ok(Some(self.set(alloc, counts)?)),
+            Some(TokenKind::Class) => make::found(self.class(alloc, counts)),
+            Some(TokenKind::Object) => make::found(self.object(counts)),
+            Some(TokenKind::ObjectSet) => make::found(self.set(alloc, counts)),
             _ => Ok(None),
         }
     }
@@ -155,14 +139,14 @@ impl Reader<'_> {
     pub fn file<A: Allocator + Clone>(&mut self, alloc: &A) -> Result<Vec<Item<A>, A>, Stop>
         ensures { Reads (File 0 0 0) (λ v. map item_content v.items) self.old self.new result }
     {
-        let mut items = Vec::new(alloc.clone()?);
+        let mut items = make::none(alloc)?;
         let mut counts = Counts {
             classes: 0,
             objects: 0,
             sets: 0,
         };
-        while let Some(item) = self.next_item(alloc, &mut counts)? {
-            items.push(item)?;
+        'more: while let Some(item) = self.next_item(alloc, &mut counts)? {
+            items = make::longer(items, item)?;
         }
         Ok(items)
     }

@@ -1,13 +1,64 @@
-//! Instructions and conditions from their parts.
-ghost use Rattle.std.specs.Prelude.{◌≡◌, map, IfOk};
+//! Lists, instructions and conditions from their parts.
+ghost use Rattle.std.specs.Prelude.{◌≡◌, ◌+◌, [], ◌∷◌, ◌++◌, map, vec_len};
 ghost use Rattle.sml_tree.specs.Syntax as said;
 ghost use Rattle.sml_tree.specs.Content.{arg_content, passed_content, cond_content, instr_content, block_content};
+ghost use Rattle.sml_read.specs.Made.{OrMemory, found_of};
 
+use crate::fault::Stop;
 use sml_tree::block::{Block, Instr};
 use sml_tree::cond::{Cond, Scope};
 use sml_tree::literal::{Arg, Passed};
 use sml_tree::name::Name;
-use std::alloc::{AllocError, Allocator};
+use std::alloc::Allocator;
+
+/// A list of nothing.
+pub(crate) fn none<T, A: Allocator + Clone>(alloc: &A) -> Result<Vec<T, A>, Stop>
+    ensures items { OrMemory result (λ v. v.items ≡ []) }
+    ensures len { OrMemory result (λ v. vec_len v ≡ 0) }
+{
+    Ok(Vec::new(alloc.clone()?))
+}
+
+/// A list of one thing.
+pub(crate) fn one<T: Drop, A: Allocator + Clone>(alloc: &A, item: T) -> Result<Vec<T, A>, Stop>
+    ensures items { OrMemory result (λ v. v.items ≡ item ∷ []) }
+    ensures len { OrMemory result (λ v. vec_len v ≡ 1) }
+{
+    let mut items = Vec::new(alloc.clone()?);
+    items.push(item)?;
+    Ok(items)
+}
+
+/// A list with one thing more.
+pub(crate) fn longer<T: Drop, A: Allocator + Clone>(
+    mut items: Vec<T, A>,
+    item: T,
+) -> Result<Vec<T, A>, Stop>
+    ensures items { OrMemory result (λ v. v.items ≡ items.items ++ item ∷ []) }
+    ensures len { OrMemory result (λ v. vec_len v ≡ vec_len items + 1) }
+{
+    items.push(item)?;
+    Ok(items)
+}
+
+/// What was read, as something that may be missing.
+pub(crate) fn found<T: Drop>(read: Result<T, Stop>) -> Result<Option<T>, Stop>
+    ensures { result ≡ found_of read }
+{
+    match read {
+        Ok(item) => Ok(Some(item)),
+        Err(stop) => Err(stop),
+    }
+}
+
+/// A block of nothing.
+pub(crate) fn no_block<A: Allocator + Clone>(alloc: &A) -> Result<Block<A>, Stop>
+    ensures { OrMemory result (λ b. b.instrs.items ≡ []) }
+{
+    Ok(Block {
+        instrs: none(alloc)?,
+    })
+}
 
 /// A `do`.
 pub(crate) fn send<A: Allocator + Clone>(
@@ -54,16 +105,32 @@ pub(crate) fn choose<A: Allocator + Clone>(cond: Cond<A>, yes: Block<A>, no: Blo
     Instr::If { cond, yes, no }
 }
 
+/// Two conditions that stand in memory.
+#[derive(Drop)]
+struct Pair<A: Allocator + Clone> {
+    left: Box<Cond<A>, A>,
+    right: Box<Cond<A>, A>,
+}
+
+/// Two conditions, each in memory of its own.
+fn boxed<A: Allocator + Clone>(alloc: &A, left: Cond<A>, right: Cond<A>) -> Result<Pair<A>, Stop>
+    ensures { OrMemory result (λ pair. (cond_content pair.left.value ≡ cond_content left) × (cond_content pair.right.value ≡ cond_content right)) }
+{
+    let left = Box::new(alloc.clone()?, left)?;
+    let right = Box::new(alloc.clone()?, right)?;
+    Ok(Pair { left, right })
+}
+
 /// A condition where both hold.
 pub(crate) fn both<A: Allocator + Clone>(
     alloc: &A,
     left: Cond<A>,
     right: Cond<A>,
-) -> Result<Cond<A>, AllocError>
-    ensures { IfOk result (λ c. cond_content c ≡ said.both (cond_content left) (cond_content right)) }
+) -> Result<Cond<A>, Stop>
+    ensures { OrMemory result (λ c. cond_content c ≡ said.both (cond_content left) (cond_content right)) }
 {
-    let left = Box::new(alloc.clone()?, left)?;
-    Ok(Cond::And(left, Box::new(alloc.clone()?, right)?))
+    let pair = boxed(alloc, left, right)?;
+    Ok(Cond::And(pair.left, pair.right))
 }
 
 /// A condition where one of two holds.
@@ -71,19 +138,16 @@ pub(crate) fn either<A: Allocator + Clone>(
     alloc: &A,
     left: Cond<A>,
     right: Cond<A>,
-) -> Result<Cond<A>, AllocError>
-    ensures { IfOk result (λ c. cond_content c ≡ said.either (cond_content left) (cond_content right)) }
+) -> Result<Cond<A>, Stop>
+    ensures { OrMemory result (λ c. cond_content c ≡ said.either (cond_content left) (cond_content right)) }
 {
-    let left = Box::new(alloc.clone()?, left)?;
-    Ok(Cond::Or(left, Box::new(alloc.clone()?, right)?))
+    let pair = boxed(alloc, left, right)?;
+    Ok(Cond::Or(pair.left, pair.right))
 }
 
 /// A condition where another does not hold.
-pub(crate) fn neither<A: Allocator + Clone>(
-    alloc: &A,
-    inner: Cond<A>,
-) -> Result<Cond<A>, AllocError>
-    ensures { IfOk result (λ c. cond_content c ≡ said.neither (cond_content inner)) }
+pub(crate) fn neither<A: Allocator + Clone>(alloc: &A, inner: Cond<A>) -> Result<Cond<A>, Stop>
+    ensures { OrMemory result (λ c. cond_content c ≡ said.neither (cond_content inner)) }
 {
     Ok(Cond::Not(Box::new(alloc.clone()?, inner)?))
 }

@@ -1,10 +1,11 @@
 //! Parameters of classes and actions.
-ghost use Rattle.std.specs.Prelude.{◌≡◌, ◌≤◌, ◌<◌, ◌+◌, List, [], ◌∷◌, map, option_map, IfOk, IsSome};
-ghost use Rattle.sml_tree.specs.Form.{Sort, Default, ClassParam as ClassParam', MoreClassParam, ClassParamList, ActionParam as ActionParam', MoreActionParam, ActionParamList};
+ghost use Rattle.std.specs.Prelude.{◌≤◌, ◌<◌, map, option_map, IfOk};
+ghost use Rattle.sml_tree.specs.Form.{Sort, Default, ClassParam as ClassParam', ClassParamList, ActionParam as ActionParam', ActionParamList};
 ghost use Rattle.sml_tree.specs.Content.{literal_content, class_param_content, action_param_content};
-ghost use Rattle.sml_read.specs.Reads.{Reads, ReadsNext};
+ghost use Rattle.sml_read.specs.Reads.{Reads};
 
 use crate::fault::{Fault, Stop};
+use crate::make;
 use crate::reader::Reader;
 use sml_tree::file::{ActionParam, ClassParam, Kind};
 use sml_tree::literal::Literal;
@@ -57,23 +58,6 @@ impl Reader<'_> {
         Ok(ClassParam { kind, name, value })
     }
 
-    /// The next parameter of a class that has so many before it, where a comma stands there.
-    fn next_class_param<A: Allocator + Clone>(
-        &mut self,
-        alloc: &A,
-        before: usize,
-    ) -> Result<Option<ClassParam<A>>, Stop>
-        requires { before ≤ 16 }
-        ensures next { ReadsNext (MoreClassParam before) (MoreClassParam (before + 1)) (λ p v. class_param_content p ∷ v) [] self.old self.new result }
-        ensures room { IfOk result (λ p. IsSome p → before < 16) }
-    {
-        if !matches!(self.peek(), Some(TokenKind::Comma)) {
-            return Ok(None);
-        }
-        self.take();
-        Ok(Some(self.class_param(alloc, before)?))
-    }
-
     /// The value that a parameter of an action has where none is passed.
     fn default<A: Allocator + Clone>(&mut self, alloc: &A) -> Result<Option<Literal<A>>, Stop>
         ensures { Reads Default (λ o. option_map literal_content o) self.old self.new result }
@@ -107,23 +91,6 @@ impl Reader<'_> {
         })
     }
 
-    /// The next parameter of an action that has so many before it, where a comma stands there.
-    fn next_action_param<A: Allocator + Clone>(
-        &mut self,
-        alloc: &A,
-        before: usize,
-    ) -> Result<Option<ActionParam<A>>, Stop>
-        requires { before ≤ 16 }
-        ensures next { ReadsNext (MoreActionParam before) (MoreActionParam (before + 1)) (λ p v. action_param_content p ∷ v) [] self.old self.new result }
-        ensures room { IfOk result (λ p. IsSome p → before < 16) }
-    {
-        if !matches!(self.peek(), Some(TokenKind::Comma)) {
-            return Ok(None);
-        }
-        self.take();
-        Ok(Some(self.action_param(alloc, before)?))
-    }
-
     /// The parameters of a class, where their word stands there.
     pub fn class_params<A: Allocator + Clone>(
         &mut self,
@@ -131,15 +98,15 @@ impl Reader<'_> {
     ) -> Result<Vec<ClassParam<A>, A>, Stop>
         ensures { Reads ClassParamList (λ v. map class_param_content v.items) self.old self.new result }
     {
-        let mut params = Vec::new(alloc.clone()?);
-        if !matches!(self.peek(), Some(TokenKind::Parameters)) {
-            return Ok(params);
+        if !self.skip(TokenKind::Parameters) {
+            return make::none(alloc);
         }
-        self.take();
         self.expect(TokenKind::Colon)?;
-        params.push(self.class_param(alloc, 0)?)?;
-        while let Some(class_param) = self.next_class_param(alloc, params.len())? {
-            params.push(class_param)?;
+        let first = self.class_param(alloc, 0)?;
+        let mut params = make::one(alloc, first)?;
+        'more: while self.skip(TokenKind::Comma) {
+            let class_param = self.class_param(alloc, params.len())?;
+            params = make::longer(params, class_param)?;
         }
         Ok(params)
     }
@@ -151,16 +118,15 @@ impl Reader<'_> {
     ) -> Result<Vec<ActionParam<A>, A>, Stop>
         ensures { Reads ActionParamList (λ v. map action_param_content v.items) self.old self.new result }
     {
-        let mut params = Vec::new(alloc.clone()?);
-        if !matches!(self.peek(), Some(TokenKind::OpenBracket)) {
-            return Ok(params);
+        if !self.skip(TokenKind::OpenBracket) {
+            return make::none(alloc);
         }
-        self.take();
-        params.push(self.action_param(alloc, 0)?)?;
-        while let Some(action_param) = self.next_action_param(alloc, params.len())? {
-            params.push(action_param)?;
+        let first = self.action_param(alloc, 0)?;
+        let mut params = make::one(alloc, first)?;
+        'more: while self.skip(TokenKind::Comma) {
+            let action_param = self.action_param(alloc, params.len())?;
+            params = make::longer(params, action_param)?;
         }
-        self.expect(TokenKind::CloseBracket)?;
-        Ok(params)
+        self.closed(TokenKind::CloseBracket, params)
     }
 }

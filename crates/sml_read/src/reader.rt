@@ -3,6 +3,7 @@ ghost use Rattle.std.specs.Prelude.{◌≡◌, ◌≤◌, ◌+◌, ◌^◌, List
 ghost use Rattle.sml_tree.specs.Piece.{Piece};
 ghost use Rattle.sml_read.specs.Left.{left, led};
 ghost use Rattle.sml_read.specs.Reads.{ReadsToken, Sees, Refusal, IfFault};
+ghost use Rattle.sml_read.specs.Stands.{Stands, Skips, Closes};
 
 use crate::fault::{Fault, Stop};
 use crate::held::Held;
@@ -119,6 +120,35 @@ impl Reader<'_> {
             None => None,
             Some(held) => Some(held.kind()),
         }
+    }
+
+    /// Whether a token of this kind stands in front.
+    pub fn stands(&self, kind: TokenKind) -> bool
+        ensures { Stands kind self.now result }
+    {
+        match &self.head {
+            None => false,
+            Some(held) => same_kind(kind, held.kind()),
+        }
+    }
+
+    /// Takes the next token where it is of this kind, and says whether it was.
+    pub fn skip(&mut self, kind: TokenKind) -> bool
+        ensures { Skips kind self.old self.new result }
+    {
+        if !self.stands(kind) {
+            return false;
+        }
+        self.take();
+        true
+    }
+
+    /// What was read, behind which a token of this kind stands.
+    pub fn closed<T: Drop>(&mut self, kind: TokenKind, inner: T) -> Result<T, Stop>
+        ensures { Closes kind self.old self.new inner result }
+    {
+        self.expect(kind)?;
+        Ok(inner)
     }
 
     /// The fault, where the next token is none that may stand there.

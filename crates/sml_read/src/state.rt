@@ -1,11 +1,12 @@
 //! States and their actions.
-ghost use Rattle.std.specs.Prelude.{◌≡◌, ◌≤◌, ◌<◌, ◌+◌, List, [], ◌∷◌, map, IfOk, OnOk, IsSome};
+ghost use Rattle.std.specs.Prelude.{◌≤◌, ◌<◌, ◌+◌, ◌∷◌, map, OnOk};
 ghost use Rattle.sml_tree.specs.Form.{Action as Action', State as State', StateMark, FirstMark, InitialMark, DeadMark};
 ghost use Rattle.sml_tree.specs.Content.{action_content, state_content};
 ghost use Rattle.sml_tree.specs.declared.token_kind.TokenKind.TheVariants as kinds;
-ghost use Rattle.sml_read.specs.Reads.{Reads, ReadsNext, ReadsFront, SeesKind};
+ghost use Rattle.sml_read.specs.Reads.{Reads, ReadsFront, SeesKind};
 
 use crate::fault::Stop;
+use crate::make;
 use crate::reader::Reader;
 use sml_tree::file::{Action, State};
 use sml_tree::token_kind::TokenKind;
@@ -38,29 +39,14 @@ impl Reader<'_> {
         Ok(Action { name, params, body })
     }
 
-    /// The next action of a state that has so many before it, where one stands there.
-    fn next_action<A: Allocator + Clone>(
-        &mut self,
-        alloc: &A,
-        before: usize,
-    ) -> Result<Option<Action<A>>, Stop>
-        requires { before ≤ 32 }
-        ensures next { ReadsNext (Action' before) (Action' (before + 1)) (λ a v. action_content a ∷ v) [] self.old self.new result }
-        ensures room { IfOk result (λ a. IsSome a → before < 32) }
-    {
-        if !matches!(self.peek(), Some(TokenKind::Action)) {
-            return Ok(None);
-        }
-        Ok(Some(self.action(alloc, before)?))
-    }
-
     /// The actions of a state.
     fn actions<A: Allocator + Clone>(&mut self, alloc: &A) -> Result<Vec<Action<A>, A>, Stop>
         ensures { Reads (Action' 0) (λ v. map action_content v.items) self.old self.new result }
     {
-        let mut actions = Vec::new(alloc.clone()?);
-        while let Some(action) = self.next_action(alloc, actions.len())? {
-            actions.push(action)?;
+        let mut actions = make::none(alloc)?;
+        'more: while self.stands(TokenKind::Action) {
+            let action = self.action(alloc, actions.len())?;
+            actions = make::longer(actions, action)?;
         }
         Ok(actions)
     }
@@ -152,29 +138,14 @@ impl Reader<'_> {
         })
     }
 
-    /// The next state of a class that has so many before it, where one stands there.
-    fn next_state<A: Allocator + Clone>(
-        &mut self,
-        alloc: &A,
-        before: usize,
-    ) -> Result<Option<State<A>>, Stop>
-        requires { before ≤ 32 }
-        ensures next { ReadsNext (State' before) (State' (before + 1)) (λ s v. state_content s ∷ v) [] self.old self.new result }
-        ensures room { IfOk result (λ s. IsSome s → before < 32) }
-    {
-        if !matches!(self.peek(), Some(TokenKind::State)) {
-            return Ok(None);
-        }
-        Ok(Some(self.state(alloc, before)?))
-    }
-
     /// The states of a class.
     pub fn states<A: Allocator + Clone>(&mut self, alloc: &A) -> Result<Vec<State<A>, A>, Stop>
         ensures { Reads (State' 0) (λ v. map state_content v.items) self.old self.new result }
     {
-        let mut states = Vec::new(alloc.clone()?);
-        while let Some(state) = self.next_state(alloc, states.len())? {
-            states.push(state)?;
+        let mut states = make::none(alloc)?;
+        'more: while self.stands(TokenKind::State) {
+            let state = self.state(alloc, states.len())?;
+            states = make::longer(states, state)?;
         }
         Ok(states)
     }

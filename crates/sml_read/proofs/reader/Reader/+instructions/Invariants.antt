@@ -23,9 +23,9 @@ abbrev pub decreases-arms : goal.decreases-arms
 decreases-arms g l = 6 * (15 - l.depth) + 5
 
 -- what was read stands before what is left
-abbrev pub invariant-block-loop-instrs : goal.invariant-block-loop-instrs
-invariant-block-loop-instrs g l =
+abbrev pub invariant-block-more : goal.invariant-block-more
+invariant-block-more g l =
     (length l.self ≤ length l.fn.self) × Leads (Block l.depth) (Block l.depth) (λ v. map instr_content l.instrs.items ++ v) l.fn.self l.self
 
-abbrev pub decreases-block-loop-instrs : goal.decreases-block-loop-instrs
-decreases-block-loop-instrs g l = length l.self
+abbrev pub decreases-block-more : goal.decreases-block-more
+decreases-block-more g l = length l.self

@@ -1,49 +1,48 @@
-use Rattle.std.proofs.Common.{◌≡◌, [], ◌∷◌, ◌++◌, map, vec_len, length, ap, sym, refl, rules, arith}
+use Rattle.std.proofs.Common.{[], ◌∷◌, ◌++◌, ◌+◌, map, vec_len, length, ap, refl, arith}
 use Rattle.std.proofs.lemmas.List.{append-nil}
-use Rattle.sml_tree.specs.declared.token_kind.TokenKind.TheVariants.{CloseBracket, OpenBracket}
+use Rattle.sml_tree.specs.declared.token_kind.TokenKind.TheVariants.{CloseBracket}
 use Rattle.sml_tree.specs.Content.{action_param_content}
 use Rattle.sml_tree.specs.Form.{ActionParamList, MoreActionParam}
-use Rattle.sml_read.proofs.Lists.{read_more_to, read_end_to, read_err_to, pushed}
+use Rattle.sml_read.proofs.Lists.{read_more_to, pushed}
+use Rattle.sml_read.proofs.Behind.{lacking, list_closed, read_refused_to, action_param_more, action_param_refused}
 use Rattle.sml_read.proofs.Bracketed.{action_params_begun}
+use Rattle.sml_read.proofs.Stopped.{handed}
 use Rattle.sml_read.proofs.reader.Reader.action_params.Goals as goal
 
 -- the first was read
-pub loop-params-init : goal.loop-params-init
-loop-params-init g c =
-    let kind : c.take.result.kind ≡ OpenBracket = search rules in
-    let items = rw c.new-params.ensures.items at c.in_ok-push.ensures.items in
-    let one = rw c.new-params.ensures.len at c.in_ok-push.ensures.len in (
-      omega (arith, ap length c.take.ensures, c.in_ok-action_param.ensures.read.0),
-      omega (arith, one),
-      rw (items, one) (action_params_begun c.take.result c.args.self.now c.take.new.self c.action_param.new.self (action_param_content c.in_ok-action_param.field-0) c.take.ensures kind c.in_ok-action_param.ensures.read.1),
+pub more-init : goal.more-init
+more-init g c =
+    let bracket = c.if-not-skip.ensures in
+    let made = c.in_ok-params.ensures in (
+      omega (arith, ap length bracket.1, c.in_ok-first.ensures.read.0),
+      omega (arith, made.len),
+      rw (made.items, made.len) (action_params_begun bracket.0 c.args.self.now c.skip.new.self c.action_param.new.self (action_param_content c.in_ok-first.first) bracket.1 bracket.2 c.in_ok-first.ensures.read.1),
     )
 
 -- one more was read
-pub loop-params-preserved : goal.loop-params-preserved
-loop-params-preserved g c =
-    let next = rw (c.in-Some.is, c.len.ensures, sym c.in_ok-push-2.ensures.len) at c.in_ok-action_param-2.ensures.next in
-    let room = rw c.in-Some.is at c.in_ok-action_param-2.ensures.room in (
-      omega (arith, next.0, c.loop-params.invariant.0),
-      omega (arith, c.len.ensures, c.in_ok-push-2.ensures.len, room refl),
-      read_more_to ActionParamList (MoreActionParam (vec_len c.loop-params.params)) (MoreActionParam (vec_len c.push-in-Some.new.self)) CloseBracket (λ v. map action_param_content c.loop-params.params.items ++ v) (λ v. action_param_content c.in-Some.action_param ∷ v)
-          (λ v. map action_param_content c.push-in-Some.new.self.items ++ v) c.args.self.now c.loop-params.self c.next_action_param.new.self c.loop-params.invariant.2 next.1
-          (pushed action_param_content c.loop-params.params.items c.push-in-Some.new.self.items c.in-Some.action_param c.in_ok-push-2.ensures.items),
+pub more-preserved : goal.more-preserved
+more-preserved g c =
+    let comma = c.more-test.ensures in
+    let read = rw c.len.ensures at c.in_ok-action_param.ensures.read in
+    let made = c.in_ok-params-2.ensures in (
+      omega (arith, ap length comma.1, read.0, c.more.invariant.0),
+      omega (arith, c.len.ensures, made.len, c.in_ok-action_param.ensures.room),
+      rw made.len (read_more_to ActionParamList (MoreActionParam (vec_len c.more.params)) (MoreActionParam (vec_len c.more.params + 1)) CloseBracket (λ v. map action_param_content c.more.params.items ++ v) (λ v. action_param_content c.in_ok-action_param.action_param ∷ v)
+          (λ v. map action_param_content c.in_ok-params-2.params.items ++ v) c.args.self.now c.more.self c.action_param-in-more.new.self c.more.invariant.2
+          (action_param_more (vec_len c.more.params) (action_param_content c.in_ok-action_param.action_param) c.more.self c.skip-in-more.new.self c.action_param-in-more.new.self comma read.1)
+          (pushed action_param_content c.more.params.items c.in_ok-params-2.params.items c.in_ok-action_param.action_param made.items)),
     )
 
 -- nothing more stands there, but the bracket
 pub returns : goal.returns
 returns g c =
-    let none = rw (c.in_default-2.is, c.len.ensures) at c.in_ok-action_param-2.ensures.next in
-    let close = c.in_ok-expect.ensures in (
-      omega (arith, ap length none.0, ap length close.0, c.loop-params.invariant.0),
-      read_end_to ActionParamList (MoreActionParam (vec_len c.loop-params.params)) CloseBracket (λ v. map action_param_content c.loop-params.params.items ++ v) [] (map action_param_content c.loop-params.params.items) c.args.self.now c.loop-params.self c.next_action_param.new.self c.expect.new.self c.in_ok-expect.field-0
-          c.loop-params.invariant.2 none.1 close.0 close.1 (append-nil (map action_param_content c.loop-params.params.items)),
-    )
+    let none = c.more-test.ensures in
+    list_closed ActionParamList (MoreActionParam (vec_len c.more.params)) CloseBracket (λ v. map action_param_content v.items) (λ v. map action_param_content c.more.params.items ++ v) [] c.more.params c.closed.result c.args.self.now c.more.self c.closed.new.self
+    c.more.invariant.0 c.more.invariant.2 (lacking (MoreActionParam (vec_len c.more.params)) _ [] c.more.self refl refl none.1) (append-nil (map action_param_content c.more.params.items)) (rw none.0 at c.closed.ensures)
 
--- the bracket does not stand there
-pub returns-in_err-expect : goal.returns-in_err-expect
-returns-in_err-expect g c =
-    let none = rw (c.in_default-2.is, c.len.ensures) at c.in_ok-action_param-2.ensures.next in
-    let stops = read_err_to ActionParamList (MoreActionParam (vec_len c.loop-params.params)) CloseBracket (λ v. map action_param_content c.loop-params.params.items ++ v) [] c.args.self.now c.loop-params.self c.next_action_param.new.self c.expect.new.self
-    c.in_err-expect.field-0.0 c.loop-params.invariant.2 none.1 c.in_err-expect.ensures in
-    search rules
+-- the next is refused
+pub returns-in_err-action_param : goal.returns-in_err-action_param
+returns-in_err-action_param g c =
+    rw (handed _ c.in_err-action_param.field-0.0 c.from_residual-in_err-action_param.ensures.1)
+    (read_refused_to ActionParamList (MoreActionParam (vec_len c.more.params)) CloseBracket (λ v. map action_param_content c.more.params.items ++ v) c.args.self.now c.more.self c.in_err-action_param.field-0.0 c.more.invariant.2
+    (action_param_refused (vec_len c.more.params) c.more.self c.skip-in-more.new.self c.in_err-action_param.field-0.0 c.more-test.ensures (rw c.len.ensures at c.in_err-action_param.ensures.read)))

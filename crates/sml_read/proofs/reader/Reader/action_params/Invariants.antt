@@ -6,9 +6,9 @@ use Rattle.sml_read.specs.Lists.{LeadsTo}
 use Rattle.sml_read.proofs.reader.Reader.action_params.Given as goal
 
 -- what was read stands before what is left
-abbrev pub invariant-loop-params : goal.invariant-loop-params
-invariant-loop-params g l =
+abbrev pub invariant-more : goal.invariant-more
+invariant-more g l =
     (length l.self ≤ length l.fn.self) × (vec_len l.params ≤ 16) × LeadsTo ActionParamList (MoreActionParam (vec_len l.params)) CloseBracket (λ v. map action_param_content l.params.items ++ v) l.fn.self l.self
 
-abbrev pub decreases-loop-params : goal.decreases-loop-params
-decreases-loop-params g l = length l.self
+abbrev pub decreases-more : goal.decreases-more
+decreases-more g l = length l.self

@@ -1,27 +1,34 @@
-use Rattle.std.proofs.Common.{[], ◌∷◌, ◌++◌, map, vec_len, length, ap, sym, refl, arith}
+use Rattle.std.proofs.Common.{[], ◌∷◌, ◌++◌, ◌+◌, map, vec_len, refl, arith}
 use Rattle.std.proofs.lemmas.List.{append-nil}
 use Rattle.sml_tree.specs.Content.{action_content}
 use Rattle.sml_tree.specs.Form.{Action}
-use Rattle.sml_read.proofs.Lists.{read_more, read_end, pushed}
+use Rattle.sml_read.proofs.Lists.{read_more, read_end, read_err, pushed}
+use Rattle.sml_read.proofs.Behind.{lacking}
+use Rattle.sml_read.proofs.Stopped.{handed}
 use Rattle.sml_read.proofs.reader.Reader.actions.Goals as goal
 
 -- one more was read
-pub loop-actions-preserved : goal.loop-actions-preserved
-loop-actions-preserved g c =
-    let next = rw (c.in-Some.is, c.len.ensures, sym c.in_ok-push.ensures.len) at c.in_ok-action.ensures.next in
-    let room = rw c.in-Some.is at c.in_ok-action.ensures.room in (
-      omega (arith, next.0, c.loop-actions.invariant.0),
-      omega (arith, c.len.ensures, c.in_ok-push.ensures.len, room refl),
-      read_more (Action 0) (Action (vec_len c.loop-actions.actions)) (Action (vec_len c.push.new.self)) (λ v. map action_content c.loop-actions.actions.items ++ v) (λ v. action_content c.in-Some.action ∷ v) (λ v. map action_content c.push.new.self.items ++ v)
-          c.args.self.now c.loop-actions.self c.next_action.new.self c.loop-actions.invariant.2 next.1
-          (pushed action_content c.loop-actions.actions.items c.push.new.self.items c.in-Some.action c.in_ok-push.ensures.items),
+pub more-preserved : goal.more-preserved
+more-preserved g c =
+    let next = rw c.len.ensures at c.in_ok-action.ensures.next in
+    let made = c.in_ok-actions-2.ensures in (
+      omega (arith, next.0, c.more.invariant.0),
+      omega (arith, c.len.ensures, made.len, c.in_ok-action.ensures.room),
+      rw made.len (read_more (Action 0) (Action (vec_len c.more.actions)) (Action (vec_len c.more.actions + 1)) (λ v. map action_content c.more.actions.items ++ v) (λ v. action_content c.in_ok-action.action ∷ v) (λ v. map action_content c.in_ok-actions-2.actions.items ++ v)
+          c.args.self.now c.more.self c.action.new.self c.more.invariant.2 next.1
+          (pushed action_content c.more.actions.items c.in_ok-actions-2.actions.items c.in_ok-action.action made.items)),
     )
 
 -- nothing more stands there
 pub returns : goal.returns
-returns g c =
-    let none = rw (c.in_default.is, c.len.ensures) at c.in_ok-action.ensures.next in (
-      omega (arith, ap length none.0, c.loop-actions.invariant.0),
-      read_end (Action 0) (Action (vec_len c.loop-actions.actions)) (λ v. map action_content c.loop-actions.actions.items ++ v) [] (map action_content c.loop-actions.actions.items) c.args.self.now c.loop-actions.self c.next_action.new.self
-          c.loop-actions.invariant.2 none.1 (append-nil (map action_content c.loop-actions.actions.items)),
-    )
+returns g c = (
+  c.more.invariant.0,
+  read_end (Action 0) (Action (vec_len c.more.actions)) (λ v. map action_content c.more.actions.items ++ v) [] (map action_content c.more.actions.items) c.args.self.now c.more.self c.more.self
+      c.more.invariant.2 (lacking (Action (vec_len c.more.actions)) _ [] c.more.self refl refl c.more-test.ensures) (append-nil (map action_content c.more.actions.items)),
+)
+
+-- the next is refused
+pub returns-in_err-action : goal.returns-in_err-action
+returns-in_err-action g c =
+    rw (handed _ c.in_err-action.field-0.0 c.from_residual-in_err-action.ensures.1)
+    (read_err (Action 0) (Action (vec_len c.more.actions)) (λ v. map action_content c.more.actions.items ++ v) c.args.self.now c.more.self c.in_err-action.field-0.0 c.more.invariant.2 (rw c.len.ensures at c.in_err-action.ensures.next))

@@ -5,9 +5,9 @@ use Rattle.sml_read.specs.Reads.{Leads}
 use Rattle.sml_read.proofs.reader.Reader.actions.Given as goal
 
 -- what was read stands before what is left
-abbrev pub invariant-loop-actions : goal.invariant-loop-actions
-invariant-loop-actions g l =
+abbrev pub invariant-more : goal.invariant-more
+invariant-more g l =
     (length l.self ≤ length l.fn.self) × (vec_len l.actions ≤ 32) × Leads (Action 0) (Action (vec_len l.actions)) (λ v. map action_content l.actions.items ++ v) l.fn.self l.self
 
-abbrev pub decreases-loop-actions : goal.decreases-loop-actions
-decreases-loop-actions g l = length l.self
+abbrev pub decreases-more : goal.decreases-more
+decreases-more g l = length l.self

@@ -1,41 +1,48 @@
-use Rattle.std.proofs.Common.{◌≡◌, [], ◌∷◌, ◌++◌, map, vec_len, length, ap, sym, refl, rules, arith}
+use Rattle.std.proofs.Common.{[], ◌∷◌, ◌++◌, ◌+◌, map, vec_len, length, ap, refl, arith}
 use Rattle.std.proofs.lemmas.List.{append-nil}
-use Rattle.sml_tree.specs.declared.token_kind.TokenKind.TheVariants.{CloseBracket, OpenBracket}
+use Rattle.sml_tree.specs.declared.token_kind.TokenKind.TheVariants.{CloseBracket}
 use Rattle.sml_tree.specs.Content.{passed_content}
 use Rattle.sml_tree.specs.Form.{ArgList, MorePassedArg}
-use Rattle.sml_read.proofs.Lists.{read_more_to, read_end_to, pushed}
+use Rattle.sml_read.proofs.Lists.{read_more_to, pushed}
+use Rattle.sml_read.proofs.Behind.{lacking, list_closed, read_refused_to, passed_more, passed_refused}
 use Rattle.sml_read.proofs.Bracketed.{args_begun}
+use Rattle.sml_read.proofs.Stopped.{handed}
 use Rattle.sml_read.proofs.reader.Reader.args.Goals as goal
 
 -- the first was read
-pub loop-args-init : goal.loop-args-init
-loop-args-init g c =
-    let kind : c.take.result.kind ≡ OpenBracket = search rules in
-    let items = rw c.new-args.ensures.items at c.in_ok-push.ensures.items in
-    let one = rw c.new-args.ensures.len at c.in_ok-push.ensures.len in (
-      omega (arith, ap length c.take.ensures, c.in_ok-passed.ensures.read.0),
-      omega (arith, one),
-      rw (items, one) (args_begun c.take.result c.args.self.now c.take.new.self c.passed.new.self (passed_content c.in_ok-passed.field-0) c.take.ensures kind c.in_ok-passed.ensures.read.1),
+pub more-init : goal.more-init
+more-init g c =
+    let bracket = c.if-not-skip.ensures in
+    let made = c.in_ok-args.ensures in (
+      omega (arith, ap length bracket.1, c.in_ok-first.ensures.read.0),
+      omega (arith, made.len),
+      rw (made.items, made.len) (args_begun bracket.0 c.args.self.now c.skip.new.self c.passed.new.self (passed_content c.in_ok-first.first) bracket.1 bracket.2 c.in_ok-first.ensures.read.1),
     )
 
 -- one more was read
-pub loop-args-preserved : goal.loop-args-preserved
-loop-args-preserved g c =
-    let next = rw (c.in-Some.is, c.len.ensures, sym c.in_ok-push-2.ensures.len) at c.in_ok-passed-2.ensures.next in
-    let room = rw c.in-Some.is at c.in_ok-passed-2.ensures.room in (
-      omega (arith, next.0, c.loop-args.invariant.0),
-      omega (arith, c.len.ensures, c.in_ok-push-2.ensures.len, room refl),
-      read_more_to ArgList (MorePassedArg (vec_len c.loop-args.args)) (MorePassedArg (vec_len c.push-in-Some.new.self)) CloseBracket (λ v. map passed_content c.loop-args.args.items ++ v) (λ v. passed_content c.in-Some.passed ∷ v)
-          (λ v. map passed_content c.push-in-Some.new.self.items ++ v) c.args.self.now c.loop-args.self c.next_passed.new.self c.loop-args.invariant.2 next.1
-          (pushed passed_content c.loop-args.args.items c.push-in-Some.new.self.items c.in-Some.passed c.in_ok-push-2.ensures.items),
+pub more-preserved : goal.more-preserved
+more-preserved g c =
+    let comma = c.more-test.ensures in
+    let read = rw c.len.ensures at c.in_ok-passed.ensures.read in
+    let made = c.in_ok-args-2.ensures in (
+      omega (arith, ap length comma.1, read.0, c.more.invariant.0),
+      omega (arith, c.len.ensures, made.len, c.in_ok-passed.ensures.room),
+      rw made.len (read_more_to ArgList (MorePassedArg (vec_len c.more.args)) (MorePassedArg (vec_len c.more.args + 1)) CloseBracket (λ v. map passed_content c.more.args.items ++ v) (λ v. passed_content c.in_ok-passed.passed ∷ v)
+          (λ v. map passed_content c.in_ok-args-2.args.items ++ v) c.args.self.now c.more.self c.passed-in-more.new.self c.more.invariant.2
+          (passed_more (vec_len c.more.args) (passed_content c.in_ok-passed.passed) c.more.self c.skip-in-more.new.self c.passed-in-more.new.self comma read.1)
+          (pushed passed_content c.more.args.items c.in_ok-args-2.args.items c.in_ok-passed.passed made.items)),
     )
 
 -- nothing more stands there, but the bracket
 pub returns : goal.returns
 returns g c =
-    let none = rw (c.in_default-2.is, c.len.ensures) at c.in_ok-passed-2.ensures.next in
-    let close = c.in_ok-expect.ensures in (
-      omega (arith, ap length none.0, ap length close.0, c.loop-args.invariant.0),
-      read_end_to ArgList (MorePassedArg (vec_len c.loop-args.args)) CloseBracket (λ v. map passed_content c.loop-args.args.items ++ v) [] (map passed_content c.loop-args.args.items) c.args.self.now c.loop-args.self c.next_passed.new.self c.expect.new.self c.in_ok-expect.field-0
-          c.loop-args.invariant.2 none.1 close.0 close.1 (append-nil (map passed_content c.loop-args.args.items)),
-    )
+    let none = c.more-test.ensures in
+    list_closed ArgList (MorePassedArg (vec_len c.more.args)) CloseBracket (λ v. map passed_content v.items) (λ v. map passed_content c.more.args.items ++ v) [] c.more.args c.closed.result c.args.self.now c.more.self c.closed.new.self
+    c.more.invariant.0 c.more.invariant.2 (lacking (MorePassedArg (vec_len c.more.args)) _ [] c.more.self refl refl none.1) (append-nil (map passed_content c.more.args.items)) (rw none.0 at c.closed.ensures)
+
+-- the next is refused
+pub returns-in_err-passed : goal.returns-in_err-passed
+returns-in_err-passed g c =
+    rw (handed _ c.in_err-passed.field-0.0 c.from_residual-in_err-passed.ensures.1)
+    (read_refused_to ArgList (MorePassedArg (vec_len c.more.args)) CloseBracket (λ v. map passed_content c.more.args.items ++ v) c.args.self.now c.more.self c.in_err-passed.field-0.0 c.more.invariant.2
+    (passed_refused (vec_len c.more.args) c.more.self c.skip-in-more.new.self c.in_err-passed.field-0.0 c.more-test.ensures (rw c.len.ensures at c.in_err-passed.ensures.read)))

@@ -6,9 +6,9 @@ use Rattle.sml_read.specs.Lists.{LeadsTo}
 use Rattle.sml_read.proofs.reader.Reader.args.Given as goal
 
 -- what was read stands before what is left
-abbrev pub invariant-loop-args : goal.invariant-loop-args
-invariant-loop-args g l =
+abbrev pub invariant-more : goal.invariant-more
+invariant-more g l =
     (length l.self ≤ length l.fn.self) × (vec_len l.args ≤ 16) × LeadsTo ArgList (MorePassedArg (vec_len l.args)) CloseBracket (λ v. map passed_content l.args.items ++ v) l.fn.self l.self
 
-abbrev pub decreases-loop-args : goal.decreases-loop-args
-decreases-loop-args g l = length l.self
+abbrev pub decreases-more : goal.decreases-more
+decreases-more g l = length l.self

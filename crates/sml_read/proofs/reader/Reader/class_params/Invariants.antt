@@ -5,9 +5,9 @@ use Rattle.sml_read.specs.Reads.{Leads}
 use Rattle.sml_read.proofs.reader.Reader.class_params.Given as goal
 
 -- what was read stands before what is left
-abbrev pub invariant-loop-params : goal.invariant-loop-params
-invariant-loop-params g l =
+abbrev pub invariant-more : goal.invariant-more
+invariant-more g l =
     (length l.self ≤ length l.fn.self) × (vec_len l.params ≤ 16) × Leads ClassParamList (MoreClassParam (vec_len l.params)) (λ v. map class_param_content l.params.items ++ v) l.fn.self l.self
 
-abbrev pub decreases-loop-params : goal.decreases-loop-params
-decreases-loop-params g l = length l.self
+abbrev pub decreases-more : goal.decreases-more
+decreases-more g l = length l.self

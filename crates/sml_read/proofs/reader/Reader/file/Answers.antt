@@ -7,21 +7,21 @@ use Rattle.sml_read.proofs.Lists.{read_more, read_end, pushed}
 use Rattle.sml_read.proofs.reader.Reader.file.Goals as goal
 
 -- one more was read
-pub loop-items-preserved : goal.loop-items-preserved
-loop-items-preserved g c =
+pub more-preserved : goal.more-preserved
+more-preserved g c =
     let next = rw c.in-Some.is at c.in_ok-item.ensures.next in (
-      omega (arith, next.0, c.loop-items.invariant.0),
+      omega (arith, next.0, c.more.invariant.0),
       c.in_ok-item.ensures.within,
-      read_more (File 0 0 0) (file_part c.loop-items.counts) (file_part c.next_item.new.counts) (λ v. map item_content c.loop-items.items.items ++ v) (λ v. item_content c.in-Some.item ∷ v) (λ v. map item_content c.push.new.self.items ++ v)
-          c.args.self.now c.loop-items.self c.next_item.new.self c.loop-items.invariant.2 next.1
-          (pushed item_content c.loop-items.items.items c.push.new.self.items c.in-Some.item c.in_ok-push.ensures.items),
+      read_more (File 0 0 0) (file_part c.more.counts) (file_part c.next_item.new.counts) (λ v. map item_content c.more.items.items ++ v) (λ v. item_content c.in-Some.item ∷ v) (λ v. map item_content c.in_ok-items-2.items.items ++ v)
+          c.args.self.now c.more.self c.next_item.new.self c.more.invariant.2 next.1
+          (pushed item_content c.more.items.items c.in_ok-items-2.items.items c.in-Some.item c.in_ok-items-2.ensures.items),
     )
 
 -- nothing more stands there
 pub returns : goal.returns
 returns g c =
     let none = rw c.in_default.is at c.in_ok-item.ensures.next in (
-      omega (arith, ap length none.0, c.loop-items.invariant.0),
-      read_end (File 0 0 0) (file_part c.loop-items.counts) (λ v. map item_content c.loop-items.items.items ++ v) [] (map item_content c.loop-items.items.items) c.args.self.now c.loop-items.self c.next_item.new.self
-          c.loop-items.invariant.2 none.1 (append-nil (map item_content c.loop-items.items.items)),
+      omega (arith, ap length none.0, c.more.invariant.0),
+      read_end (File 0 0 0) (file_part c.more.counts) (λ v. map item_content c.more.items.items ++ v) [] (map item_content c.more.items.items) c.args.self.now c.more.self c.next_item.new.self
+          c.more.invariant.2 none.1 (append-nil (map item_content c.more.items.items)),
     )

@@ -6,9 +6,9 @@ use Rattle.sml_read.specs.Reads.{Leads}
 use Rattle.sml_read.proofs.reader.Reader.file.Given as goal
 
 -- what was read stands before what is left
-abbrev pub invariant-loop-items : goal.invariant-loop-items
-invariant-loop-items g l =
+abbrev pub invariant-more : goal.invariant-more
+invariant-more g l =
     (length l.self ≤ length l.fn.self) × IsWithin l.counts × Leads (File 0 0 0) (file_part l.counts) (λ v. map item_content l.items.items ++ v) l.fn.self l.self
 
-abbrev pub decreases-loop-items : goal.decreases-loop-items
-decreases-loop-items g l = length l.self
+abbrev pub decreases-more : goal.decreases-more
+decreases-more g l = length l.self

@@ -4,9 +4,9 @@ use Rattle.sml_read.specs.Reads.{Leads}
 use Rattle.sml_read.proofs.reader.Reader.members.Given as goal
 
 -- what was read stands before what is left
-abbrev pub invariant-loop-members : goal.invariant-loop-members
-invariant-loop-members g l =
+abbrev pub invariant-more : goal.invariant-more
+invariant-more g l =
     (length l.self ≤ length l.fn.self) × (vec_len l.members ≤ 64) × Leads Members (MoreMember (vec_len l.members)) (λ v. l.members.items ++ v) l.fn.self l.self
 
-abbrev pub decreases-loop-members : goal.decreases-loop-members
-decreases-loop-members g l = length l.self
+abbrev pub decreases-more : goal.decreases-more
+decreases-more g l = length l.self

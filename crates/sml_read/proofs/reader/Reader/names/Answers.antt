@@ -1,28 +1,51 @@
-use Rattle.std.proofs.Common.{◌∷◌, ◌++◌, vec_len, length, ap, sym, refl, arith}
+use Rattle.std.proofs.Common.{ℕ, Err, [], ◌∷◌, ◌++◌, ◌+◌, vec_len, length, ap, refl, subst, arith}
+use Rattle.std.proofs.lemmas.Bool.{lt-ltb}
+use Rattle.std.proofs.lemmas.List.{append-nil}
 use Rattle.sml_tree.specs.Form.{Names, MoreName}
-use Rattle.sml_read.proofs.Lists.{read_more, pushed_plain}
+use Rattle.sml_read.specs.Stands.{ReadsLimited}
+use Rattle.sml_read.proofs.Lists.{read_more, read_end, read_err, pushed_plain}
+use Rattle.sml_read.proofs.Behind.{lacking, name_more, name_refused}
 use Rattle.sml_read.proofs.Bracketed.{names_begun, names_err}
 use Rattle.sml_read.proofs.Stopped.{handed}
 use Rattle.sml_read.proofs.reader.Reader.names.Goals as goal
 
 -- the first was read
-pub loop-names-init : goal.loop-names-init
-loop-names-init g c =
-    let items = rw c.new-names.ensures.items at c.in_ok-push.ensures.items in
-    let one = rw c.new-names.ensures.len at c.in_ok-push.ensures.len in
-    (omega (arith, ap length c.in_ok-first.ensures.0), omega (arith, one), rw (items, one) (names_begun c.in_ok-first.first c.args.self.now c.expect.new.self c.name.result c.in_ok-first.ensures.0 c.in_ok-first.ensures.1 c.name.ensures))
+pub more-init : goal.more-init
+more-init g c =
+    let made = c.in_ok-names.ensures in
+    (omega (arith, ap length c.in_ok-first.ensures.0), omega (arith, made.len), rw (made.items, made.len) (names_begun c.in_ok-first.first c.args.self.now c.expect.new.self c.name.result c.in_ok-first.ensures.0 c.in_ok-first.ensures.1 c.name.ensures))
 
 -- one more was read
-pub loop-names-preserved : goal.loop-names-preserved
-loop-names-preserved g c =
-    let next = rw (c.in-Some.is, c.len.ensures, sym c.in_ok-push-2.ensures.len) at c.in_ok-state.ensures.next in
-    let room = rw c.in-Some.is at c.in_ok-state.ensures.room in (
-      omega (arith, next.0, c.loop-names.invariant.0),
-      omega (arith, c.len.ensures, c.in_ok-push-2.ensures.len, room refl),
-      read_more Names (MoreName (vec_len c.loop-names.names)) (MoreName (vec_len c.push-in-Some.new.self)) (λ v. c.loop-names.names.items ++ v) (λ v. c.in-Some.state ∷ v)
-          (λ v. c.push-in-Some.new.self.items ++ v) c.args.self.now c.loop-names.self c.next_name.new.self c.loop-names.invariant.2 next.1
-          (pushed_plain c.loop-names.names.items c.push-in-Some.new.self.items c.in-Some.state c.in_ok-push-2.ensures.items),
+pub more-preserved : goal.more-preserved
+more-preserved g c =
+    let comma = c.more-test.ensures in
+    let room = rw c.len.ensures at c.in_ok-state.ensures.room in
+    let read = c.in_ok-state.ensures.read in
+    let made = c.in_ok-names-2.ensures in (
+      omega (arith, ap length comma.1, ap length read.1, c.more.invariant.0),
+      omega (arith, made.len, room),
+      rw made.len (read_more Names (MoreName (vec_len c.more.names)) (MoreName (vec_len c.more.names + 1)) (λ v. c.more.names.items ++ v) (λ v. c.in_ok-state.state ∷ v)
+          (λ v. c.in_ok-names-2.names.items ++ v) c.args.self.now c.more.self c.limited.new.self c.more.invariant.2
+          (name_more (vec_len c.more.names) c.in_ok-state.state c.more.self c.skip.new.self c.limited.new.self comma (lt-ltb (vec_len c.more.names) 32 room) read)
+          (pushed_plain c.more.names.items c.in_ok-names-2.names.items c.in_ok-state.state made.items)),
     )
+
+-- nothing more stands there
+pub returns : goal.returns
+returns g c =
+    let none = c.more-test.ensures in (
+      omega (arith, ap length none.0, c.more.invariant.0),
+      rw none.0 (read_end Names (MoreName (vec_len c.more.names)) (λ v. c.more.names.items ++ v) [] c.more.names.items c.args.self.now c.more.self c.more.self
+          c.more.invariant.2 (lacking (MoreName (vec_len c.more.names)) _ [] c.more.self refl refl none.1) (append-nil c.more.names.items)),
+    )
+
+-- the next name is refused
+pub returns-in_err-state : goal.returns-in_err-state
+returns-in_err-state g c =
+    rw (handed _ c.in_err-state.field-0.0 c.from_residual-in_err-state.ensures.1)
+    (read_err Names (MoreName (vec_len c.more.names)) (λ v. c.more.names.items ++ v) c.args.self.now c.more.self c.in_err-state.field-0.0 c.more.invariant.2
+    (name_refused (vec_len c.more.names) c.more.self c.skip.new.self c.limited.new.self c.in_err-state.field-0.0 c.more-test.ensures
+    (subst (λ (n : ℕ). ReadsLimited 32 n c.skip.new.self c.limited.new.self (Err c.in_err-state.field-0.0)) c.len.ensures c.in_err-state.ensures.read)))
 
 -- no name stands there
 pub returns-in_err-first : goal.returns-in_err-first

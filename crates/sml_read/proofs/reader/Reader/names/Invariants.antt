@@ -4,9 +4,9 @@ use Rattle.sml_read.specs.Reads.{Leads}
 use Rattle.sml_read.proofs.reader.Reader.names.Given as goal
 
 -- what was read stands before what is left
-abbrev pub invariant-loop-names : goal.invariant-loop-names
-invariant-loop-names g l =
+abbrev pub invariant-more : goal.invariant-more
+invariant-more g l =
     (length l.self ≤ length l.fn.self) × (vec_len l.names ≤ 32) × Leads Names (MoreName (vec_len l.names)) (λ v. l.names.items ++ v) l.fn.self l.self
 
-abbrev pub decreases-loop-names : goal.decreases-loop-names
-decreases-loop-names g l = length l.self
+abbrev pub decreases-more : goal.decreases-more
+decreases-more g l = length l.self

@@ -1,27 +1,34 @@
-use Rattle.std.proofs.Common.{[], ◌∷◌, ◌++◌, map, vec_len, length, ap, sym, refl, arith}
+use Rattle.std.proofs.Common.{[], ◌∷◌, ◌++◌, ◌+◌, map, vec_len, refl, arith}
 use Rattle.std.proofs.lemmas.List.{append-nil}
 use Rattle.sml_tree.specs.Content.{state_content}
 use Rattle.sml_tree.specs.Form.{State}
-use Rattle.sml_read.proofs.Lists.{read_more, read_end, pushed}
+use Rattle.sml_read.proofs.Lists.{read_more, read_end, read_err, pushed}
+use Rattle.sml_read.proofs.Behind.{lacking}
+use Rattle.sml_read.proofs.Stopped.{handed}
 use Rattle.sml_read.proofs.reader.Reader.states.Goals as goal
 
 -- one more was read
-pub loop-states-preserved : goal.loop-states-preserved
-loop-states-preserved g c =
-    let next = rw (c.in-Some.is, c.len.ensures, sym c.in_ok-push.ensures.len) at c.in_ok-state.ensures.next in
-    let room = rw c.in-Some.is at c.in_ok-state.ensures.room in (
-      omega (arith, next.0, c.loop-states.invariant.0),
-      omega (arith, c.len.ensures, c.in_ok-push.ensures.len, room refl),
-      read_more (State 0) (State (vec_len c.loop-states.states)) (State (vec_len c.push.new.self)) (λ v. map state_content c.loop-states.states.items ++ v) (λ v. state_content c.in-Some.state ∷ v) (λ v. map state_content c.push.new.self.items ++ v)
-          c.args.self.now c.loop-states.self c.next_state.new.self c.loop-states.invariant.2 next.1
-          (pushed state_content c.loop-states.states.items c.push.new.self.items c.in-Some.state c.in_ok-push.ensures.items),
+pub more-preserved : goal.more-preserved
+more-preserved g c =
+    let next = rw c.len.ensures at c.in_ok-state.ensures.next in
+    let made = c.in_ok-states-2.ensures in (
+      omega (arith, next.0, c.more.invariant.0),
+      omega (arith, c.len.ensures, made.len, c.in_ok-state.ensures.room),
+      rw made.len (read_more (State 0) (State (vec_len c.more.states)) (State (vec_len c.more.states + 1)) (λ v. map state_content c.more.states.items ++ v) (λ v. state_content c.in_ok-state.state ∷ v) (λ v. map state_content c.in_ok-states-2.states.items ++ v)
+          c.args.self.now c.more.self c.state.new.self c.more.invariant.2 next.1
+          (pushed state_content c.more.states.items c.in_ok-states-2.states.items c.in_ok-state.state made.items)),
     )
 
 -- nothing more stands there
 pub returns : goal.returns
-returns g c =
-    let none = rw (c.in_default.is, c.len.ensures) at c.in_ok-state.ensures.next in (
-      omega (arith, ap length none.0, c.loop-states.invariant.0),
-      read_end (State 0) (State (vec_len c.loop-states.states)) (λ v. map state_content c.loop-states.states.items ++ v) [] (map state_content c.loop-states.states.items) c.args.self.now c.loop-states.self c.next_state.new.self
-          c.loop-states.invariant.2 none.1 (append-nil (map state_content c.loop-states.states.items)),
-    )
+returns g c = (
+  c.more.invariant.0,
+  read_end (State 0) (State (vec_len c.more.states)) (λ v. map state_content c.more.states.items ++ v) [] (map state_content c.more.states.items) c.args.self.now c.more.self c.more.self
+      c.more.invariant.2 (lacking (State (vec_len c.more.states)) _ [] c.more.self refl refl c.more-test.ensures) (append-nil (map state_content c.more.states.items)),
+)
+
+-- the next is refused
+pub returns-in_err-state : goal.returns-in_err-state
+returns-in_err-state g c =
+    rw (handed _ c.in_err-state.field-0.0 c.from_residual-in_err-state.ensures.1)
+    (read_err (State 0) (State (vec_len c.more.states)) (λ v. map state_content c.more.states.items ++ v) c.args.self.now c.more.self c.in_err-state.field-0.0 c.more.invariant.2 (rw c.len.ensures at c.in_err-state.ensures.next))

@@ -5,9 +5,9 @@ use Rattle.sml_read.specs.Reads.{Leads}
 use Rattle.sml_read.proofs.reader.Reader.states.Given as goal
 
 -- what was read stands before what is left
-abbrev pub invariant-loop-states : goal.invariant-loop-states
-invariant-loop-states g l =
+abbrev pub invariant-more : goal.invariant-more
+invariant-more g l =
     (length l.self ≤ length l.fn.self) × (vec_len l.states ≤ 32) × Leads (State 0) (State (vec_len l.states)) (λ v. map state_content l.states.items ++ v) l.fn.self l.self
 
-abbrev pub decreases-loop-states : goal.decreases-loop-states
-decreases-loop-states g l = length l.self
+abbrev pub decreases-more : goal.decreases-more
+decreases-more g l = length l.self

@@ -1,0 +1,24 @@
+-- What an instruction says, by its parts.
+use Rattle.std.proofs.Common.{◌≡◌, ◌∙◌, sym, ap, Bool, Vec, map}
+use Rattle.sml_tree.specs.Syntax.{InstrData, BlockData, send, assign, move_to, terminate}
+use Rattle.sml_tree.specs.Content.{instr_content, arg_content, passed_content, instr_step, block_step}
+use Rattle.sml_tree.specs.declared.literal.Arg.{Arg}
+use Rattle.sml_tree.specs.declared.literal.Passed.{Passed}
+use Rattle.sml_tree.specs.declared.name.Name.{Name}
+use Rattle.sml_tree.specs.declared.block.Instr.{Do, Set, MoveTo, Terminate}
+use Rattle.sml_tree.specs.declared.block.Instr.TheOpen.{Instr-F}
+use Rattle.sml_tree.specs.declared.block.Instr.TheViews.{rolls-Do, rolls-Set, rolls-MoveTo, rolls-Terminate}
+use Rattle.sml_tree.specs.declared.block.Instr.TheFolds.{fold-roll-Instr}
+
+pub says_Do : {A : Type 0} (action : Name) (args : Vec (Passed A) A) (all : Bool) (target : Name)
+    → instr_content (Do action args all target) ≡ send (record { action = action; args = map passed_content args.items; all = all; target = target })
+says_Do {A} action args all target = ap (instr_content {A = A}) (sym (rolls-Do action args all target)) ∙ fold-roll-Instr A InstrData BlockData instr_step block_step (Instr-F.Do action args all target)
+
+pub says_Set : {A : Type 0} (p : Name) (v : Arg A) → instr_content (Set p v) ≡ assign p (arg_content v)
+says_Set {A} p v = ap (instr_content {A = A}) (sym (rolls-Set p v)) ∙ fold-roll-Instr A InstrData BlockData instr_step block_step (Instr-F.Set p v)
+
+pub says_MoveTo : (A : Type 0) (s : Name) → instr_content {A = A} (MoveTo s) ≡ move_to s
+says_MoveTo A s = ap (instr_content {A = A}) (sym (rolls-MoveTo s)) ∙ fold-roll-Instr A InstrData BlockData instr_step block_step (Instr-F.MoveTo s)
+
+pub says_Terminate : (A : Type 0) (s : Name) → instr_content {A = A} (Terminate s) ≡ terminate s
+says_Terminate A s = ap (instr_content {A = A}) (sym (rolls-Terminate s)) ∙ fold-roll-Instr A InstrData BlockData instr_step block_step (Instr-F.Terminate s)

@@ -1,0 +1,17 @@
+use Rattle.std.proofs.Common.{[], ◌∷◌}
+use Rattle.sml_tree.specs.Content.{item_content}
+use Rattle.sml_read.specs.Counts.{file_part}
+use Rattle.sml_read.proofs.Choices.{found_front}
+use Rattle.sml_read.proofs.reader.Reader.next_item.Goals as goal
+
+pub returns-in-Some-Class-clause-next : goal.returns-in-Some-Class-clause-next
+returns-in-Some-Class-clause-next g c =
+    found_front (file_part c.args.counts.now) (file_part c.class.new.counts) (λ i v. item_content i ∷ v) [] c.class.result c.found.result c.args.self.now c.class.new.self c.found.ensures c.class.ensures.next
+
+pub returns-in-Some-Object-clause-next : goal.returns-in-Some-Object-clause-next
+returns-in-Some-Object-clause-next g c =
+    found_front (file_part c.args.counts.now) (file_part c.object.new.counts) (λ i v. item_content i ∷ v) [] c.object.result c.found-in-Some-Object.result c.args.self.now c.object.new.self c.found-in-Some-Object.ensures c.object.ensures.next
+
+pub returns-in-Some-ObjectSet-clause-next : goal.returns-in-Some-ObjectSet-clause-next
+returns-in-Some-ObjectSet-clause-next g c =
+    found_front (file_part c.args.counts.now) (file_part c.set.new.counts) (λ i v. item_content i ∷ v) [] c.set.result c.found-in-Some-ObjectSet.result c.args.self.now c.set.new.self c.found-in-Some-ObjectSet.ensures c.set.ensures.next
