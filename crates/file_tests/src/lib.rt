@@ -42,6 +42,8 @@ mod fault_kinds;
 #[cfg(test)]
 mod fault_pairs;
 #[cfg(test)]
+mod full_heaps;
+#[cfg(test)]
 mod limits;
 #[cfg(test)]
 mod printing;

@@ -19,8 +19,8 @@ const CHOICE: &[u8] = b"class: LAMP
 object: L is_of_class lamp
 ";
 
-// Every form of a tree, each arm that takes memory among them.
-const EVERY_FORM: &[u8] = b"class: DEVICE /associated
+/// Every form of a tree, each arm that takes memory among them.
+pub const EVERY_FORM: &[u8] = b"class: DEVICE /associated
   parameters: int N = 3, string P = \"x\"
   state: OFF /initial_state
     action: SWITCH (int T, string M = \"none\")
