@@ -49,6 +49,34 @@ one_any p s = by (p s)
     by true = refl
     by false = refl
 
+early : (a b c : Bool) → true ≡ (a || b) → true ≡ (a || (b || c))
+early true b c e = refl
+early false true c e = refl
+early false false c e = cc
+
+late : (a b c : Bool) → false ≡ (a || b) → c ≡ (a || (b || c))
+late true b c e = cc
+late false true c e = cc
+late false false c e = refl
+
+-- whether the first of two, or the second, passes
+pub first_so : (v a b : Bool) → v ≡ true → true ≡ a → v ≡ (a || b)
+first_so v a b e so = e ∙ ap (λ x. x || b) so
+
+pub second_so : (v a b : Bool) → v ≡ b → false ≡ a → v ≡ (a || b)
+second_so v a b e not_so = e ∙ ap (λ x. x || b) not_so
+
+-- the parts of an `if`
+module _ {X : Type 0} (p : X → Bool) (cs xs bs : List X) (v : Bool) (two : v ≡ (list_any p cs || list_any p xs)) where
+  three : list_any p (cs ++ (xs ++ bs)) ≡ (list_any p cs || (list_any p xs || list_any p bs))
+  three = list_any-append p cs (xs ++ bs) ∙ ap (λ b. list_any p cs || b) (list_any-append p xs bs)
+
+  pub any_early : v ≡ true → v ≡ list_any p (cs ++ (xs ++ bs))
+  any_early here = here ∙ early (list_any p cs) (list_any p xs) (list_any p bs) (sym here ∙ two) ∙ sym three
+
+  pub any_late : (r : Bool) → v ≡ false → r ≡ list_any p bs → r ≡ list_any p (cs ++ (xs ++ bs))
+  any_late r none last = last ∙ late (list_any p cs) (list_any p xs) (list_any p bs) (sym none ∙ two) ∙ sym three
+
 -- ---- files
 
 -- of one kind

@@ -1,13 +1,15 @@
-use Rattle.std.proofs.Common.{◌∙◌, ap, sym, map, is_some}
+use Rattle.std.proofs.Common.{◌≡◌, ◌∙◌, ◌||◌, ap, sym, map, is_some}
 use Rattle.std.specs.List.{list_any}
 use Rattle.std.proofs.lemmas.List.Folds.{list_any-append}
-use Rattle.sml_tree.specs.Content.{file_content, class_content, action_content, instr_content, block_of, passed_content, arg_content}
-use Rattle.sml_faults.specs.Sites.{asks, sets, ends, block_sites, instr_sites}
+use Rattle.sml_tree.specs.Content.{file_content, class_content, action_content, instr_content, block_of, block_content, cond_content, passed_content, arg_content}
+use Rattle.sml_tree.proofs.Blocks.{instr_content-If}
+use Rattle.sml_faults.specs.Sites.{cond_sites, asks, sets, ends, block_sites, instr_sites}
 use Rattle.sml_faults.specs.Lookup.{objects_meant}
 use Rattle.sml_faults.specs.InBlocks.{is_faulty_site, is_faulty_send}
 use Rattle.sml_faults.proofs.Instrs.{says_Do, says_Set, ends_in}
-use Rattle.sml_faults.proofs.InBlocks.{any_here, any_next, one_any}
+use Rattle.sml_faults.proofs.InBlocks.{any_here, any_next, one_any, any_early, any_late, first_so, second_so}
 use Rattle.sml_faults.proofs.tables.Tables.+faulty.Goals as goal
+use Rattle.sml_faults.proofs.tables.Tables.+faulty.Goals.{is_faulty_instr-then-is_faulty_cond, is_faulty_instr-else-is_faulty_cond}
 
 pub is_faulty_block-returns-then-is_faulty_instr : goal.is_faulty_block-returns-then-is_faulty_instr
 is_faulty_block-returns-then-is_faulty_instr g t c =
@@ -44,3 +46,29 @@ pub is_faulty_instr-returns-in-MoveTo : goal.is_faulty_instr-returns-in-MoveTo
 is_faulty_instr-returns-in-MoveTo g t c =
     let p = is_faulty_site (file_content c.args.self.now.file.now) (class_content c.args.class.now) (action_content c.args.action.now) in
     c.is_some-in-MoveTo.ensures ∙ ap is_some c.unknown_end.ensures ∙ sym (one_any p (ends c.in-MoveTo.state)) ∙ sym (ap (list_any p) (ends_in c.args.instr.now c.in-MoveTo.state c.in-MoveTo.is))
+
+pub is_faulty_instr-returns-then-is_faulty_block : goal.is_faulty_instr-returns-then-is_faulty_block
+is_faulty_instr-returns-then-is_faulty_block g t c =
+    let p = is_faulty_site (file_content c.args.self.now.file.now) (class_content c.args.class.now) (action_content c.args.action.now) in
+    let cs = cond_sites (cond_content c.in-If.cond) in
+    let xs = block_sites (block_content c.in-If.yes) in
+    let two : c.if-is_faulty_cond.value ≡ (list_any p cs || list_any p xs) =
+    elim c.if-is_faulty_cond.branch [
+      | is_faulty_instr-then-is_faulty_cond w ↦ first_so _ (list_any p cs) (list_any p xs) (w.value-is ∙ w.if-is_faulty_cond.true) w.if-is_faulty_cond.ensures
+      | is_faulty_instr-else-is_faulty_cond w ↦ second_so _ (list_any p cs) (list_any p xs) (w.value-is ∙ w.is_faulty_block.ensures) w.if-is_faulty_cond.ensures
+    ] in
+    any_early p cs xs (block_sites (block_content c.in-If.no)) c.if-is_faulty_cond.value two c.if-is_faulty_block.true
+    ∙ sym (ap (λ i. list_any p (instr_sites (instr_content i))) c.in-If.is ∙ ap (λ i. list_any p (instr_sites i)) (instr_content-If c.in-If.cond c.in-If.yes c.in-If.no))
+
+pub is_faulty_instr-returns-else-is_faulty_block : goal.is_faulty_instr-returns-else-is_faulty_block
+is_faulty_instr-returns-else-is_faulty_block g t c =
+    let p = is_faulty_site (file_content c.args.self.now.file.now) (class_content c.args.class.now) (action_content c.args.action.now) in
+    let cs = cond_sites (cond_content c.in-If.cond) in
+    let xs = block_sites (block_content c.in-If.yes) in
+    let two : c.if-is_faulty_cond.value ≡ (list_any p cs || list_any p xs) =
+    elim c.if-is_faulty_cond.branch [
+      | is_faulty_instr-then-is_faulty_cond w ↦ first_so _ (list_any p cs) (list_any p xs) (w.value-is ∙ w.if-is_faulty_cond.true) w.if-is_faulty_cond.ensures
+      | is_faulty_instr-else-is_faulty_cond w ↦ second_so _ (list_any p cs) (list_any p xs) (w.value-is ∙ w.is_faulty_block.ensures) w.if-is_faulty_cond.ensures
+    ] in
+    any_late p cs xs (block_sites (block_content c.in-If.no)) c.if-is_faulty_cond.value two _ c.if-is_faulty_block.false c.is_faulty_block-else-is_faulty_block.ensures
+    ∙ sym (ap (λ i. list_any p (instr_sites (instr_content i))) c.in-If.is ∙ ap (λ i. list_any p (instr_sites i)) (instr_content-If c.in-If.cond c.in-If.yes c.in-If.no))
