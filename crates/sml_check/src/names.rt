@@ -117,15 +117,25 @@ fn declared_states<A: Allocator + Clone>(
     Ok(names)
 }
 
+// Whether an item is a class to which the state `DEAD` is added.
+fn item_adds_dead<A: Allocator + Clone>(item: &Item<A>) -> bool
+    ensures { result ≡ list_any look.adds_dead (numbers.class_list (item_content item.now)) }
+{
+    match item {
+        Item::Class(class) => adds_dead(class),
+        Item::Object(_) => false,
+        Item::Group(_) => false,
+    }
+}
+
 // Whether the state `DEAD` is added to some class.
 fn some_adds_dead<A: Allocator + Clone>(items: &[Item<A>]) -> bool
     ensures { result ≡ list_any look.adds_dead (numbers.classes_in (map item_content items.now)) }
 {
     for item in items {
-        if let Item::Class(class) = item {
-            if adds_dead(class) {
-                return true;
-            }
+        let adds = item_adds_dead(item);
+        if adds {
+            return true;
         }
     }
     false
@@ -214,6 +224,30 @@ fn group_names<A: Allocator + Clone>(
     Ok(names)
 }
 
+// The names of the items of a file.
+#[derive(Drop)]
+struct TopNames {
+    classes: Vec<Name>,
+    objects: Vec<Name>,
+    groups: Vec<Name>,
+}
+
+// The names of the items of a file, each sort in the order of the text.
+fn top_names<A: Allocator + Clone>(alloc: Global, items: &[Item<A>]) -> Result<TopNames, AllocError>
+    ensures classes { IfOk result (λ n. n.classes.items ≡ map numbers.class_name (numbers.classes_in (map item_content items.now))) }
+    ensures objects { IfOk result (λ n. n.objects.items ≡ map numbers.object_name (numbers.objects_in (map item_content items.now))) }
+    ensures groups { IfOk result (λ n. n.groups.items ≡ map numbers.group_name (numbers.groups_in (map item_content items.now))) }
+{
+    let classes = class_names(alloc, items)?;
+    let objects = object_names(alloc, items)?;
+    let groups = group_names(alloc, items)?;
+    Ok(TopNames {
+        classes,
+        objects,
+        groups,
+    })
+}
+
 // The place of a name among others. The cost is their count.
 fn place_of(names: &[Name], name: &Name) -> Option<usize>
     ensures { result ≡ place names.now name.now }
@@ -226,12 +260,15 @@ impl Names {
     pub fn of<A: Allocator + Clone>(alloc: Global, items: &[Item<A>]) -> Result<Names, AllocError>
         ensures { IfOk result (λ n. n ≡ numbers.names_of (map item_content items.now)) }
     {
+        let top = top_names(alloc, items)?;
+        let states = state_names(alloc, items)?;
+        let actions = action_names(alloc, items)?;
         Ok(Names {
-            classes: class_names(alloc, items)?,
-            objects: object_names(alloc, items)?,
-            groups: group_names(alloc, items)?,
-            states: state_names(alloc, items)?,
-            actions: action_names(alloc, items)?,
+            classes: top.classes,
+            objects: top.objects,
+            groups: top.groups,
+            states,
+            actions,
         })
     }
 

@@ -12,7 +12,7 @@ use Rattle.sml_check.proofs.Gathered.{moves_of}
 use Rattle.sml_tree.proofs.Blocks.{instr_content-If}
 use Rattle.sml_check.specs.Grown.{IsInstr}
 use Rattle.sml_check.specs.Placed.{InstrPlaced}
-use Rattle.sml_check.proofs.Said.{says_Do, says_Set, says_MoveTo, says_Terminate}
+use Rattle.sml_check.proofs.Said.{says_Do, says_Set, says_MoveTo}
 use Rattle.sml_check.proofs.Flats.{grows_refl, grows_then, names_more, before_more, before_push, one_more, choice_laid, placed_at}
 use Rattle.sml_check.proofs.layout.Scope.+layout.Goals as goal
 
@@ -104,9 +104,6 @@ instr-returns-in-Set-clause-is g t c =
 -- the ends of an action
 pub instr-state-requires : goal.instr-state-requires
 instr-state-requires g t c = subst (InstrPlaced c.args.self.now.names.now (class_content c.args.self.now.class.now) (action_content c.args.self.now.action.now)) (ap instr_content c.in-MoveTo.is ∙ says_MoveTo _ _) c.requires
-
-pub instr-state-requires-in-Terminate : goal.instr-state-requires-in-Terminate
-instr-state-requires-in-Terminate g t c = subst (InstrPlaced c.args.self.now.names.now (class_content c.args.self.now.class.now) (action_content c.args.self.now.action.now)) (ap instr_content c.in-Terminate.is ∙ says_Terminate _ _) c.requires
 
 pub instr-returns-in-MoveTo-clause-grows : goal.instr-returns-in-MoveTo-clause-grows
 instr-returns-in-MoveTo-clause-grows g t c = grows_refl c.args.blocks.now
