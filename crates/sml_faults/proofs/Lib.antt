@@ -1,4 +1,5 @@
 pub mod Rests
+pub mod Loops
 pub mod Places
 pub mod Judged
 pub mod InBlocks

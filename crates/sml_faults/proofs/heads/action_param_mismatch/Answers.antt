@@ -1,6 +1,6 @@
 use Rattle.sml_tree.specs.Content.{action_param_content}
 use Rattle.sml_faults.specs.Heads.{action_param_mismatch}
-use Rattle.sml_faults.proofs.Rests.{first_one, first_more, named_so, named_not}
+use Rattle.sml_faults.proofs.Loops.{first_one, first_more, named_so, named_not}
 use Rattle.sml_faults.proofs.heads.action_param_mismatch.Goals as goal
 
 pub returns-then-is_default_mismatched : goal.returns-then-is_default_mismatched

@@ -2,7 +2,7 @@ use Rattle.std.proofs.Common.{◌∙◌, ap, not}
 use Rattle.sml_tree.specs.Content.{class_param_content}
 use Rattle.sml_faults.specs.Faults.{same_kind}
 use Rattle.sml_faults.specs.Heads.{class_param_mismatch}
-use Rattle.sml_faults.proofs.Rests.{first_one, first_more, named_so, named_not}
+use Rattle.sml_faults.proofs.Loops.{first_one, first_more, named_so, named_not}
 use Rattle.sml_faults.proofs.heads.class_param_mismatch.Goals as goal
 
 pub returns-then-not-same_kind : goal.returns-then-not-same_kind

@@ -1,6 +1,6 @@
 use Rattle.sml_tree.specs.Content.{action_param_content}
 use Rattle.sml_faults.specs.Lookup.{is_action_param}
-use Rattle.sml_faults.proofs.Rests.{find_one, find_more}
+use Rattle.sml_faults.proofs.Loops.{find_one, find_more}
 use Rattle.sml_faults.proofs.lookup.action_param_in.Goals as goal
 
 pub returns-then-is_name : goal.returns-then-is_name

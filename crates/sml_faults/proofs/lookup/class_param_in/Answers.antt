@@ -1,6 +1,6 @@
 use Rattle.sml_tree.specs.Content.{class_param_content}
 use Rattle.sml_faults.specs.Lookup.{is_class_param}
-use Rattle.sml_faults.proofs.Rests.{find_one, find_more}
+use Rattle.sml_faults.proofs.Loops.{find_one, find_more}
 use Rattle.sml_faults.proofs.lookup.class_param_in.Goals as goal
 
 pub returns-then-is_name : goal.returns-then-is_name

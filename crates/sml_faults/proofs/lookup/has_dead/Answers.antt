@@ -1,7 +1,7 @@
 use Rattle.std.proofs.Common.{◌∙◌, ap, ◌||◌}
 use Rattle.sml_tree.specs.Content.{state_content}
 use Rattle.sml_faults.specs.Lookup.{named, is_dead}
-use Rattle.sml_faults.proofs.Rests.{any_one, any_more}
+use Rattle.sml_faults.proofs.Loops.{any_one, any_more}
 use Rattle.sml_faults.proofs.lookup.has_dead.Goals as goal
 
 pub returns-then-is_dead : goal.returns-then-is_dead

@@ -1,7 +1,7 @@
 use Rattle.std.proofs.Common.{map}
 use Rattle.sml_tree.specs.Content.{action_param_content, passed_content}
 use Rattle.sml_faults.specs.Faults.{missing_param}
-use Rattle.sml_faults.proofs.Rests.{first_one, first_more, named_so, named_not}
+use Rattle.sml_faults.proofs.Loops.{first_one, first_more, named_so, named_not}
 use Rattle.sml_faults.proofs.param.missing_param.Goals as goal
 
 pub returns-then-is_missing : goal.returns-then-is_missing

@@ -1,6 +1,6 @@
 use Rattle.sml_tree.specs.Content.{passed_content}
 use Rattle.sml_faults.specs.Lookup.{is_passed}
-use Rattle.sml_faults.proofs.Rests.{any_one, any_more}
+use Rattle.sml_faults.proofs.Loops.{any_one, any_more}
 use Rattle.sml_faults.proofs.param.passes.Goals as goal
 
 pub returns-then-is_name : goal.returns-then-is_name

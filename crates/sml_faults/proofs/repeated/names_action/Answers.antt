@@ -2,7 +2,8 @@ use Rattle.std.proofs.Common.{refl, map}
 use Rattle.std.specs.List.{list_any}
 use Rattle.sml_tree.specs.Content.{action_content}
 use Rattle.sml_faults.specs.Lookup.{is_action}
-use Rattle.sml_faults.proofs.Rests.{any_one, any_more, rest_none}
+use Rattle.sml_faults.proofs.Rests.{rest_none}
+use Rattle.sml_faults.proofs.Loops.{any_one, any_more}
 use Rattle.sml_faults.proofs.repeated.names_action.Goals as goal
 
 pub returns-then-is_name : goal.returns-then-is_name

@@ -2,7 +2,7 @@ use Rattle.std.proofs.Common.{◌∙◌, ap, map, Bor, ◌||◌}
 use Rattle.std.specs.List.{list_any}
 use Rattle.sml_tree.specs.Content.{action_param_content, class_param_content, class_content}
 use Rattle.sml_faults.specs.Lookup.{class_param, is_action_param}
-use Rattle.sml_faults.proofs.Rests.{is_there, found_any}
+use Rattle.sml_faults.proofs.Loops.{is_there, found_any}
 use Rattle.sml_faults.proofs.repeated.names_param.Goals as goal
 
 pub returns-then-is_some : goal.returns-then-is_some

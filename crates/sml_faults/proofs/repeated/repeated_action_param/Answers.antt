@@ -1,6 +1,7 @@
 use Rattle.sml_tree.specs.Content.{action_param_content, class_content}
 use Rattle.sml_faults.specs.Repeats.{repeated_action_param}
-use Rattle.sml_faults.proofs.Rests.{each_here, each_next, named_so, named_not}
+use Rattle.sml_faults.proofs.Rests.{each_here, each_next}
+use Rattle.sml_faults.proofs.Loops.{named_so, named_not}
 use Rattle.sml_faults.proofs.repeated.repeated_action_param.Goals as goal
 
 pub returns-then-names_param : goal.returns-then-names_param

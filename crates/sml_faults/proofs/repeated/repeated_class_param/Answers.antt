@@ -2,7 +2,8 @@ use Rattle.std.proofs.Common.{◌∙◌, map, take, Bor}
 use Rattle.sml_tree.specs.Content.{class_param_content}
 use Rattle.sml_faults.specs.Lookup.{is_class_param}
 use Rattle.sml_faults.specs.Repeats.{repeated_class_param}
-use Rattle.sml_faults.proofs.Rests.{each_here, each_next, named_so, named_not, found_any}
+use Rattle.sml_faults.proofs.Rests.{each_here, each_next}
+use Rattle.sml_faults.proofs.Loops.{named_so, named_not, found_any}
 use Rattle.sml_faults.proofs.repeated.repeated_class_param.Goals as goal
 
 pub returns-then-is_some : goal.returns-then-is_some

@@ -1,6 +1,7 @@
 use Rattle.sml_tree.specs.Content.{passed_content}
 use Rattle.sml_faults.specs.Repeats.{repeated_passed}
-use Rattle.sml_faults.proofs.Rests.{each_here, each_next, named_so, named_not}
+use Rattle.sml_faults.proofs.Rests.{each_here, each_next}
+use Rattle.sml_faults.proofs.Loops.{named_so, named_not}
 use Rattle.sml_faults.proofs.repeated.repeated_passed.Goals as goal
 
 pub returns-then-passes : goal.returns-then-passes

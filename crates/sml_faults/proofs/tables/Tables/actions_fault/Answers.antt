@@ -1,6 +1,6 @@
 use Rattle.sml_tree.specs.Content.{action_content, class_content, file_content}
 use Rattle.sml_faults.specs.Kinds.{action_faults}
-use Rattle.sml_faults.proofs.Rests.{first_one, first_more}
+use Rattle.sml_faults.proofs.Loops.{first_one, first_more}
 use Rattle.sml_faults.proofs.tables.Tables.actions_fault.Goals as goal
 
 pub returns-in-Some : goal.returns-in-Some

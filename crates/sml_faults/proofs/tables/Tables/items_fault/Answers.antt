@@ -1,6 +1,6 @@
 use Rattle.sml_tree.specs.Content.{file_content, item_content}
 use Rattle.sml_faults.specs.Kinds.{item_faults}
-use Rattle.sml_faults.proofs.Rests.{first_one, first_more}
+use Rattle.sml_faults.proofs.Loops.{first_one, first_more}
 use Rattle.sml_faults.proofs.tables.Tables.items_fault.Goals as goal
 
 pub returns-in-Some : goal.returns-in-Some

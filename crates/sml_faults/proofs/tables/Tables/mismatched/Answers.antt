@@ -1,6 +1,6 @@
 use Rattle.sml_tree.specs.Content.{action_content, class_content, file_content, passed_content}
 use Rattle.sml_faults.specs.Faults.{mismatched}
-use Rattle.sml_faults.proofs.Rests.{first_one, first_more, named_so, named_not}
+use Rattle.sml_faults.proofs.Loops.{first_one, first_more, named_so, named_not}
 use Rattle.sml_faults.proofs.tables.Tables.mismatched.Goals as goal
 
 pub returns-then-is_mismatched : goal.returns-then-is_mismatched

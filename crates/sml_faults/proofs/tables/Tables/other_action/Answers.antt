@@ -1,7 +1,7 @@
 use Rattle.sml_tree.specs.Content.{action_content, file_content}
 use Rattle.sml_faults.specs.Heads.{other_params}
 use Rattle.sml_faults.specs.Tables.{class_at}
-use Rattle.sml_faults.proofs.Rests.{first_one, first_more, named_so, named_not}
+use Rattle.sml_faults.proofs.Loops.{first_one, first_more, named_so, named_not}
 use Rattle.sml_faults.proofs.tables.Tables.other_action.Goals as goal
 
 pub returns-then-differs : goal.returns-then-differs

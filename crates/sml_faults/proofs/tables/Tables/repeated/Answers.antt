@@ -1,6 +1,6 @@
 use Rattle.sml_tree.specs.Content.{item_content}
 use Rattle.sml_faults.specs.Repeats.{repeated_item}
-use Rattle.sml_faults.proofs.Rests.{lent_here, lent_next}
+use Rattle.sml_faults.proofs.Loops.{lent_here, lent_next}
 use Rattle.sml_faults.proofs.tables.Tables.repeated.Goals as goal
 
 pub returns-in-Some : goal.returns-in-Some

@@ -3,7 +3,8 @@ use Rattle.std.specs.List.{list_any}
 use Rattle.sml_tree.specs.Content.{action_content, class_content}
 use Rattle.sml_faults.specs.Lookup.{is_action}
 use Rattle.sml_faults.specs.Repeats.{repeated_action, repeated_in_action}
-use Rattle.sml_faults.proofs.Rests.{each_here, each_next, where_not, named_first}
+use Rattle.sml_faults.proofs.Rests.{each_here, each_next, where_not}
+use Rattle.sml_faults.proofs.Loops.{named_first}
 use Rattle.sml_faults.proofs.tables.Tables.repeated_action.Goals as goal
 
 pub returns-then-names_action : goal.returns-then-names_action

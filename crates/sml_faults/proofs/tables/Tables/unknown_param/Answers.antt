@@ -1,6 +1,6 @@
 use Rattle.sml_tree.specs.Content.{action_content, class_content, file_content, passed_content}
 use Rattle.sml_faults.specs.Faults.{unknown_passed}
-use Rattle.sml_faults.proofs.Rests.{first_one, first_more}
+use Rattle.sml_faults.proofs.Loops.{first_one, first_more}
 use Rattle.sml_faults.proofs.tables.Tables.unknown_param.Goals as goal
 
 pub returns-in-Some : goal.returns-in-Some
