@@ -12,7 +12,7 @@ use Rattle.sml_check.proofs.Gathered.{moves_of}
 use Rattle.sml_tree.proofs.Blocks.{instr_content-If}
 use Rattle.sml_check.specs.Grown.{IsInstr}
 use Rattle.sml_check.specs.Placed.{InstrPlaced}
-use Rattle.sml_check.proofs.Said.{says_Do, says_Set, says_MoveTo}
+use Rattle.sml_check.proofs.Said.{says_Do, says_Set, says_MoveTo, yes_smaller, no_smaller}
 use Rattle.sml_check.proofs.Flats.{grows_refl, grows_then, names_more, before_more, before_push, one_more, choice_laid, placed_at}
 use Rattle.sml_check.proofs.layout.Scope.+layout.Goals as goal
 
@@ -134,3 +134,9 @@ pub instr-returns-in_ok-cond-in-If-clause-is : goal.instr-returns-in_ok-cond-in-
 instr-returns-in_ok-cond-in-If-clause-is g t c =
     choice_laid c.args.self.now.names.now (class_content c.args.self.now.class.now) (action_content c.args.self.now.action.now) c.block.new.blocks c.block-in-If.new.blocks _ c.in_ok-yes-in-If.yes c.in_ok-no-in-If.no (instr_content c.args.instr.now) _ _ _
     (ap instr_content c.in-If.is ∙ instr_content-If _ _ _) c.in_ok-cond-in-If.ensures c.in_ok-no-in-If.ensures.grows c.in_ok-yes-in-If.ensures.there c.in_ok-yes-in-If.ensures.is c.in_ok-no-in-If.ensures.is
+
+pub instr-block-requires : goal.instr-block-requires
+instr-block-requires g t c κs within = (omega (arith, yes_smaller _ _ _ c.args.instr.now c.in-If.is, c.decreases), (within, (subst (InstrPlaced c.args.self.now.names.now (class_content c.args.self.now.class.now) (action_content c.args.self.now.action.now)) (ap instr_content c.in-If.is ∙ instr_content-If _ _ _) c.requires).1.0))
+
+pub instr-block-requires-in-If : goal.instr-block-requires-in-If
+instr-block-requires-in-If g t c κs within = (omega (arith, no_smaller _ _ _ c.args.instr.now c.in-If.is, c.decreases), (within, (subst (InstrPlaced c.args.self.now.names.now (class_content c.args.self.now.class.now) (action_content c.args.self.now.action.now)) (ap instr_content c.in-If.is ∙ instr_content-If _ _ _) c.requires).1.1))
