@@ -1,18 +1,16 @@
 //! What is made and written where a schedule ends before its end.
 ghost use Rattle.std.specs.Prelude.{◌≤◌, IfOk, length};
 
-use crate::domain_of::first;
-use crate::outputs::core_of;
+use crate::domain_of::{FIRST, core_of};
+use crate::schedule_tests::{FIRST_OUTPUT, FIRST_PATH};
 use smi_core::{Core, ScheduleFault, run_schedule};
 use std::alloc::{AllocError, Global};
 use std::io::{Error, Read, Write};
-use std::test::Fail;
 
-// Each line writes one line.
-const PATH: &[u8] = b"request @1 B GO\nstart B\ngo B\ngo B\nstart L\ngo L\nstart L\n";
-
-const WRITTEN: &[u8] =
-    b"accept @1 B 0 GO\nstart B @1 0 GO\npost B L 0 LIGHT\nend B DONE\nstart L B 0 LIGHT\nend L ON\nrefused Empty\n";
+// A core of the first path, of whose lines each writes one line.
+fn first_core(alloc: Global) -> Option<Core> {
+    core_of(alloc, FIRST, 16, 1_000_000)
+}
 
 // The text up to the end of so many lines, and what is behind it.
 fn parted(text: &[u8], lines: usize) -> (&[u8], &[u8]) {
@@ -103,24 +101,27 @@ fn written(alloc: Global, core: &mut Core, schedule: &[u8]) -> Vec<u8> {
 }
 
 // Whether a writer that fails behind so many bytes leaves the core behind the step whose line it cut.
-fn goes_on_behind_the_cut(alloc: Global, room: usize) -> Result<bool, Fail> {
-    let mut core = core_of(alloc, first(alloc)?)?;
-    let mut reader = PATH;
+fn goes_on_behind_the_cut(alloc: Global, room: usize) -> bool {
+    let Some(core) = first_core(alloc) else {
+        return false;
+    };
+    let mut core = core;
+    let mut reader = FIRST_PATH;
     let mut writer = Narrow {
         taken: Vec::new(alloc),
         room,
     };
     let ran = run_schedule(alloc, &mut core, &mut reader, &mut writer);
     let made = line_count(writer.taken.as_slice()).saturating_add(1);
-    let (_, rest) = parted(PATH, made);
-    let (_, expected) = parted(WRITTEN, made);
+    let (_, rest) = parted(FIRST_PATH, made);
+    let (_, expected) = parted(FIRST_OUTPUT, made);
     let again = written(alloc, &mut core, rest);
-    Ok(matches!(ran, Err(ScheduleFault::Write)) && again.as_slice() == expected)
+    matches!(ran, Err(ScheduleFault::Write)) && again.as_slice() == expected
 }
 
 // What is written of a front of the path, behind which the reader fails.
-fn written_of_front(alloc: Global, text: &'static [u8]) -> Result<Vec<u8>, Fail> {
-    let mut core = core_of(alloc, first(alloc)?)?;
+fn written_of_front(alloc: Global, text: &'static [u8]) -> Option<Vec<u8>> {
+    let mut core = first_core(alloc)?;
     let mut reader = Ending {
         text,
         given: 0,
@@ -128,55 +129,61 @@ fn written_of_front(alloc: Global, text: &'static [u8]) -> Result<Vec<u8>, Fail>
     };
     let mut output = Vec::new(alloc);
     match run_schedule(alloc, &mut core, &mut reader, &mut output) {
-        Err(ScheduleFault::Read) => Ok(output),
-        _ => Ok(Vec::new(alloc)),
+        Err(ScheduleFault::Read) => Some(output),
+        _ => None,
     }
 }
 
 // Whether all that a front of the path writes are the lines of its whole lines.
-fn makes_whole_lines(alloc: Global, length: usize) -> Result<bool, Fail> {
-    let Some(text) = PATH.get(..length) else {
-        return Ok(false);
+fn makes_whole_lines(alloc: Global, length: usize) -> bool {
+    let Some(text) = FIRST_PATH.get(..length) else {
+        return false;
     };
-    let output = written_of_front(alloc, text)?;
-    let (expected, _) = parted(WRITTEN, line_count(text));
-    Ok(output.as_slice() == expected)
+    let (expected, _) = parted(FIRST_OUTPUT, line_count(text));
+    match written_of_front(alloc, text) {
+        Some(output) => output.as_slice() == expected,
+        None => false,
+    }
 }
 
 // What is written before the limit of a schedule's length.
-fn written_before_the_limit(alloc: Global) -> Result<Vec<u8>, Fail> {
-    let mut core = core_of(alloc, first(alloc)?)?;
+fn written_before_the_limit(alloc: Global) -> Option<Vec<u8>> {
+    let mut core = first_core(alloc)?;
     let mut reader = Ending {
-        text: PATH,
+        text: FIRST_PATH,
         given: 0,
         fails: false,
     };
     let mut output = Vec::new(alloc);
     match run_schedule(alloc, &mut core, &mut reader, &mut output) {
-        Err(ScheduleFault::TooLong) => Ok(output),
-        _ => Ok(Vec::new(alloc)),
+        Err(ScheduleFault::TooLong) => Some(output),
+        _ => None,
+    }
+}
+
+// Whether the output of the first path is written before the limit.
+fn is_written_before_the_limit(alloc: Global) -> bool {
+    match written_before_the_limit(alloc) {
+        Some(output) => output.as_slice() == FIRST_OUTPUT,
+        None => false,
     }
 }
 
 #[test]
-fn a_core_goes_on_behind_a_fault_of_the_writer(rt: HostRuntime) -> Result<(), Fail> {
-    for room in 0..WRITTEN.len() {
-        assert!(rt; goes_on_behind_the_cut(rt.alloc(), room)?);
+fn a_core_goes_on_behind_a_fault_of_the_writer(rt: HostRuntime) {
+    for room in 0..FIRST_OUTPUT.len() {
+        assert!(rt; goes_on_behind_the_cut(rt.alloc(), room));
     }
-    Ok(())
 }
 
 #[test]
-fn a_cut_line_is_not_made(rt: HostRuntime) -> Result<(), Fail> {
-    for length in 0..PATH.len() {
-        assert!(rt; makes_whole_lines(rt.alloc(), length)?);
+fn a_cut_line_is_not_made(rt: HostRuntime) {
+    for length in 0..FIRST_PATH.len() {
+        assert!(rt; makes_whole_lines(rt.alloc(), length));
     }
-    Ok(())
 }
 
 #[test]
-fn what_is_before_the_limit_is_written(rt: HostRuntime) -> Result<(), Fail> {
-    let output = written_before_the_limit(rt.alloc())?;
-    assert!(rt; output.as_slice() == WRITTEN);
-    Ok(())
+fn what_is_before_the_limit_is_written(rt: HostRuntime) {
+    assert!(rt; is_written_before_the_limit(rt.alloc()));
 }

@@ -5,9 +5,11 @@ use smi_core::{Core, LineError, ScheduleFault, Step, read_step, run_schedule};
 use std::alloc::{AllocError, Global};
 use std::io::{Error, Read, Write};
 
-const FIRST_PATH: &[u8] = b"request @1 B GO\nstart B\ngo B\ngo B\nstart L\ngo L\nstart L\n";
+/// A schedule of the lamp and its boss.
+pub const FIRST_PATH: &[u8] = b"request @1 B GO\nstart B\ngo B\ngo B\nstart L\ngo L\nstart L\n";
 
-const FIRST_OUTPUT: &[u8] =
+/// What it writes, a line for each of its lines.
+pub const FIRST_OUTPUT: &[u8] =
     b"accept @1 B 0 GO\nstart B @1 0 GO\npost B L 0 LIGHT\nend B DONE\nstart L B 0 LIGHT\nend L ON\nrefused Empty\n";
 
 // Takes one byte a call, and fails at a call.
