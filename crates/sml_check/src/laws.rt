@@ -1,7 +1,8 @@
 //! What the definition of a file's domain comes to, as contracts of functions that do nothing.
 ghost use Rattle.sml_check.specs.Laws.{NumbersAreAlike, AnswersAreAlike, StatesHaveNumbers, ActionsHaveNumbers, NumbersAreOneToOne, AddedDeadIsLast, TruthIsKept, ConditionsArePlaced};
 
-/// Two domains of one file answer every look-up alike, however their blocks are numbered.
+/// Two domains of one file answer alike every look-up of names, objects, classes, sets and programs,
+/// however their blocks are numbered and whatever stands in them behind an end.
 pub fn one_domain()
     ensures numbers { NumbersAreAlike }
     ensures answers { AnswersAreAlike }
