@@ -2,10 +2,10 @@
 ghost use Rattle.std.specs.Prelude.{◌≤◌, IfOk, length};
 
 use crate::domain_of::{FIRST, core_of};
-use crate::schedule_tests::{FIRST_OUTPUT, FIRST_PATH};
+use crate::schedule_tests::{FIRST_OUTPUT, FIRST_PATH, OneByte};
 use smi_core::{Core, ScheduleFault, run_schedule};
 use std::alloc::{AllocError, Global};
-use std::io::{Error, Read, Write};
+use std::io::{Error, Read};
 
 // A core of the first path, of whose lines each writes one line.
 fn first_core(alloc: Global) -> Option<Core> {
@@ -29,30 +29,6 @@ fn parted(text: &[u8], lines: usize) -> (&[u8], &[u8]) {
 // How many lines end in a text.
 fn line_count(text: &[u8]) -> usize {
     text.iter().filter(|byte| **byte == b'\n').count()
-}
-
-// Takes so many bytes, one a call, and then fails.
-#[derive(Drop)]
-struct Narrow {
-    taken: Vec<u8>,
-    room: usize,
-}
-
-impl Write for Narrow {
-    fn write(&mut self, buf: &[u8]) -> std::io::Result<usize> {
-        if self.taken.len() >= self.room {
-            return Err(Error::from(AllocError));
-        }
-        let [first, ..] = buf else {
-            return Ok(0);
-        };
-        self.taken.push(*first)?;
-        Ok(1)
-    }
-
-    fn flush(&mut self) -> std::io::Result<()> {
-        Ok(())
-    }
 }
 
 // Gives some bytes, one a call, and then fails or gives line feeds for ever.
@@ -107,9 +83,9 @@ fn goes_on_behind_the_cut(alloc: Global, room: usize) -> bool {
     };
     let mut core = core;
     let mut reader = FIRST_PATH;
-    let mut writer = Narrow {
+    let mut writer = OneByte {
         taken: Vec::new(alloc),
-        room,
+        good_calls: room,
     };
     let ran = run_schedule(alloc, &mut core, &mut reader, &mut writer);
     let made = line_count(writer.taken.as_slice()).saturating_add(1);

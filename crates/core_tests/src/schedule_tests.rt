@@ -12,11 +12,11 @@ pub const FIRST_PATH: &[u8] = b"request @1 B GO\nstart B\ngo B\ngo B\nstart L\ng
 pub const FIRST_OUTPUT: &[u8] =
     b"accept @1 B 0 GO\nstart B @1 0 GO\npost B L 0 LIGHT\nend B DONE\nstart L B 0 LIGHT\nend L ON\nrefused Empty\n";
 
-// Takes one byte a call, and fails at a call.
+/// Takes one byte a call, and fails at a call.
 #[derive(Drop)]
-struct OneByte {
-    taken: Vec<u8>,
-    good_calls: usize,
+pub struct OneByte {
+    pub taken: Vec<u8>,
+    pub good_calls: usize,
 }
 
 impl Write for OneByte {
