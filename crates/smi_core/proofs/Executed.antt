@@ -3,10 +3,7 @@ use Rattle.std.proofs.Common.{◌≡◌, ◌∙◌, sym, ap, subst, refl, ℕ, s
 use Rattle.std.specs.Prelude.{slice_get, All, IsSomeAnd}
 use Rattle.std.specs.Option.{option_and_then, option_map}
 use Rattle.sml_domain.specs.Domain.{Domain, Class, Param, Signature}
-use Rattle.sml_domain.specs.declared.instr.Instr.{Instr as Numbered}
-use Rattle.sml_domain.specs.declared.instr.Instr.TheVariants as numbered
-use Rattle.sml_domain.specs.declared.instr.Target.TheVariants as target
-use Rattle.sml_domain.specs.Program.{Program, Nothing, SetThen, SendThen, SendNoneThen, IfThen, EndIn, TerminateIn, ToOne, ToMembers}
+use Rattle.sml_domain.specs.Program.{ToOne, ToMembers, Instruction, Assigns, Sends, SendsToNone, Chooses, Moves, Terminates, Program, Nothing, SetThen, SendThen, SendNoneThen, IfThen, EndIn, TerminateIn}
 use Rattle.sml_domain.specs.Places.{Shows, left_at, instrs_at}
 use Rattle.sml_domain.specs.Trees.{onto, trees_of}
 use Rattle.sml_domain.specs.Fits.{ProgramFits}
@@ -27,7 +24,7 @@ use Rattle.smi_core.proofs.Ranges.{cons-nil, all_cons, all_none}
 pub executed_in_range : (d : Domain) (c : Class) (given : List Param) (p : Program) → ProgramFits d c given p → All (InstrInRange d) (executed p)
 executed_in_range d c given Nothing h = all_none (InstrInRange d)
 executed_in_range d c given (SetThen p v rest) h = all_none (InstrInRange d)
-executed_in_range d c given (SendThen (ToOne o) a args rest) h = all_cons (InstrInRange d) (Do a o) (executed rest) (h.0, h.1.0) (executed_in_range d c given rest h.2)
+executed_in_range d c given (SendThen (ToOne o) a args rest) h = all_cons (InstrInRange d) (Do a o) (executed rest) (h.0.known, h.0.targets.0) (executed_in_range d c given rest h.1)
 executed_in_range d c given (SendThen (ToMembers set) a args rest) h = all_none (InstrInRange d)
 executed_in_range d c given (SendNoneThen set rest) h = all_none (InstrInRange d)
 executed_in_range d c given (IfThen f p q rest) h = all_none (InstrInRange d)
@@ -53,33 +50,33 @@ pub block_in_range : (d : Domain) (o s a : ℕ) (block : List Instr) → IsSound
 block_in_range d o s a block g e = from_block d o s a (block_at d o s a) block g refl e
 
 -- what is left at a place, by the instruction there
-module _ (blocks : List (List Numbered)) (b : ℕ) where
+module _ (blocks : List (List Instruction)) (b : ℕ) where
   -- the first instruction of what is left is the one there
-  first_shown : (k : ℕ) (o : Option Numbered) → slice_get (instrs_at blocks b) k ≡ o → Shows blocks b k o → slice_get (executed (left_at blocks b k)) 0 ≡ option_and_then executed_one o
+  first_shown : (k : ℕ) (o : Option Instruction) → slice_get (instrs_at blocks b) k ≡ o → Shows blocks b k o → slice_get (executed (left_at blocks b k)) 0 ≡ option_and_then executed_one o
   first_shown k None e h = ap (λ p. slice_get (executed p) 0) h
-  first_shown k (Some (numbered.Set p v)) e h = ap (λ p. slice_get (executed p) 0) h
-  first_shown k (Some (numbered.Send (target.One o) a args)) e h = ap (λ p. slice_get (executed p) 0) h
-  first_shown k (Some (numbered.Send (target.Members set) a args)) e h = ap (λ p. slice_get (executed p) 0) h
-  first_shown k (Some (numbered.SendNone set)) e h = ap (λ p. slice_get (executed p) 0) h
-  first_shown k (Some (numbered.If f p q)) e h = ap (λ p. slice_get (executed p) 0) h
-  first_shown k (Some (numbered.MoveTo s)) e h = ap (λ p. slice_get (executed p) 0) h
-  first_shown k (Some (numbered.Terminate s)) e h = ap (λ p. slice_get (executed p) 0) h
+  first_shown k (Some (Assigns p v)) e h = ap (λ p. slice_get (executed p) 0) h
+  first_shown k (Some (Sends (ToOne o) a args)) e h = ap (λ p. slice_get (executed p) 0) h
+  first_shown k (Some (Sends (ToMembers set) a args)) e h = ap (λ p. slice_get (executed p) 0) h
+  first_shown k (Some (SendsToNone set)) e h = ap (λ p. slice_get (executed p) 0) h
+  first_shown k (Some (Chooses f p q)) e h = ap (λ p. slice_get (executed p) 0) h
+  first_shown k (Some (Moves s)) e h = ap (λ p. slice_get (executed p) 0) h
+  first_shown k (Some (Terminates s)) e h = ap (λ p. slice_get (executed p) 0) h
 
   no_move : (block : List Instr) (m : Move) (ms : List Move) → block ≡ [] → Begins block (m ∷ ms) → ⊥
   no_move [] m ms e h = cons-nil h.2.0
   no_move (i ∷ is) m ms e h = cc
 
   -- behind a move stands what is left one place later
-  behind : (k : ℕ) (o : Option Numbered) → Shows blocks b k o → (m : Move) (ms : List Move) → Begins (executed (left_at blocks b k)) (m ∷ ms) →
+  behind : (k : ℕ) (o : Option Instruction) → Shows blocks b k o → (m : Move) (ms : List Move) → Begins (executed (left_at blocks b k)) (m ∷ ms) →
       (a t : ℕ) × (executed (left_at blocks b k) ≡ Do a t ∷ executed (left_at blocks b (k + 1)))
   behind k None h m ms begun = absurd (no_move _ m ms (ap executed h) begun)
-  behind k (Some (numbered.Set p v)) h m ms begun = absurd (no_move _ m ms (ap executed h) begun)
-  behind k (Some (numbered.Send (target.One o) a args)) h m ms begun = (a, o, ap executed h)
-  behind k (Some (numbered.Send (target.Members set) a args)) h m ms begun = absurd (no_move _ m ms (ap executed h) begun)
-  behind k (Some (numbered.SendNone set)) h m ms begun = absurd (no_move _ m ms (ap executed h) begun)
-  behind k (Some (numbered.If f p q)) h m ms begun = absurd (no_move _ m ms (ap executed h) begun)
-  behind k (Some (numbered.Terminate s)) h m ms begun = absurd (no_move _ m ms (ap executed h) begun)
-  behind k (Some (numbered.MoveTo s)) h m ms begun = let ends = subst (λ block. Begins block (m ∷ ms)) (ap executed h) begun in absurd (cons-nil ends.2.0)
+  behind k (Some (Assigns p v)) h m ms begun = absurd (no_move _ m ms (ap executed h) begun)
+  behind k (Some (Sends (ToOne o) a args)) h m ms begun = (a, o, ap executed h)
+  behind k (Some (Sends (ToMembers set) a args)) h m ms begun = absurd (no_move _ m ms (ap executed h) begun)
+  behind k (Some (SendsToNone set)) h m ms begun = absurd (no_move _ m ms (ap executed h) begun)
+  behind k (Some (Chooses f p q)) h m ms begun = absurd (no_move _ m ms (ap executed h) begun)
+  behind k (Some (Terminates s)) h m ms begun = absurd (no_move _ m ms (ap executed h) begun)
+  behind k (Some (Moves s)) h m ms begun = let ends = subst (λ block. Begins block (m ∷ ms)) (ap executed h) begun in absurd (cons-nil ends.2.0)
 
   later : (a t : ℕ) (rest : List Instr) (m : Move) (ms : List Move) → Begins (Do a t ∷ rest) (m ∷ ms) → Begins rest ms
   later a t rest m ms h = (h.0, h.1, h.2.2)
@@ -106,7 +103,7 @@ drop_some (y ∷ ys) zero x e = ap (λ z. z ∷ ys) (same_Some y x e)
 drop_some (y ∷ ys) (suc k) x e = drop_some ys k x e
 
 -- what is left at a place begins with the instruction there
-shown : (blocks : List (List Numbered)) (b k : ℕ) (o : Option Numbered) → slice_get (instrs_at blocks b) k ≡ o → Shows blocks b k o
+shown : (blocks : List (List Instruction)) (b k : ℕ) (o : Option Instruction) → slice_get (instrs_at blocks b) k ≡ o → Shows blocks b k o
 shown blocks b k None e = ap (λ is. onto (trees_of blocks) is Nothing) (drop_none (instrs_at blocks b) k e)
 shown blocks b k (Some i) e =
     ap (λ is. onto (trees_of blocks) is Nothing) (drop_some (instrs_at blocks b) k i e ∙ ap (λ n. i ∷ drop n (instrs_at blocks b)) (sym (add-one k)))

@@ -2,10 +2,7 @@
 -- arguments to one object, and moves to a state.
 use Rattle.std.specs.Prelude.{Bool, true, false, ◌&&◌, not, List, [], ◌∷◌}
 use Rattle.std.specs.List.{list_all}
-use Rattle.sml_domain.specs.declared.instr.Instr.{Instr}
-use Rattle.sml_domain.specs.declared.instr.Instr.TheVariants.{Set, Send, SendNone, If, MoveTo, Terminate}
-use Rattle.sml_domain.specs.declared.instr.Target.{Target}
-use Rattle.sml_domain.specs.declared.instr.Target.TheVariants.{One, Members}
+use Rattle.sml_domain.specs.Program.{Target, ToOne, ToMembers, Instruction, Assigns, Sends, SendsToNone, Chooses, Moves, Terminates}
 use Rattle.sml_domain.specs.Domain.{Domain, Class, Signature}
 
 -- whether there is none of something
@@ -15,20 +12,20 @@ is_nil (x ∷ xs) = false
 
 -- whether a request is for one object
 abbrev pub is_single : Target → Bool
-is_single (One o) = true
-is_single (Members set) = false
+is_single (ToOne o) = true
+is_single (ToMembers set) = false
 
 -- whether an instruction is a request without arguments to one object, or a move to a state
-abbrev pub is_plain_instr : Instr → Bool
-is_plain_instr (Set p v) = false
-is_plain_instr (Send t a args) = is_single t && is_nil args.items
-is_plain_instr (SendNone set) = false
-is_plain_instr (If f p q) = false
-is_plain_instr (MoveTo s) = true
-is_plain_instr (Terminate s) = false
+abbrev pub is_plain_instr : Instruction → Bool
+is_plain_instr (Assigns p v) = false
+is_plain_instr (Sends t a args) = is_single t && is_nil args
+is_plain_instr (SendsToNone set) = false
+is_plain_instr (Chooses f p q) = false
+is_plain_instr (Moves s) = true
+is_plain_instr (Terminates s) = false
 
 -- whether all instructions of a block are such
-abbrev pub is_plain_block : List Instr → Bool
+abbrev pub is_plain_block : List Instruction → Bool
 is_plain_block block = list_all is_plain_instr block
 
 -- whether an action has no parameters

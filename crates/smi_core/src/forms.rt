@@ -2,6 +2,7 @@
 ghost use Rattle.std.specs.Prelude.{◌≡◌, map};
 ghost use Rattle.std.specs.List.{list_all};
 ghost use Rattle.sml_domain.specs.Domain.{block_items};
+ghost use Rattle.sml_domain.specs.Trees as trees;
 ghost use Rattle.smi_core.specs.Forms as forms;
 
 use sml_domain::domain::Domain;
@@ -10,7 +11,7 @@ use sml_domain::rows::{Class, Signature};
 
 // Whether a request is for one object.
 fn is_single(target: Target) -> bool
-    ensures { result ≡ forms.is_single target }
+    ensures { result ≡ forms.is_single (trees.target target) }
 {
     match target {
         Target::One(_) => true,
@@ -20,7 +21,7 @@ fn is_single(target: Target) -> bool
 
 // Whether an instruction is a request without arguments to one object, or a move to a state.
 fn is_plain_instr(instr: &Instr) -> bool
-    ensures { result ≡ forms.is_plain_instr instr.now }
+    ensures { result ≡ forms.is_plain_instr (trees.instruction instr.now) }
 {
     match instr {
         Instr::Send { target, args, .. } => is_single(*target) && args.is_empty(),
@@ -32,9 +33,14 @@ fn is_plain_instr(instr: &Instr) -> bool
 
 // Whether all instructions of a block are such.
 fn is_plain_block(block: &[Instr]) -> bool
-    ensures { result ≡ forms.is_plain_block block.now }
+    ensures { result ≡ forms.is_plain_block (map trees.instruction block.now) }
 {
-    block.iter().all(|instr| is_plain_instr(instr))
+    for instr in block {
+        if !is_plain_instr(instr) {
+            return false;
+        }
+    }
+    true
 }
 
 // Whether all blocks are such.

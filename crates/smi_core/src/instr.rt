@@ -1,6 +1,7 @@
 //! The instructions of the forms that are executed.
 
 ghost use Rattle.std.specs.Prelude.{◌≡◌};
+ghost use Rattle.sml_domain.specs.Trees as trees;
 ghost use Rattle.smi_core.specs.Executed.{executed_at, executed_one, request_to};
 
 use sml_domain::domain::Domain;
@@ -18,7 +19,7 @@ pub enum Instr {
 
 // A request of an action, if it is to one object.
 fn request_to(action: ActionId, target: Target) -> Option<Instr>
-    ensures { result ≡ request_to action target }
+    ensures { result ≡ request_to action (trees.target target) }
 {
     match target {
         Target::One(target) => Some(Instr::Do { action, target }),
@@ -28,7 +29,7 @@ fn request_to(action: ActionId, target: Target) -> Option<Instr>
 
 // An instruction, if it is of a form that is executed.
 fn executed_one(instr: &Numbered) -> Option<Instr>
-    ensures { result ≡ executed_one instr.now }
+    ensures { result ≡ executed_one (trees.instruction instr.now) }
 {
     match instr {
         Numbered::Send { target, action, .. } => request_to(*action, *target),

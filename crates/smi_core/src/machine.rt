@@ -44,13 +44,13 @@ pub struct Core {
 impl Model for Core {
     ghost use Rattle.std.specs.Arc.{arc_value};
     ghost use Rattle.std.specs.Coded.{codes};
-    ghost use Rattle.sml_domain.specs.contracts.instr.Cond as cond;
+    ghost use Rattle.sml_domain.specs.Codes.{formula_code};
     ghost use Rattle.smi_core.specs.World.{Machine};
     ghost use Rattle.smi_core.specs.Good.{IsGood};
 
     ghost Value = { Machine };
 
-    ghost coded = { Prim.hlevel (codes, cond.the_row.coded) };
+    ghost coded = { Prim.hlevel (codes, formula_code) };
 
     ghost view = { λ c. record {
       setup = record { domain = arc_value c.domain; capacity = c.capacity; max_starts = c.max_starts };

@@ -1,31 +1,37 @@
 -- The numbers and parameters of a class of a file's domain.
-use Rattle.std.proofs.Common.{◌≡◌, ◌∙◌, sym, ap, refl, subst, ℕ, ◌<◌, ◌==◌, Bool, true, ◌||◌, List, [], ◌∷◌, ◌++◌, length, map, Option, None, Some, option_map, All, arith, eq-eqb, if◌then◌else◌}
-use Rattle.std.specs.Prelude.{IfSome, IsSomeAnd}
+use Rattle.std.proofs.Common.{◌≡◌, ◌∙◌, sym, ap, refl, subst, ℕ, ◌<◌, ◌==◌, Bool, true, false, cond, ◌||◌, List, [], ◌∷◌, ◌++◌, length, map, Option, None, Some, is_some, option_map, All, arith, eq-eqb, if◌then◌else◌}
+use Rattle.std.specs.Prelude.{IfSome, IsSomeAnd, find}
+use Rattle.std.specs.Option.{option_and_then}
+use Rattle.std.proofs.lemmas.Option.{none-some, same_Some}
+use Rattle.std.proofs.lemmas.Bool.{eqb-true}
 use Rattle.std.specs.List.{Contains, list_any}
 use Rattle.std.proofs.lemmas.Simd.{map-map}
 use Rattle.std.proofs.lemmas.List.Elements.{All-map, Contains-append_left, Contains-append_right}
 use Rattle.sml_tree.specs.Syntax.{LiteralData, int, str, ItemData, class, ClassData, StateData, ActionData, ClassParamData, ActionParamData}
-use Rattle.sml_faults.specs.Lookup.{dead_name, adds_dead, actions, action_named, is_action}
+use Rattle.sml_faults.specs.Lookup.{dead_name, adds_dead, actions, actions_of, action_named, is_action}
 use Rattle.sml_faults.specs.Faults as faults
-use Rattle.sml_faults.specs.Inside.{HasAction}
+use Rattle.sml_faults.specs.Inside.{StandsBefore, HasAction}
 use Rattle.sml_faults.specs.ValueLaws.{CanBeIn}
 use Rattle.sml_faults.specs.Sound.{IsSound}
-use Rattle.sml_faults.proofs.Pairs.{any_at, found_any, contains_here, same_names}
-use Rattle.sml_faults.proofs.Named.{found_is}
-use Rattle.sml_domain.specs.Domain.{Domain, Class}
+use Rattle.sml_faults.proofs.Pairs.{any_at, found_any, contains_here, contains_one, contains_split, same_names}
+use Rattle.sml_faults.proofs.Named.{finds, found_is}
+use Rattle.sml_domain.specs.Domain.{Domain, Class, State}
 use Rattle.sml_domain.specs.Names.{AreDistinct, distinct}
 use Rattle.sml_domain.specs.Values.{kind_of, value_of}
-use Rattle.sml_domain.specs.Lookups.{has_state, numbers_state}
+use Rattle.sml_domain.specs.Lookups.{state_in, has_state, numbers_state, action_in, numbers_action, block_number, block_in}
 use Rattle.sml_domain.specs.Program.{Program}
 use Rattle.sml_domain.specs.Trees.{trees_of}
-use Rattle.sml_domain.specs.Sound.{IsOfKind, ParamFits, ClassParamFits, SignatureFits, name_of_param}
-use Rattle.sml_check.specs.Numbers.{Names, names_of, names_of_actions, number}
-use Rattle.sml_check.specs.Rows.{StateRow, ClassRow, state_row, state_shown, class_row, class_shown, added_state, bare_state, class_param_row, action_param_row, params_where, signature_row, number_where, initial_name}
+use Rattle.sml_domain.specs.Sound.{IsOfKind, ParamFits, ClassParamFits, SignatureFits, declares_in, IsDeclared, name_of_param}
+use Rattle.sml_domain.proofs.Finds.{find_map}
+use Rattle.sml_check.specs.Numbers.{Names, names_of, action_name, names_of_actions, number}
+use Rattle.sml_check.specs.Rows.{ActionRow, StateRow, ClassRow, action_row, action_shown, state_row, state_shown, class_row, class_shown, added_state, bare_state, class_param_row, action_param_row, params_where, signature_row, number_where, initial_name}
 use Rattle.sml_check.specs.FileDomain.{IsDomainOf}
+use Rattle.sml_check.proofs.Alike.{some_map}
 use Rattle.sml_check.proofs.Numbered.{contains_map, distinct_from, all_from}
-use Rattle.sml_check.proofs.Apart.{apart_map}
+use Rattle.sml_check.proofs.Apart.{apart_map, contains_unmap}
 use Rattle.sml_check.proofs.States.{can_be, initial_is, last_is}
-use Rattle.sml_check.proofs.PlacedFiles.{named_action}
+use Rattle.sml_check.proofs.PlacedFiles.{named_action, state_number}
+use Rattle.sml_check.proofs.ObjectRows.{one_name}
 use Rattle.sml_check.proofs.Ranges.{number_within}
 
 pub kinds_same : (l : LiteralData) → kind_of (value_of l) ≡ faults.kind_of l
@@ -41,6 +47,31 @@ has_row : (known : List Program) (x : Class) (rows : List StateRow) (r : StateRo
 has_row known x rows r k e at same =
     found_any (numbers_state k) x.states ∙ sym (any_map (state_shown known) (λ s. s.number == k) x.states) ∙ ap (list_any (λ s. s.number == k)) e
     ∙ any_at (λ s. s.number == k) rows r at (eq-eqb r.number k same)
+
+-- a state declares the action of a row of it
+has_block : (known : List Program) (z : State) (rows : List ActionRow) (r : ActionRow) (k : ℕ) → map (action_shown known) z.actions ≡ rows → Contains rows r → r.number ≡ k → is_some (block_in k z) ≡ true
+has_block known z rows r k e at same =
+    some_map block_number (action_in k z) ∙ found_any (numbers_action k) z.actions ∙ sym (any_map (action_shown known) (λ (y : ActionRow). y.number == k) z.actions)
+    ∙ ap (list_any (λ (y : ActionRow). y.number == k)) e ∙ any_at (λ (y : ActionRow). y.number == k) rows r at (eq-eqb r.number k same)
+
+-- what is found in the first of two lists
+find_first : {X : Type 0} (p : X → Bool) (xs ys : List X) (x : X) → find p xs ≡ Some x → find p (xs ++ ys) ≡ Some x
+find_first p [] ys x e = absurd (none-some x e)
+find_first {X} p (z ∷ xs) ys x e = by (p z) e (find_first p xs ys x)
+  where
+    by : (b : Bool) → cond b (Some z) (find p xs) ≡ Some x → (find p xs ≡ Some x → find p (xs ++ ys) ≡ Some x) → cond b (Some z) (find p (xs ++ ys)) ≡ Some x
+    by true e next = e
+    by false e next = next e
+
+stands_in : {X : Type 0} (x y : X) (xs : List X) → StandsBefore x y xs → Contains xs x
+stands_in x y xs s = contains_split xs x (record { before = s.before; after = s.between ++ y ∷ s.after; is = s.is })
+
+other_number : (j k : ℕ) → (j ≡ k → ⊥) → (j == k) ≡ false
+other_number j k other = by (j == k) refl
+  where
+    by : (b : Bool) → (j == k) ≡ b → b ≡ false
+    by true e = absurd (other (eqb-true j k e))
+    by false e = refl
 
 module _ (file : List ItemData) (d : Domain) (is : IsDomainOf file d) (ok : IsSound file) (c : ClassData) (at : Contains file (class c)) (x : Class) (e : class_shown (trees_of d.blocks) x ≡ class_row (names_of file) c) where
   abbrev n : Names
@@ -129,3 +160,45 @@ module _ (file : List ItemData) (d : Domain) (is : IsDomainOf file d) (ok : IsSo
   signatures_fit =
       subst (All (SignatureFits d)) (sym (ap (λ (r : ClassRow). r.signatures) e))
       (All-map (SignatureFits d) (signature_row n c) (distinct (names_of_actions c)) (all_from (λ y. SignatureFits d (signature_row n c y)) (distinct (names_of_actions c)) signature_fits))
+
+  -- ---- actions
+
+  -- a state before another has another number
+  before_other : (u t : StateData) → Contains c.states t → StandsBefore u t c.states → (number n.states u.name == number n.states t.name) ≡ false
+  before_other u t t_at before =
+      other_number (number n.states u.name) (number n.states t.name)
+      (λ same. ok.different.states c at u t before
+      (one_name n.states u.name t.name (state_number file c at u (stands_in u t c.states before)) (state_number file c at t t_at) same))
+
+  -- the state by the number of its name
+  state_there : (t : StateData) → Contains c.states t → option_map (state_shown (trees_of d.blocks)) (state_in (number n.states t.name) x) ≡ Some (state_row n c t)
+  state_there t t_at =
+      let k : ℕ = number n.states t.name in
+      let is_it : StateRow → Bool = λ r. r.number == k in
+      sym (find_map (state_shown (trees_of d.blocks)) is_it x.states) ∙ ap (find is_it) own_states
+      ∙ find_first is_it (map (state_row n c) c.states) (added_state n c) (state_row n c t)
+      (find_map (state_row n c) is_it c.states
+      ∙ ap (option_map (state_row n c)) (finds (λ (u : StateData). number n.states u.name == k) c.states t t_at (eq-eqb k k refl) (λ u before. before_other u t t_at before)))
+
+  of_state : (t : StateData) (a : ActionData) → Contains t.actions a → (o : Option State) → option_map (state_shown (trees_of d.blocks)) o ≡ Some (state_row n c t) →
+      is_some (option_and_then (block_in (number n.actions a.name)) o) ≡ true
+  of_state t a a_at None is_row = absurd (none-some (state_row n c t) is_row)
+  of_state t a a_at (Some z) is_row =
+      has_block (trees_of d.blocks) z (map (action_row n c) t.actions) (action_row n c a) (number n.actions a.name)
+      (ap (λ (r : StateRow). r.actions) (same_Some (state_shown (trees_of d.blocks) z) (state_row n c t) is_row)) (contains_map (action_row n c) t.actions a a_at) refl
+
+  -- an action is declared in the state that has it
+  in_some : (a : ActionData) → Contains (actions c) a → (s : ℕ) × (declares_in x (number n.actions a.name) s ≡ true)
+  in_some a a_at =
+      let t = contains_one actions_of c.states a a_at in (number n.states t.0.name, of_state t.0 a t.2 (state_in (number n.states t.0.name) x) (state_there t.0 t.1))
+
+  is_declared : (y : List ℕ) → Contains (distinct (names_of_actions c)) y → IsDeclared x (signature_row n c y)
+  is_declared y in_it =
+      let one = distinct_from (names_of_actions c) y in_it in
+      let a = contains_unmap action_name (actions c) one.0 one.1 in
+      subst (λ z. (s : ℕ) × (declares_in x (number n.actions z) s ≡ true)) (a.2 ∙ sym (same_names y one.0 one.2)) (in_some a.0 a.1)
+
+  pub signatures_declared : All (IsDeclared x) x.signatures
+  signatures_declared =
+      subst (All (IsDeclared x)) (sym (ap (λ (r : ClassRow). r.signatures) e))
+      (All-map (IsDeclared x) (signature_row n c) (distinct (names_of_actions c)) (all_from (λ y. IsDeclared x (signature_row n c y)) (distinct (names_of_actions c)) is_declared))

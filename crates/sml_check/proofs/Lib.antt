@@ -1,10 +1,10 @@
-pub mod Flats
+pub mod Layouts
+pub mod LaidFiles
 pub mod Gathered
 pub mod Elements
 pub mod Foldings
 pub mod Founds
 pub mod Said
-pub mod Shown
 pub mod Numbered
 pub mod Signing
 pub mod PlacedBlocks

@@ -1,31 +1,34 @@
--- The programs of a file's domain fit their classes.
+-- The programs of a file's domain fit their classes, and none asks an object of its class.
 use Rattle.std.proofs.Common.{◌≡◌, ◌∙◌, sym, ap, refl, subst, ℕ, ◌<◌, Bool, true, false, List, [], ◌∷◌, ◌++◌, length, map, Option, None, Some, is_some, All, arith}
-use Rattle.std.specs.Prelude.{option_to_list}
+use Rattle.std.specs.Prelude.{◌≢◌, option_to_list}
 use Rattle.std.specs.List.{Contains}
 use Rattle.std.proofs.lemmas.List.Elements.{Contains-append_left, Contains-append_right}
 use Rattle.sml_tree.specs.declared.cond.Scope.{Scope}
 use Rattle.sml_tree.specs.declared.cond.Scope.TheVariants.{One, All as AllOf, Any}
-use Rattle.sml_tree.specs.Syntax.{ArgData, SendData, CondData, both, either, neither, test, InstrData, send, choose, assign, move_to, terminate, BlockData, done, step, ItemData, class, ClassData, ActionData}
+use Rattle.sml_tree.specs.Syntax.{ArgData, SendData, CondData, both, either, neither, test, TestData, InstrData, send, choose, assign, move_to, terminate, BlockData, done, step, ItemData, class, object, ClassData, ObjectData, ActionData}
 use Rattle.sml_faults.specs.Sites.{Site, asks, tests, sets, ends, cond_sites, instr_sites, block_sites}
 use Rattle.sml_faults.specs.Lookup.{of_set}
-use Rattle.sml_faults.specs.Inside.{HasAction, HasSite, Declares, SpeaksOf}
+use Rattle.sml_faults.specs.Inside.{HasAction, HasSite, DeclaresObject, DeclaresSet, Declares, SpeaksOf}
 use Rattle.sml_faults.specs.Sound.{IsSound}
 use Rattle.sml_faults.proofs.Pairs.{contains_here, contains_one, not_false}
 use Rattle.sml_domain.specs.Domain.{Domain, Class, Param}
 use Rattle.sml_domain.specs.Program.{Program}
-use Rattle.sml_domain.specs.Fits.{kind_at, HasKindOf, SendFits, AskedFits, IsStateName, FormulaFits, ProgramFits}
+use Rattle.sml_domain.specs.Fits.{kind_at, HasKindOf, DoFits, AskedFits, IsStateName, FormulaFits, ProgramFits}
 use Rattle.sml_domain.specs.Lookups.{members_at}
+use Rattle.sml_domain.specs.Asking.{asked_of, FormulaSpares, ProgramSpares}
 use Rattle.sml_domain.specs.Trees.{trees_of}
 use Rattle.sml_check.specs.Numbers.{Names, names_of, place, place_or, number}
 use Rattle.sml_check.specs.Programs.{class_place, operand, argument, asked, number_list, state_numbers, formula, target, request, instr_then, program}
 use Rattle.sml_check.specs.Rows.{class_row, class_shown, class_param_row, action_param_row}
 use Rattle.sml_check.specs.FileDomain.{IsDomainOf}
 use Rattle.sml_check.proofs.Numbered.{all_from}
-use Rattle.sml_check.proofs.Apart.{only}
+use Rattle.sml_check.proofs.Apart.{only, contains_unmap}
+use Rattle.sml_check.proofs.PlacedFiles.{object_number}
+use Rattle.sml_check.proofs.ObjectRows.{one_name}
 use Rattle.sml_check.proofs.Places.{own_kind, value_kind}
 use Rattle.sml_check.proofs.Ranges.{number_within}
 use Rattle.sml_check.proofs.ClassRanges.{own_params, end_is}
-use Rattle.sml_check.proofs.RequestRanges.{has_number, send_fits, members_there, object_within, group_within}
+use Rattle.sml_check.proofs.RequestRanges.{has_number, do_fits, members_there, object_within, group_within}
 
 none_mapped : {X Y : Type 0} (f : X → Y) (xs : List X) → ((x : X) → Contains xs x → ⊥) → map f xs ≡ []
 none_mapped f [] none = refl
@@ -90,10 +93,9 @@ module _ (file : List ItemData) (d : Domain) (is : IsDomainOf file d) (ok : IsSo
   request_then s site None none rest fits = let no = no_targets s site none s.all refl (ok.targets_are_declared c a s site) in (no.0, no.1, fits)
   request_then s site (Some k) found rest fits =
       let same : number n.actions s.action ≡ k = ap place_or found in (
-        subst (λ ns. k < length ns) (sym is.actions) (subst (λ i. i < length n.actions) same (number_within n.actions s.action (ap is_some found))),
-        subst (λ i. SendFits d x.params given i (map (argument c a) s.args) (target n s.all s.target)) same
-            (subst (λ ps. SendFits d ps given (number n.actions s.action) (map (argument c a) s.args) (target n s.all s.target)) (sym (own_params file d is ok c at x e))
-            (send_fits file d is ok c at a has s site s.all refl (ok.targets_are_declared c a s site))),
+        subst (λ i. DoFits d x.params given i (map (argument c a) s.args) (target n s.all s.target)) same
+            (subst (λ ps. DoFits d ps given (number n.actions s.action) (map (argument c a) s.args) (target n s.all s.target)) (sym (own_params file d is ok c at x e))
+            (do_fits file d is ok c at a has s site (ap is_some found))),
         fits,
       )
 
@@ -122,3 +124,61 @@ module _ (file : List ItemData) (d : Domain) (is : IsDomainOf file d) (ok : IsSo
   -- the program of an action
   pub program_fits : ProgramFits d x given (program n c a a.body)
   program_fits = block_fits a.body (λ s s_at. record { class_in = at; action_in = has.action_in; site_in = s_at })
+
+  -- ---- an object of the class, which no condition asks
+
+  module _ (o : ObjectData) (o_at : Contains file (object o)) (named : c.name ≡ o.class) where
+    abbrev itself : ℕ
+    itself = number n.objects o.name
+
+    abbrev Spares : Program → Type 0
+    Spares p = ProgramSpares (members_at d) itself p
+
+    -- an object that a test speaks of has another number
+    other : (t : TestData) → HasSite file c a (tests t) → (y : List ℕ) → SpeaksOf file (of_set t.scope) t.name y → DeclaresObject file y → number n.objects y ≢ itself
+    other t site y spoken p same =
+        let is_own : y ≡ o.name = one_name n.objects y o.name (object_number file y p) (object_number file o.name (o, o_at, refl)) same in
+        ok.tests_ask_others c a t site y spoken c (record { declared = o; object_in = o_at; object_name = sym is_own; class_in = at; class_name = named }) refl
+
+    one_spares : (t : TestData) → HasSite file c a (tests t) → of_set t.scope ≡ false → DeclaresObject file t.name → ¬ Contains (number n.objects t.name ∷ []) itself
+    one_spares t site one p asks_it =
+        other t site t.name (subst (λ b. SpeaksOf file b t.name t.name) (sym one) refl) p (only (number n.objects t.name) itself asks_it)
+
+    set_spares : (t : TestData) → HasSite file c a (tests t) → of_set t.scope ≡ true → (g : DeclaresSet file t.name) → ¬ Contains (members_at d (number n.groups t.name)) itself
+    set_spares t site set g asks_it =
+        let m = contains_unmap (number n.objects) g.0.members itself (subst (λ ms. Contains ms itself) (members_there file d is ok c at a has t.name g) asks_it) in
+        other t site m.0 (subst (λ b. SpeaksOf file b t.name m.0) (sym set) (g.0, g.1, g.2, m.1)) (ok.members_are_objects g.0 g.1 m.0 m.1) m.2
+
+    test_spares : (t : TestData) → HasSite file c a (tests t) → (scope : Scope) → of_set t.scope ≡ of_set scope → Declares file (of_set scope) t.name →
+        ¬ Contains (asked_of (members_at d) (asked n scope t.name)) itself
+    test_spares t site One is_one p = one_spares t site is_one p
+    test_spares t site AllOf is_set g = set_spares t site is_set g
+    test_spares t site Any is_set g = set_spares t site is_set g
+
+    formula_spares : (f : CondData) → AreHere (cond_sites f) → FormulaSpares (members_at d) itself (formula n f)
+    formula_spares (both f g) each = (formula_spares f (left (cond_sites f) (cond_sites g) each), formula_spares g (right (cond_sites f) (cond_sites g) each))
+    formula_spares (either f g) each = (formula_spares f (left (cond_sites f) (cond_sites g) each), formula_spares g (right (cond_sites f) (cond_sites g) each))
+    formula_spares (neither f) each = formula_spares f each
+    formula_spares (test t) each = let site = each (tests t) (contains_here (tests t) []) in test_spares t site t.scope refl (ok.tests_are_declared c a t site)
+
+    request_spares : (s : SendData) (k : Option ℕ) (rest : Program) → Spares rest → Spares (request n c a s k rest)
+    request_spares s None rest spares = spares
+    request_spares s (Some k) rest spares = spares
+
+    mutual
+      instr_spares : (i : InstrData) → AreHere (instr_sites i) → (rest : Program) → Spares rest → Spares (instr_then n c a i rest)
+      instr_spares (send s) each rest spares = request_spares s (place n.actions s.action) rest spares
+      instr_spares (choose f p q) each rest spares =
+          let blocks = right (cond_sites f) (block_sites p ++ block_sites q) each in
+          (formula_spares f (left (cond_sites f) (block_sites p ++ block_sites q) each), block_spares p (left (block_sites p) (block_sites q) blocks), block_spares q (right (block_sites p) (block_sites q) blocks), spares)
+      instr_spares (assign y v) each rest spares = spares
+      instr_spares (move_to s) each rest spares = tt
+      instr_spares (terminate s) each rest spares = tt
+
+      block_spares : (b : BlockData) → AreHere (block_sites b) → Spares (program n c a b)
+      block_spares done each = tt
+      block_spares (step i rest) each = instr_spares i (left (instr_sites i) (block_sites rest) each) (program n c a rest) (block_spares rest (right (instr_sites i) (block_sites rest) each))
+
+    -- no condition of the program of an action asks it
+    pub program_spares : Spares (program n c a a.body)
+    program_spares = block_spares a.body (λ s s_at. record { class_in = at; action_in = has.action_in; site_in = s_at })

@@ -13,10 +13,10 @@ use Rattle.sml_domain.specs.Domain.{Domain}
 use Rattle.sml_domain.specs.Names.{same_name, AreDistinct}
 use Rattle.sml_domain.specs.Lookups.{name_of_object}
 use Rattle.sml_domain.specs.Trees.{trees_of}
-use Rattle.sml_domain.specs.Sound.{IsObject, ObjectFits, GroupFits, HaveOneNumber}
+use Rattle.sml_domain.specs.Sound.{IsObject, ObjectFits, GroupFits, HaveOneNumber, name_of_class, name_of_group}
 use Rattle.sml_check.specs.Numbers.{Names, class_list, object_list, group_list, classes_in, objects_in, groups_in, class_name, object_name, group_name, names_of_states, names_of_actions, added_names, names_of, place_or, number}
 use Rattle.sml_check.specs.Placed.{HasNumber}
-use Rattle.sml_check.specs.Rows.{class_row, class_shown, object_row, group_row}
+use Rattle.sml_check.specs.Rows.{ClassRow, class_row, class_shown, object_row, group_row}
 use Rattle.sml_check.specs.FileDomain.{IsDomainOf}
 use Rattle.sml_check.proofs.Numbered.{all_from}
 use Rattle.sml_check.proofs.Apart.{only, distinct_apart, apart_flat}
@@ -133,9 +133,19 @@ module _ (file : List ItemData) (d : Domain) (is : IsDomainOf file d) (ok : IsSo
   pub classes_apart : AreDistinct (map class_name (classes_in file))
   classes_apart = apart_flat class_name class_list file one_class two_classes
 
+  abbrev name_of_row : ClassRow → List ℕ
+  name_of_row r = r.name
+
+  -- the classes of the domain have the names that the file gives them
+  class_names : map name_of_class d.classes ≡ map class_name (classes_in file)
+  class_names =
+      sym (map-map name_of_row (class_shown (trees_of d.blocks)) d.classes) ∙ ap (map name_of_row) is.classes ∙ map-map name_of_row (class_row names) (classes_in file)
+
   pub one_number : HaveOneNumber d
   one_number = record {
     objects = subst AreDistinct (sym (ap (map name_of_object) is.objects ∙ map-map name_of_object (object_row names) (objects_in file))) objects_apart;
+    classes = subst AreDistinct (sym class_names) classes_apart;
+    groups = subst AreDistinct (sym (ap (map name_of_group) is.groups ∙ map-map name_of_group (group_row names) (groups_in file))) groups_apart;
     states = subst AreDistinct (sym is.states) (distinct_apart (flat_map names_of_states (classes_in file) ++ added_names (classes_in file)));
     actions = subst AreDistinct (sym is.actions) (distinct_apart (flat_map names_of_actions (classes_in file)));
   }

@@ -4,8 +4,9 @@ use Rattle.std.specs.Prelude.{slice_get, IsSomeAnd}
 use Rattle.std.proofs.Common.{inl, inr}
 use Rattle.std.specs.List.{Contains, list_any}
 use Rattle.std.specs.Option.{option_map_or}
+use Rattle.std.proofs.lemmas.Simd.{map-map}
 use Rattle.std.proofs.lemmas.List.Elements.{All-map}
-use Rattle.sml_tree.specs.Syntax.{SendData, ItemData, class, group, ClassData, ActionData, ActionParamData}
+use Rattle.sml_tree.specs.Syntax.{PassedData, SendData, ItemData, class, group, ClassData, ActionData, ActionParamData}
 use Rattle.sml_faults.specs.Sites.{asks}
 use Rattle.sml_faults.specs.Lookup.{actions, is_action, is_action_param}
 use Rattle.sml_faults.specs.Inside.{HasAction, HasSite, DeclaresObject, DeclaresSet, Declares, SpeaksOf, Sends, AsksFor}
@@ -14,16 +15,19 @@ use Rattle.sml_faults.specs.Sound.{IsSound}
 use Rattle.sml_faults.proofs.Pairs.{any_at, named_same, not_named, same_names, or_true, contains_all, contains_here}
 use Rattle.sml_faults.proofs.Named.{finds, found_there, Found}
 use Rattle.sml_domain.specs.Domain.{Domain, Param}
-use Rattle.sml_domain.specs.Fits.{param_kind, kind_named, names_param, names_argument, ArgumentFits, ArgumentsFit, IsGiven, RequestFits, SendFits}
+use Rattle.sml_domain.specs.Names.{AreDistinct}
+use Rattle.sml_domain.specs.Fits.{param_kind, kind_named, names_param, names_argument, ArgumentFits, ArgumentsFit, IsGiven, RequestFits, SendFits, name_of_argument, ArgumentHasKind, DoFits}
 use Rattle.sml_domain.specs.Lookups.{params_at, members_at, members_of_group}
 use Rattle.sml_domain.specs.Values.{value_of}
 use Rattle.sml_domain.proofs.Finds.{find_map}
 use Rattle.sml_check.specs.Numbers.{Names, names_of, names_of_actions, action_name, group_name, group_list, groups_in, place, number}
 use Rattle.sml_check.specs.Programs.{argument, target}
+use Rattle.sml_check.specs.Placed.{HasNumber}
 use Rattle.sml_check.specs.Rows.{class_param_row, action_param_row, action_param_rows, params_where, group_row}
 use Rattle.sml_check.specs.FileDomain.{IsDomainOf}
 use Rattle.sml_check.proofs.Alike.{got_map, some_map}
 use Rattle.sml_check.proofs.Numbered.{contains_map, all_from}
+use Rattle.sml_check.proofs.Apart.{apart_map}
 use Rattle.sml_check.proofs.Places.{value_kind}
 use Rattle.sml_check.proofs.ObjectRows.{params_there, stands_there}
 use Rattle.sml_check.proofs.PlacedFiles.{object_number, group_number, action_number}
@@ -53,6 +57,18 @@ module _ (file : List ItemData) (d : Domain) (is : IsDomainOf file d) (ok : IsSo
   given_by s p (inr q) =
       ap (λ b. b || is_some (option_map value_of p.default))
       (any_at (names_argument p.name) (map (argument c a) s.args) (argument c a q.0) (contains_map (argument c a) s.args q.0 q.1) (named_same p.name q.0.name (sym q.2)))
+
+  -- no two of one request have one name
+  arguments_apart : (s : SendData) → HasSite file c a (asks s) → AreDistinct (map name_of_argument (map (argument c a) s.args))
+  arguments_apart s site =
+      subst AreDistinct (sym (map-map name_of_argument (argument c a) s.args)) (apart_map (λ (q : PassedData). q.name) s.args (ok.different.arguments c a s site))
+
+  -- each has a kind, even where the request is sent to none
+  arguments_have_kinds : (s : SendData) → HasSite file c a (asks s) → All (ArgumentHasKind own given) (map (argument c a) s.args)
+  arguments_have_kinds s site =
+      All-map (ArgumentHasKind own given) (argument c a) s.args
+      (all_from (λ q. ArgumentHasKind own given (argument c a q)) s.args
+      (λ q q_at. let k = ok.arguments_have_kinds c a s site q q_at in ap is_some (value_kind file ok c at a has q.value k.0 k.1)))
 
   -- ---- those that are asked
 
@@ -108,7 +124,7 @@ module _ (file : List ItemData) (d : Domain) (is : IsDomainOf file d) (ok : IsSo
   pub group_within : (x : List ℕ) → DeclaresSet file x → number n.groups x < length d.groups
   group_within x g = subst (λ k. number n.groups x < k) (group_count file d is ok) (number_within n.groups x (group_number file x g))
 
-  pub send_fits : (s : SendData) → HasSite file c a (asks s) → (all : Bool) → s.all ≡ all → Declares file all s.target →
+  send_fits : (s : SendData) → HasSite file c a (asks s) → (all : Bool) → s.all ≡ all → Declares file all s.target →
       SendFits d own given (number n.actions s.action) (map (argument c a) s.args) (target n all s.target)
   send_fits s site false e o = (object_within s.target o, request_fits s site s.target (subst (λ b. SpeaksOf file b s.target s.target) (sym e) refl) o)
   send_fits s site true e g = (
@@ -118,3 +134,13 @@ module _ (file : List ItemData) (d : Domain) (is : IsDomainOf file d) (ok : IsSo
         (all_from (λ t. RequestFits d own given (number n.actions s.action) (map (argument c a) s.args) (number n.objects t)) g.0.members
         (λ t t_at. request_fits s site t (subst (λ b. SpeaksOf file b s.target t) (sym e) (g.0, g.1, g.2, t_at)) (ok.members_are_objects g.0 g.1 t t_at)))),
   )
+
+  -- a request whose action has a number
+  pub do_fits : (s : SendData) → HasSite file c a (asks s) → HasNumber n.actions s.action →
+      DoFits d own given (number n.actions s.action) (map (argument c a) s.args) (target n s.all s.target)
+  do_fits s site numbered = record {
+    known = subst (λ names. number n.actions s.action < length names) (sym is.actions) (number_within n.actions s.action numbered);
+    apart = arguments_apart s site;
+    kinds = arguments_have_kinds s site;
+    targets = send_fits s site s.all refl (ok.targets_are_declared c a s site);
+  }

@@ -1,16 +1,13 @@
 //! The domain of the items of a file.
-ghost use Rattle.std.specs.Prelude.{◌≡◌, IfOk, length, map};
-ghost use Rattle.std.specs.List.{AllByRecursion};
+ghost use Rattle.std.specs.Prelude.{◌≡◌, ◌++◌, IfOk, OnOk, length, map};
 ghost use Rattle.sml_tree.specs.Content.{item_content};
 ghost use Rattle.sml_faults.specs.Kinds.{IsWellFormed};
 ghost use Rattle.sml_check.specs.Texts.{HasTexts};
-ghost use Rattle.sml_domain.specs.Places.{AreOrdered};
-ghost use Rattle.sml_domain.specs.Trees.{trees_of};
 ghost use Rattle.sml_check.specs.Numbers.{classes_in, objects_in, groups_in};
 ghost use Rattle.sml_check.specs.Placed.{FilePlaced};
-ghost use Rattle.sml_check.specs.Grown.{ClassThere};
 ghost use Rattle.sml_check.specs.Rows as rows;
-ghost use Rattle.sml_check.specs.FileDomain.{IsDomainOf, AreInPlace};
+ghost use Rattle.sml_check.specs.Layout.{rows_from, blocks_from, class_laid, class_blocks, blocks_of_class};
+ghost use Rattle.sml_check.specs.FileDomain.{IsDomainOf};
 
 use crate::blocks::Blocks;
 use crate::classes::class_rows;
@@ -38,12 +35,12 @@ pub struct Parts {
 impl Model for Parts {
     ghost use Rattle.std.specs.Prelude.{map};
     ghost use Rattle.std.specs.Coded.{codes};
-    ghost use Rattle.sml_domain.specs.contracts.instr.Cond as cond;
+    ghost use Rattle.sml_domain.specs.Codes.{formula_code};
     ghost use Rattle.sml_domain.specs.Domain as plain;
 
     ghost Value = { plain.Domain };
 
-    ghost coded = { Prim.hlevel (codes, cond.the_row.coded) };
+    ghost coded = { Prim.hlevel (codes, formula_code) };
 
     ghost view = { λ d. record {
       objects = d.objects.items;
@@ -73,8 +70,8 @@ fn all_rows<A: Allocator + Clone>(
     requires { FilePlaced names.now (map item_content items.now) }
     ensures objects { IfOk result (λ d. d.objects.items ≡ map (rows.object_row names.now) (objects_in (map item_content items.now))) }
     ensures groups { IfOk result (λ d. d.groups.items ≡ map (rows.group_row names.now) (groups_in (map item_content items.now))) }
-    ensures there { IfOk result (λ d. AllByRecursion (ClassThere (length blocks.new)) d.classes.items) }
-    ensures classes { IfOk result (λ d. map (rows.class_shown (trees_of blocks.new)) d.classes.items ≡ map (rows.class_row names.now) (classes_in (map item_content items.now))) }
+    ensures classes { IfOk result (λ d. d.classes.items ≡ rows_from (class_laid names.now) blocks_of_class (length blocks.old) (classes_in (map item_content items.now))) }
+    ensures blocks { OnOk result (blocks.new ≡ blocks.old ++ blocks_from (class_blocks names.now) blocks_of_class (length blocks.old) (classes_in (map item_content items.now))) }
 {
     let classes = class_rows(alloc, blocks, names, items)?;
     let objects = object_rows(alloc, names, items)?;
@@ -88,8 +85,7 @@ fn all_rows<A: Allocator + Clone>(
 
 // Rows, names and blocks as the parts of a domain.
 fn parts_of(listed: Listed, names: Names, blocks: Blocks) -> Parts
-    ensures is { result ≡ record { objects = listed.objects.items; classes = listed.classes.items; groups = listed.groups.items; states = names.states; actions = names.actions; blocks = blocks } }
-    ensures ordered { AreOrdered 0 blocks }
+    ensures { result ≡ record { objects = listed.objects.items; classes = listed.classes.items; groups = listed.groups.items; states = names.states; actions = names.actions; blocks = blocks } }
 {
     Parts {
         objects: listed.objects,
@@ -105,8 +101,7 @@ fn parts_of(listed: Listed, names: Names, blocks: Blocks) -> Parts
 pub fn lay_out<A: Allocator + Clone>(alloc: Global, items: &[Item<A>]) -> Result<Parts, AllocError>
     requires well_formed { IsWellFormed (map item_content items.now) }
     requires texts { HasTexts (map item_content items.now) }
-    ensures is { IfOk result (IsDomainOf (map item_content items.now)) }
-    ensures in_place { IfOk result AreInPlace }
+    ensures { IfOk result (IsDomainOf (map item_content items.now)) }
 {
     let names = Names::of(alloc, items)?;
     let mut blocks = Blocks::new(alloc);

@@ -1,12 +1,9 @@
 //! The classes of a domain, whose actions' blocks are laid out as they come.
 ghost use Rattle.std.specs.Prelude.{◌≡◌, ◌++◌, All, IfOk, OnOk, length, map};
-ghost use Rattle.std.specs.List.{AllByRecursion};
 ghost use Rattle.sml_tree.specs.Content.{action_content, state_content, class_content, item_content};
-ghost use Rattle.sml_domain.specs.Trees.{trees_of};
 ghost use Rattle.sml_check.specs.Numbers.{class_list, classes_in};
 ghost use Rattle.sml_check.specs.Placed.{ActionPlaced, StatePlaced, ClassPlaced, ItemPlaced, FilePlaced};
-ghost use Rattle.sml_check.specs.Grown.{Grows, ActionThere, StateThere, ClassThere};
-ghost use Rattle.sml_check.specs.Rows as rows;
+ghost use Rattle.sml_check.specs.Layout as laid;
 
 use crate::blocks::Blocks;
 use crate::layout::Scope;
@@ -27,9 +24,8 @@ fn action_row<A: Allocator + Clone>(
     action: &sml_tree::file::Action<A>,
 ) -> Result<Action, AllocError>
     requires { ActionPlaced names.now (class_content class.now) (action_content action.now) }
-    ensures grows { Grows blocks.old blocks.new }
-    ensures there { IfOk result (ActionThere (length blocks.new)) }
-    ensures is { IfOk result (λ x. rows.action_shown (trees_of blocks.new) x ≡ rows.action_row names.now (class_content class.now) (action_content action.now)) }
+    ensures is { IfOk result (λ x. x ≡ laid.action_laid names.now (class_content class.now) (length blocks.old) (action_content action.now)) }
+    ensures blocks { OnOk result (blocks.new ≡ blocks.old ++ laid.action_blocks names.now (class_content class.now) (length blocks.old) (action_content action.now)) }
 {
     let Some(number) = names.action(&action.name) else {
         unreachable!();
@@ -52,9 +48,8 @@ fn action_rows<A: Allocator + Clone>(
     actions: &Vec<sml_tree::file::Action<A>, A>,
 ) -> Result<Vec<Action>, AllocError>
     requires { All (ActionPlaced names.now (class_content class.now)) (map action_content actions.now.items) }
-    ensures grows { Grows blocks.old blocks.new }
-    ensures there { IfOk result (λ v. AllByRecursion (ActionThere (length blocks.new)) v.items) }
-    ensures is { IfOk result (λ v. map (rows.action_shown (trees_of blocks.new)) v.items ≡ map (rows.action_row names.now (class_content class.now)) (map action_content actions.now.items)) }
+    ensures is { IfOk result (λ v. v.items ≡ laid.rows_from (laid.action_laid names.now (class_content class.now)) laid.blocks_of_action (length blocks.old) (map action_content actions.now.items)) }
+    ensures blocks { OnOk result (blocks.new ≡ blocks.old ++ laid.blocks_from (laid.action_blocks names.now (class_content class.now)) laid.blocks_of_action (length blocks.old) (map action_content actions.now.items)) }
 {
     let mut made = Vec::new(alloc);
     for action in actions {
@@ -72,9 +67,8 @@ fn state_row<A: Allocator + Clone>(
     state: &sml_tree::file::State<A>,
 ) -> Result<State, AllocError>
     requires { StatePlaced names.now (class_content class.now) (state_content state.now) }
-    ensures grows { Grows blocks.old blocks.new }
-    ensures there { IfOk result (StateThere (length blocks.new)) }
-    ensures is { IfOk result (λ x. rows.state_shown (trees_of blocks.new) x ≡ rows.state_row names.now (class_content class.now) (state_content state.now)) }
+    ensures is { IfOk result (λ x. x ≡ laid.state_laid names.now (class_content class.now) (length blocks.old) (state_content state.now)) }
+    ensures blocks { OnOk result (blocks.new ≡ blocks.old ++ laid.state_blocks names.now (class_content class.now) (length blocks.old) (state_content state.now)) }
 {
     let number = names.state(&state.name);
     let actions = action_rows(alloc, blocks, names, class, &state.actions)?;
@@ -89,9 +83,8 @@ fn state_rows<A: Allocator + Clone>(
     class: &sml_tree::file::Class<A>,
 ) -> Result<Vec<State>, AllocError>
     requires { All (StatePlaced names.now (class_content class.now)) (map state_content class.now.states.items) }
-    ensures grows { Grows blocks.old blocks.new }
-    ensures there { IfOk result (λ v. AllByRecursion (StateThere (length blocks.new)) v.items) }
-    ensures is { IfOk result (λ v. map (rows.state_shown (trees_of blocks.new)) v.items ≡ map (rows.state_row names.now (class_content class.now)) (map state_content class.now.states.items)) }
+    ensures is { IfOk result (λ v. v.items ≡ laid.rows_from (laid.state_laid names.now (class_content class.now)) laid.blocks_of_state (length blocks.old) (map state_content class.now.states.items)) }
+    ensures blocks { OnOk result (blocks.new ≡ blocks.old ++ laid.class_blocks names.now (length blocks.old) (class_content class.now)) }
 {
     let mut made = Vec::new(alloc);
     for state in &class.states {
@@ -108,9 +101,8 @@ fn all_states<A: Allocator + Clone>(
     class: &sml_tree::file::Class<A>,
 ) -> Result<Vec<State>, AllocError>
     requires { ClassPlaced names.now (class_content class.now) }
-    ensures grows { Grows blocks.old blocks.new }
-    ensures there { IfOk result (λ v. AllByRecursion (StateThere (length blocks.new)) v.items) }
-    ensures is { IfOk result (λ v. map (rows.state_shown (trees_of blocks.new)) v.items ≡ map (rows.state_row names.now (class_content class.now)) (map state_content class.now.states.items) ++ rows.added_state names.now (class_content class.now)) }
+    ensures is { IfOk result (λ v. v.items ≡ laid.rows_from (laid.state_laid names.now (class_content class.now)) laid.blocks_of_state (length blocks.old) (map state_content class.now.states.items) ++ laid.added_laid names.now (class_content class.now)) }
+    ensures blocks { OnOk result (blocks.new ≡ blocks.old ++ laid.class_blocks names.now (length blocks.old) (class_content class.now)) }
 {
     let mut made = state_rows(alloc, blocks, names, class)?;
     if adds_dead(class) {
@@ -131,9 +123,8 @@ fn class_row<A: Allocator + Clone>(
     class: &sml_tree::file::Class<A>,
 ) -> Result<Class, AllocError>
     requires { ClassPlaced names.now (class_content class.now) }
-    ensures grows { Grows blocks.old blocks.new }
-    ensures there { IfOk result (ClassThere (length blocks.new)) }
-    ensures is { IfOk result (λ x. rows.class_shown (trees_of blocks.new) x ≡ rows.class_row names.now (class_content class.now)) }
+    ensures is { IfOk result (λ x. x ≡ laid.class_laid names.now (length blocks.old) (class_content class.now)) }
+    ensures blocks { OnOk result (blocks.new ≡ blocks.old ++ laid.class_blocks names.now (length blocks.old) (class_content class.now)) }
 {
     let Some(first) = initial_name(class) else {
         unreachable!();
@@ -162,11 +153,9 @@ fn add_class<A: Allocator + Clone>(
     names: &Names,
     item: &Item<A>,
 ) -> Result<(), AllocError>
-    requires placed { ItemPlaced names.now (item_content item.now) }
-    requires there { AllByRecursion (ClassThere (length blocks.now)) made.now.items }
-    ensures grows { Grows blocks.old blocks.new }
-    ensures there { OnOk result (AllByRecursion (ClassThere (length blocks.new)) made.new.items) }
-    ensures is { OnOk result (map (rows.class_shown (trees_of blocks.new)) made.new.items ≡ map (rows.class_shown (trees_of blocks.old)) made.old.items ++ map (rows.class_row names.now) (class_list (item_content item.now))) }
+    requires { ItemPlaced names.now (item_content item.now) }
+    ensures is { OnOk result (made.new.items ≡ made.old.items ++ laid.rows_from (laid.class_laid names.now) laid.blocks_of_class (length blocks.old) (class_list (item_content item.now))) }
+    ensures blocks { OnOk result (blocks.new ≡ blocks.old ++ laid.blocks_from (laid.class_blocks names.now) laid.blocks_of_class (length blocks.old) (class_list (item_content item.now))) }
 {
     if let Item::Class(class) = item {
         made.push(class_row(alloc, blocks, names, class)?)?;
@@ -182,8 +171,8 @@ pub fn class_rows<A: Allocator + Clone>(
     items: &[Item<A>],
 ) -> Result<Vec<Class>, AllocError>
     requires { FilePlaced names.now (map item_content items.now) }
-    ensures there { IfOk result (λ v. AllByRecursion (ClassThere (length blocks.new)) v.items) }
-    ensures is { IfOk result (λ v. map (rows.class_shown (trees_of blocks.new)) v.items ≡ map (rows.class_row names.now) (classes_in (map item_content items.now))) }
+    ensures is { IfOk result (λ v. v.items ≡ laid.rows_from (laid.class_laid names.now) laid.blocks_of_class (length blocks.old) (classes_in (map item_content items.now))) }
+    ensures blocks { OnOk result (blocks.new ≡ blocks.old ++ laid.blocks_from (laid.class_blocks names.now) laid.blocks_of_class (length blocks.old) (classes_in (map item_content items.now))) }
 {
     let mut made = Vec::new(alloc);
     for item in items {

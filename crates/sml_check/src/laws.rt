@@ -1,11 +1,9 @@
 //! What the definition of a file's domain comes to, as contracts of functions that do nothing.
-ghost use Rattle.sml_check.specs.Laws.{NumbersAreAlike, AnswersAreAlike, StatesHaveNumbers, ActionsHaveNumbers, NumbersAreOneToOne, AddedDeadIsLast, TruthIsKept, ConditionsArePlaced};
+ghost use Rattle.sml_check.specs.Laws.{FilesHaveOneDomain, StatesHaveNumbers, ActionsHaveNumbers, NumbersAreOneToOne, AddedDeadIsLast, TruthIsKept, ConditionsArePlaced};
 
-/// Two domains of one file answer alike every look-up of names, objects, classes, sets and programs,
-/// however their blocks are numbered and whatever stands in them behind an end.
+/// Two domains of one file are one: they answer every look-up alike.
 pub fn one_domain()
-    ensures numbers { NumbersAreAlike }
-    ensures answers { AnswersAreAlike }
+    ensures { FilesHaveOneDomain }
 {}
 
 /// In a domain of a file the states and actions that some class has are those with numbers, each with one of

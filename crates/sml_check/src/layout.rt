@@ -1,14 +1,14 @@
 //! Nested blocks, laid out as numbered ones.
-ghost use Rattle.std.specs.Prelude.{◌≡◌, ◌<◌, true, is_some, length, IfOk, map};
+ghost use Rattle.std.specs.Prelude.{◌≡◌, ◌++◌, ◌+◌, true, is_some, length, IfOk, OnOk, map};
 ghost use Rattle.sml_tree.specs.Syntax.{SendData};
 ghost use Rattle.sml_tree.specs.Content.{class_content, action_content, arg_content, passed_content, instr_content, block_content};
-ghost use Rattle.sml_domain.specs.Program.{Program};
+ghost use Rattle.sml_domain.specs.Program.{Assigns};
 ghost use Rattle.sml_domain.specs.Trees as trees;
-ghost use Rattle.sml_domain.specs.Places.{NamesBefore};
-ghost use Rattle.sml_check.specs.Numbers.{place};
+ghost use Rattle.sml_check.specs.Numbers.{place, place_or};
 ghost use Rattle.sml_check.specs.Programs as says;
+ghost use Rattle.sml_check.specs.Layout as laid;
 ghost use Rattle.sml_check.specs.Placed.{ValuePlaced, TargetPlaced, RequestPlaced, InstrPlaced, BlockPlaced};
-ghost use Rattle.sml_check.specs.Grown.{Grows, send_data, IsInstr, IsRequest, IsAssignment};
+ghost use Rattle.sml_check.specs.Grown.{send_data};
 
 use crate::blocks::Blocks;
 use crate::condition::condition;
@@ -53,7 +53,7 @@ impl<'a, A: Allocator + Clone> Scope<'a, A> {
         to: &Name,
     ) -> Result<Instr, AllocError>
         requires { RequestPlaced self.now.names.now (class_content self.now.class.now) (action_content self.now.action.now) (send_data action.now (map passed_content args.now.items) all to.now) (place self.now.names.now.actions action.now) }
-        ensures { IfOk result (IsRequest self.now.names.now (class_content self.now.class.now) (action_content self.now.action.now) (send_data action.now (map passed_content args.now.items) all to.now)) }
+        ensures { IfOk result (λ i. trees.instruction i ≡ laid.request_laid self.now.names.now (class_content self.now.class.now) (action_content self.now.action.now) (send_data action.now (map passed_content args.now.items) all to.now) (place self.now.names.now.actions action.now)) }
     {
         match self.names.action(action) {
             Some(number) => Ok(Instr::Send {
@@ -71,7 +71,7 @@ impl<'a, A: Allocator + Clone> Scope<'a, A> {
     fn assignment(&self, alloc: Global, param: &Name, value: &Arg<A>) -> Result<Instr, AllocError>
         requires param { is_some (says.class_place (class_content self.now.class.now) param.now) ≡ true }
         requires value { ValuePlaced (class_content self.now.class.now) (action_content self.now.action.now) (arg_content value.now) }
-        ensures { IfOk result (IsAssignment self.now.names.now (class_content self.now.class.now) (action_content self.now.action.now) param.now (arg_content value.now)) }
+        ensures { IfOk result (λ i. trees.instruction i ≡ Assigns (place_or (says.class_place (class_content self.now.class.now) param.now)) (says.operand (class_content self.now.class.now) (action_content self.now.action.now) (arg_content value.now))) }
     {
         Ok(Instr::Set {
             param: own_param(self.class, param),
@@ -79,9 +79,9 @@ impl<'a, A: Allocator + Clone> Scope<'a, A> {
         })
     }
 
-    // An instruction, with the blocks that it names laid out.
+    // An instruction, with the blocks that it holds laid out.
     #[cycle(layout)]
-    #[tactic(auto, using(crate::proofs::Flats::layouts))]
+    #[tactic(auto, using(crate::proofs::Said::layouts))]
     fn instr(
         &self,
         alloc: Global,
@@ -89,9 +89,8 @@ impl<'a, A: Allocator + Clone> Scope<'a, A> {
         instr: &sml_tree::block::Instr<A>,
     ) -> Result<Instr, AllocError>
         requires { InstrPlaced self.now.names.now (class_content self.now.class.now) (action_content self.now.action.now) (instr_content instr.now) }
-        ensures grows { Grows blocks.old blocks.new }
-        ensures before { IfOk result (NamesBefore (length blocks.new)) }
-        ensures is { IfOk result (IsInstr self.now.names.now (class_content self.now.class.now) (action_content self.now.action.now) (trees.trees_of blocks.new) (instr_content instr.now)) }
+        ensures is { IfOk result (λ i. trees.instruction i ≡ laid.instr_laid self.now.names.now (class_content self.now.class.now) (action_content self.now.action.now) (length blocks.old) (instr_content instr.now)) }
+        ensures blocks { OnOk result (blocks.new ≡ blocks.old ++ laid.held_blocks self.now.names.now (class_content self.now.class.now) (action_content self.now.action.now) (length blocks.old) (instr_content instr.now)) }
     {
         match instr {
             sml_tree::block::Instr::Do {
@@ -123,9 +122,8 @@ impl<'a, A: Allocator + Clone> Scope<'a, A> {
         block: &Block<A>,
     ) -> Result<BlockId, AllocError>
         requires { BlockPlaced self.now.names.now (class_content self.now.class.now) (action_content self.now.action.now) (block_content block.now) }
-        ensures grows { Grows blocks.old blocks.new }
-        ensures there { IfOk result (λ k. k < length blocks.new) }
-        ensures is { IfOk result (λ k. trees.tree_at (trees.trees_of blocks.new) k ≡ says.program self.now.names.now (class_content self.now.class.now) (action_content self.now.action.now) (block_content block.now)) }
+        ensures is { IfOk result (λ k. k ≡ length blocks.old + laid.held_in (block_content block.now)) }
+        ensures blocks { OnOk result (blocks.new ≡ blocks.old ++ laid.blocks_laid self.now.names.now (class_content self.now.class.now) (action_content self.now.action.now) (length blocks.old) (block_content block.now)) }
     {
         let mut instrs = Vec::new(alloc);
         for instr in &block.instrs {

@@ -1,9 +1,11 @@
 -- A domain as plain data: objects, classes and sets by number, and the names of states and actions by number.
-use Rattle.std.specs.Prelude.{ℕ, Bool, List, Option, Vec}
+use Rattle.std.specs.Prelude.{ℕ, Bool, List, Option, Vec, map}
 use Rattle.std.specs.declared.alloc.Global.{Global}
 use Rattle.sml_tree.specs.declared.file.Kind.{Kind}
 use Rattle.sml_domain.specs.declared.value.Value.{Value}
 use Rattle.sml_domain.specs.declared.instr.Instr.{Instr}
+use Rattle.sml_domain.specs.Program.{Instruction}
+use Rattle.sml_domain.specs.Trees.{instruction}
 
 -- a parameter: of a class with its value, of an action with its default, if it has one
 pub record Param : Type 0 where
@@ -53,8 +55,8 @@ pub record Domain : Type 0 where
   pub groups : List Group
   pub states : List (List ℕ)
   pub actions : List (List ℕ)
-  pub blocks : List (List Instr)
+  pub blocks : List (List Instruction)
 
 -- the instructions of a block
-abbrev pub block_items : Vec Instr Global → List Instr
-block_items block = block.items
+abbrev pub block_items : Vec Instr Global → List Instruction
+block_items block = map instruction block.items

@@ -1,8 +1,8 @@
 -- Programs whose numbers are those of a domain, and whose values have the kinds of their parameters.
-use Rattle.std.specs.Prelude.{◌≡◌, ◌<◌, ℕ, Bool, true, List, [], Option, Some, All, IsSomeAnd, length, slice_get, find, is_some, option_map, ◌||◌}
+use Rattle.std.specs.Prelude.{◌≡◌, ◌<◌, ℕ, Bool, true, List, [], Option, Some, All, IsSomeAnd, length, slice_get, find, is_some, map, option_map, ◌||◌}
 use Rattle.std.specs.List.{list_any}
 use Rattle.sml_tree.specs.declared.file.Kind.{Kind}
-use Rattle.sml_domain.specs.Names.{same_name}
+use Rattle.sml_domain.specs.Names.{same_name, AreDistinct}
 use Rattle.sml_domain.specs.Values.{kind_of}
 use Rattle.sml_domain.specs.Program.{Operand, Fixed, Own, Given, Argument, Target, ToOne, ToMembers, Asked, OfOne, OfEach, OfAny, Formula, Both, Either, Not, Test, Program, Nothing, SetThen, SendThen, SendNoneThen, IfThen, EndIn, TerminateIn}
 use Rattle.sml_domain.specs.Domain.{Domain, Class, Param}
@@ -66,6 +66,21 @@ abbrev pub SendFits : Domain → List Param → List Param → ℕ → List Argu
 SendFits d own given action args (ToOne o) = (o < length d.objects) × RequestFits d own given action args o
 SendFits d own given action args (ToMembers set) = (set < length d.groups) × All (RequestFits d own given action args) (members_at d set)
 
+-- the name of an argument
+abbrev pub name_of_argument : Argument → List ℕ
+name_of_argument x = x.name
+
+-- the value of an argument has a kind
+abbrev pub ArgumentHasKind : List Param → List Param → Argument → Type 0
+ArgumentHasKind own given x = is_some (operand_kind own given x.value) ≡ true
+
+-- a `do`: no two arguments have one name, each has a kind, even where it is sent to none, and its targets have the action
+pub record DoFits (d : Domain) (own given : List Param) (action : ℕ) (args : List Argument) (target : Target) : Type 0 where
+  pub known : action < length d.actions
+  pub apart : AreDistinct (map name_of_argument args)
+  pub kinds : All (ArgumentHasKind own given) args
+  pub targets : SendFits d own given action args target
+
 -- those whom a test asks are there
 abbrev pub AskedFits : Domain → Asked → Type 0
 AskedFits d (OfOne o) = o < length d.objects
@@ -87,7 +102,7 @@ FormulaFits d (Test asked negated states) = AskedFits d asked × All (IsStateNam
 abbrev pub ProgramFits : Domain → Class → List Param → Program → Type 0
 ProgramFits d c given Nothing = Unit {0}
 ProgramFits d c given (SetThen p v rest) = HasKindOf c.params given (kind_at c.params p) v × ProgramFits d c given rest
-ProgramFits d c given (SendThen target action args rest) = (action < length d.actions) × SendFits d c.params given action args target × ProgramFits d c given rest
+ProgramFits d c given (SendThen target action args rest) = DoFits d c.params given action args target × ProgramFits d c given rest
 ProgramFits d c given (SendNoneThen set rest) = (set < length d.groups) × (members_at d set ≡ []) × ProgramFits d c given rest
 ProgramFits d c given (IfThen f p q rest) = FormulaFits d f × ProgramFits d c given p × ProgramFits d c given q × ProgramFits d c given rest
 ProgramFits d c given (EndIn s) = has_state s c ≡ true

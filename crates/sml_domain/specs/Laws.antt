@@ -7,11 +7,11 @@ use Rattle.sml_domain.specs.Names.{AreDistinct}
 use Rattle.sml_domain.specs.Values.{kind_of}
 use Rattle.sml_domain.specs.Program.{Operand, Argument}
 use Rattle.sml_domain.specs.Domain.{Domain, Param}
-use Rattle.sml_domain.specs.Lookups.{object_named, state_named, action_named, name_of_object, class_at, is_state_of, params_at, block_at}
+use Rattle.sml_domain.specs.Lookups.{object_named, class_named, set_named, state_named, action_named, name_of_object, class_at, is_state_of, params_at, block_at}
 use Rattle.sml_domain.specs.Places.{NameBefore, instrs_at}
 use Rattle.sml_domain.specs.Completing.{Passed, complete}
 use Rattle.sml_domain.specs.Fits.{kind_at, operand_kind, ArgumentsFit}
-use Rattle.sml_domain.specs.Sound.{IsSound, EachBegins, ClassFits, BlockFits, ParamFits, IsOfKind, name_of_param}
+use Rattle.sml_domain.specs.Sound.{IsSound, EachBegins, ProgramsAskOthers, ClassFits, BlockFits, ParamFits, IsOfKind, name_of_param, name_of_class, name_of_group}
 
 -- ---- numbers and names
 
@@ -19,7 +19,17 @@ use Rattle.sml_domain.specs.Sound.{IsSound, EachBegins, ClassFits, BlockFits, Pa
 abbrev pub ObjectHasName : Type 0
 ObjectHasName = (d : Domain) (o : ℕ) (name : List ℕ) → IsSound d → (option_map name_of_object (slice_get d.objects o) ≡ Some name) ↔ (object_named d name ≡ Some o)
 
--- so it is with state names
+-- so it is with classes
+abbrev pub ClassHasName : Type 0
+ClassHasName = (d : Domain) (c : ℕ) (name : List ℕ) → IsSound d
+    → (option_map name_of_class (slice_get d.classes c) ≡ Some name) ↔ (class_named d name ≡ Some c)
+
+-- with sets
+abbrev pub SetHasName : Type 0
+SetHasName = (d : Domain) (set : ℕ) (name : List ℕ) → IsSound d
+    → (option_map name_of_group (slice_get d.groups set) ≡ Some name) ↔ (set_named d name ≡ Some set)
+
+-- with state names
 abbrev pub StateHasName : Type 0
 StateHasName = (d : Domain) (s : ℕ) (name : List ℕ) → IsSound d → (slice_get d.states s ≡ Some name) ↔ (state_named d name ≡ Some s)
 
@@ -41,6 +51,11 @@ DeclaredBlockFits = (d : Domain) (o s a b : ℕ) → IsSound d → block_at d o 
 abbrev pub DeclaredIsKnown : Type 0
 DeclaredIsKnown = (d : Domain) (o s a b : ℕ) → IsSound d → block_at d o s a ≡ Some b → (is_state_of d o s ≡ true) × (is_some (params_at d o a) ≡ true)
 
+-- an object's class lists parameters for an action exactly where it declares the action in some state
+abbrev pub ListedIsDeclared : Type 0
+ListedIsDeclared = (d : Domain) (o a : ℕ) → IsSound d
+    → (is_some (params_at d o a) ≡ true) ↔ ((s : ℕ) × (is_some (block_at d o s a) ≡ true))
+
 -- a state of an object is a state name
 abbrev pub StateIsWithin : Type 0
 StateIsWithin = (d : Domain) (o s : ℕ) → IsSound d → is_state_of d o s ≡ true → s < length d.states
@@ -48,6 +63,10 @@ StateIsWithin = (d : Domain) (o s : ℕ) → IsSound d → is_state_of d o s ≡
 -- an action of an object is an action name
 abbrev pub ActionIsWithin : Type 0
 ActionIsWithin = (d : Domain) (o a : ℕ) → IsSound d → is_some (params_at d o a) ≡ true → a < length d.actions
+
+-- no condition asks the object that runs it
+abbrev pub NoneAsksItself : Type 0
+NoneAsksItself = (d : Domain) → IsSound d → ProgramsAskOthers d
 
 -- what is left of each block at its beginning is its tree
 abbrev pub BlockBegins : Type 0

@@ -3,6 +3,7 @@ pub mod Texts
 pub mod Values
 pub mod Names
 pub mod Program
+pub mod Codes
 pub mod Domain
 pub mod Trees
 pub mod Lookups
@@ -10,5 +11,6 @@ pub mod Truth
 pub mod Places
 pub mod Completing
 pub mod Fits
+pub mod Asking
 pub mod Sound
 pub mod Laws

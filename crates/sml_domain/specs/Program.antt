@@ -1,4 +1,4 @@
--- Blocks of instructions as trees, with numbers for names.
+-- Instructions, and blocks of them as trees, with numbers for names.
 use Rattle.std.specs.Prelude.{ℕ, Bool, List}
 use Rattle.sml_domain.specs.declared.value.Value.{Value}
 
@@ -30,6 +30,15 @@ pub data Formula : Type 0 where
   Either : Formula → Formula → Formula
   Not : Formula → Formula
   Test : (asked : Asked) (negated : Bool) (states : List ℕ) → Formula
+
+-- an instruction, with numbers for names and for the blocks that it names
+pub data Instruction : Type 0 where
+  Assigns : (param : ℕ) (value : Operand) → Instruction
+  Sends : (target : Target) (action : ℕ) (args : List Argument) → Instruction
+  SendsToNone : (set : ℕ) → Instruction
+  Chooses : (condition : Formula) (yes no : ℕ) → Instruction
+  Moves : (state : ℕ) → Instruction
+  Terminates : (state : ℕ) → Instruction
 
 -- an instruction, and what stands after it in its block; what stands after an end is never done
 pub data Program : Type 0 where

@@ -1,14 +1,17 @@
--- What is so of every domain: its numbers are its own, and values have the kinds of their parameters.
-use Rattle.std.specs.Prelude.{◌≡◌, ◌<◌, ℕ, true, List, All, IfSome, IsSomeAnd, length, map}
+-- What is so of every domain: its numbers are its own, values have the kinds of their parameters, and no condition asks
+-- the object that runs it.
+use Rattle.std.specs.Prelude.{◌≡◌, ◌<◌, ℕ, Bool, true, List, Some, All, IfSome, IsSomeAnd, is_some, length, map}
+use Rattle.std.specs.Option.{option_and_then}
 use Rattle.sml_tree.specs.declared.file.Kind.{Kind}
 use Rattle.sml_domain.specs.declared.value.Value.{Value}
 use Rattle.sml_domain.specs.Names.{AreDistinct}
 use Rattle.sml_domain.specs.Values.{kind_of}
 use Rattle.sml_domain.specs.Program.{Program}
 use Rattle.sml_domain.specs.Domain.{Domain, Class, State, Action, Signature, Object, Group, Param}
-use Rattle.sml_domain.specs.Lookups.{has_state, class_at, signature_in, name_of_object, tree_of_block}
+use Rattle.sml_domain.specs.Lookups.{state_in, has_state, block_in, class_at, block_at, signature_in, name_of_object, tree_of_block, members_at}
 use Rattle.sml_domain.specs.Places.{AreOrdered, left_at}
 use Rattle.sml_domain.specs.Fits.{ProgramFits}
+use Rattle.sml_domain.specs.Asking.{ProgramSpares}
 
 -- a value has the kind
 abbrev pub IsOfKind : Kind → Value → Type 0
@@ -51,7 +54,15 @@ pub record StateFits (d : Domain) (c : Class) (s : State) : Type 0 where
   pub number : s.number < length d.states
   pub actions : All (ActionFits d c) s.actions
 
--- a class, whose initial and dead state are among its states
+-- whether a class declares an action in a state
+abbrev pub declares_in : Class → ℕ → ℕ → Bool
+declares_in c a s = is_some (option_and_then (block_in a) (state_in s c))
+
+-- these are parameters of an action that the class declares in some state
+abbrev pub IsDeclared : Class → Signature → Type 0
+IsDeclared c x = (s : ℕ) × (declares_in c x.action s ≡ true)
+
+-- a class, whose initial and dead state are among its states, and whose parameter lists are for actions that it declares
 pub record ClassFits (d : Domain) (c : Class) : Type 0 where
   pub params : All ClassParamFits c.params
   pub apart : AreDistinct (map name_of_param c.params)
@@ -59,6 +70,7 @@ pub record ClassFits (d : Domain) (c : Class) : Type 0 where
   pub initial : has_state c.initial c ≡ true
   pub dead : has_state c.dead c ≡ true
   pub signatures : All (SignatureFits d) c.signatures
+  pub declared : All (IsDeclared c) c.signatures
 
 -- a block fits the class of the object, and the parameters of the action
 abbrev pub BlockFits : Domain → ℕ → ℕ → ℕ → Type 0
@@ -83,16 +95,31 @@ pub record AreInRange (d : Domain) : Type 0 where
   pub groups : All (GroupFits d) d.groups
   pub blocks : AreOrdered 0 d.blocks
 
--- no two objects, state names or action names are one
+-- the name of a class
+abbrev pub name_of_class : Class → List ℕ
+name_of_class c = c.name
+
+-- the name of a set
+abbrev pub name_of_group : Group → List ℕ
+name_of_group g = g.name
+
+-- no two objects, classes, sets, states or actions have one name
 pub record HaveOneNumber (d : Domain) : Type 0 where
   pub objects : AreDistinct (map name_of_object d.objects)
+  pub classes : AreDistinct (map name_of_class d.classes)
+  pub groups : AreDistinct (map name_of_group d.groups)
   pub states : AreDistinct d.states
   pub actions : AreDistinct d.actions
+
+-- no condition of a block that an object's class declares asks that object
+abbrev pub ProgramsAskOthers : Domain → Type 0
+ProgramsAskOthers d = (o s a b : ℕ) → block_at d o s a ≡ Some b → ProgramSpares (members_at d) o (tree_of_block d b)
 
 -- a domain is as it should be
 pub record IsSound (d : Domain) : Type 0 where
   pub range : AreInRange d
   pub names : HaveOneNumber d
+  pub others : ProgramsAskOthers d
 
 -- what is left of a block at its beginning is its tree
 abbrev pub EachBegins : Domain → Type 0

@@ -1,6 +1,7 @@
 //! A domain: what names stand for, and what its objects, classes and sets are.
 ghost use Rattle.std.specs.Prelude.{◌≡◌, ◌<◌, ◌↔◌, All, IfSome, IsTrue, MatchOption, None, Some, is_some, length, map, option_map, slice_get, true};
 ghost use Rattle.sml_domain.specs.Domain.{block_items};
+ghost use Rattle.sml_domain.specs.Trees.{instruction};
 ghost use Rattle.sml_domain.specs.Lookups as says;
 ghost use Rattle.sml_domain.specs.Places.{Shows, instrs_at};
 ghost use Rattle.sml_domain.specs.Sound.{IsSound, EachBegins, IsObject, BlockFits, ClassFits, ClassParamFits, ParamFits, name_of_param};
@@ -35,13 +36,13 @@ pub struct Domain {
 impl Model for Domain {
     ghost use Rattle.std.specs.Prelude.{map};
     ghost use Rattle.std.specs.Coded.{codes};
-    ghost use Rattle.sml_domain.specs.contracts.instr.Cond as cond;
+    ghost use Rattle.sml_domain.specs.Codes.{formula_code};
     ghost use Rattle.sml_domain.specs.Domain as plain;
     ghost use Rattle.sml_domain.specs.Sound.{IsSound};
 
     ghost Value = { plain.Domain };
 
-    ghost coded = { Prim.hlevel (codes, cond.the_row.coded) };
+    ghost coded = { Prim.hlevel (codes, formula_code) };
 
     ghost view = { λ d. record {
       objects = d.objects.items;
@@ -311,7 +312,7 @@ impl Domain {
     /// The instructions of a block in order. Empty where no block has the number. The blocks that
     /// they name have lower numbers.
     pub fn instructions(&self, b: BlockId) -> &[Instr]
-        ensures is { result.now ≡ instrs_at self.now.blocks b }
+        ensures is { map instruction result.now ≡ instrs_at self.now.blocks b }
         ensures begins { EachBegins self.now }
     {
         match self.blocks.get(b.get()) {
@@ -323,8 +324,8 @@ impl Domain {
     /// The instruction of a block at a place, counted from 0, or None past its end and where no
     /// block has the number.
     pub fn instruction(&self, b: BlockId, place: usize) -> Option<&Instr>
-        ensures is { option_map (λ i. i.now) result ≡ slice_get (instrs_at self.now.blocks b) place }
-        ensures shows { Shows self.now.blocks b place (option_map (λ i. i.now) result) }
+        ensures is { option_map (λ i. instruction i.now) result ≡ slice_get (instrs_at self.now.blocks b) place }
+        ensures shows { Shows self.now.blocks b place (option_map (λ i. instruction i.now) result) }
         ensures begins { EachBegins self.now }
     {
         self.instructions(b).get(place)

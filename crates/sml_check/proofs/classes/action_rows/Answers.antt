@@ -1,13 +1,10 @@
-use Rattle.std.proofs.Common.{◌∷◌, [], length, map, refl}
+use Rattle.std.proofs.Common.{◌≡◌, ◌∙◌, [], ◌∷◌, ◌++◌, length, map, ap}
 use Rattle.sml_tree.specs.Content.{action_content, class_content}
-use Rattle.sml_domain.specs.Trees.{trees_of}
 use Rattle.sml_check.specs.Placed.{ActionPlaced}
-use Rattle.sml_check.specs.Grown.{ActionThere}
-use Rattle.sml_check.specs.Rows as rows
+use Rattle.sml_check.specs.Layout.{rows_from, blocks_from, action_laid, action_blocks, blocks_of_action}
 use Rattle.sml_check.proofs.Elements.{all_of}
-use Rattle.sml_check.proofs.Flats.{grows_then}
-use Rattle.sml_check.proofs.Gathered.{gathered}
-use Rattle.sml_check.proofs.Shown.{action_kept, action_stays, row_there, row_shown}
+use Rattle.sml_check.proofs.Gathered.{moves_of}
+use Rattle.sml_check.proofs.Layouts.{action_long, more_rows, more_blocks, one_block}
 use Rattle.sml_check.proofs.classes.action_rows.Goals as goal
 
 pub action_row-requires : goal.action_row-requires
@@ -15,23 +12,20 @@ action_row-requires g c = all_of (ActionPlaced c.args.names.now (class_content c
 
 pub loop-action-preserved : goal.loop-action-preserved
 loop-action-preserved g c =
+    let n = c.args.names.now in
+    let k = class_content c.args.class.now in
     let was = c.loop-action.blocks in
     let now = c.action_row.new.blocks in
-    let grown = c.in_ok-action_row.ensures.grows in
-    let f = rows.action_shown (trees_of was) in
-    let h = rows.action_shown (trees_of now) in
-    let P = ActionThere (length was) in
-    let Q = ActionThere (length now) in
-    let said = rows.action_row c.args.names.now (class_content c.args.class.now) in
     let made = c.loop-action.made.items in
     let next = c.push.new.self.items in
-    let row = c.in_ok-action_row.field-0 in
-    let x = c.action-item.result in
-    let pushed = c.in_ok-push.ensures.items in
+    let x = action_content c.action-item.result in
+    let adds : next ≡ made ++ rows_from (action_laid n k) blocks_of_action (length was) (x ∷ []) = c.in_ok-push.ensures.items ∙ ap (λ r. made ++ r ∷ []) c.in_ok-action_row.ensures.is in
+    let grown = one_block (action_blocks n k) blocks_of_action (action_long n k) was now x c.in_ok-action_row.ensures.blocks in
     record {
-      grows = grows_then c.args.blocks.now was now c.loop-action.invariant.grows grown;
-      there = row_there f h P Q (action_kept was now grown) (action_stays was now grown) made next row c.loop-action.invariant.there pushed c.in_ok-action_row.ensures.there;
-      left = gathered (λ ys. map said (map action_content ys)) (said (action_content x) ∷ []) (map f made) (map h next) c.args.actions.now.items c.deref-action-items.result.now c.loop-action.action-index _ x
-          c.loop-action.invariant.left c.deref-action-items.ensures.value c.loop-action-test.true c.action-item.is (λ zs. refl)
-          (row_shown f h P Q (action_kept was now grown) (action_stays was now grown) made next row c.loop-action.invariant.there pushed (said (action_content x)) c.in_ok-action_row.ensures.is);
+      rows = moves_of (λ ys. made ++ rows_from (action_laid n k) blocks_of_action (length was) (map action_content ys)) (λ ys. next ++ rows_from (action_laid n k) blocks_of_action (length now) (map action_content ys))
+          c.args.actions.now.items c.deref-action-items.result.now c.loop-action.action-index _ c.action-item.result c.loop-action.invariant.rows c.deref-action-items.ensures.value c.loop-action-test.true c.action-item.is
+          (λ zs. more_rows (action_blocks n k) blocks_of_action (action_long n k) was now (x ∷ []) (map action_content zs) grown (action_laid n k) made next adds);
+      blocks = moves_of (λ ys. was ++ blocks_from (action_blocks n k) blocks_of_action (length was) (map action_content ys)) (λ ys. now ++ blocks_from (action_blocks n k) blocks_of_action (length now) (map action_content ys))
+          c.args.actions.now.items c.deref-action-items.result.now c.loop-action.action-index _ c.action-item.result c.loop-action.invariant.blocks c.deref-action-items.ensures.value c.loop-action-test.true c.action-item.is
+          (λ zs. more_blocks (action_blocks n k) blocks_of_action (action_long n k) was now (x ∷ []) (map action_content zs) grown);
     }

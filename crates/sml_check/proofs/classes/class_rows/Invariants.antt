@@ -1,15 +1,14 @@
-use Rattle.std.proofs.Common.{length, map}
-use Rattle.std.specs.List.{AllByRecursion}
+use Rattle.std.proofs.Common.{◌++◌, length, map}
 use Rattle.sml_tree.specs.Content.{item_content}
-use Rattle.sml_domain.specs.Trees.{trees_of}
 use Rattle.sml_check.specs.Numbers.{classes_in}
-use Rattle.sml_check.specs.Grown.{ClassThere}
-use Rattle.sml_check.specs.Rows as rows
-use Rattle.sml_check.proofs.Gathered.{Gathers}
+use Rattle.sml_check.specs.Layout.{rows_from, blocks_from, class_laid, class_blocks, blocks_of_class}
+use Rattle.sml_faults.proofs.Rests.{Rest}
 use Rattle.sml_check.proofs.classes.class_rows.Given as goal
 
 abbrev pub invariant-loop-item : goal.invariant-loop-item
-invariant-loop-item g l = record {
-  there : AllByRecursion (ClassThere (length l.blocks)) l.made.items;
-  left : Gathers (λ ys. map (rows.class_row l.names) (classes_in (map item_content ys))) (map (rows.class_shown (trees_of l.blocks)) l.made.items) l.items l.item-index (map (rows.class_row l.names) (classes_in (map item_content l.items)));
-}
+invariant-loop-item g l =
+    let n = l.names in
+    record {
+      rows : Rest (λ ys. l.made.items ++ rows_from (class_laid n) blocks_of_class (length l.blocks) (classes_in (map item_content ys))) l.items l.item-index (rows_from (class_laid n) blocks_of_class (length l.fn.blocks) (classes_in (map item_content l.items)));
+      blocks : Rest (λ ys. l.blocks ++ blocks_from (class_blocks n) blocks_of_class (length l.blocks) (classes_in (map item_content ys))) l.items l.item-index (l.fn.blocks ++ blocks_from (class_blocks n) blocks_of_class (length l.fn.blocks) (classes_in (map item_content l.items)));
+    }
