@@ -1,0 +1,160 @@
+//! Entries that are added to a ledger. Each answers false where it is none of the domain's, where it may
+//! not be added there, and where memory is refused.
+ghost use Rattle.std.specs.Prelude.{◌<◌, length};
+
+use crate::completing::{Plain, value_of};
+use crate::facts::sender_of;
+use crate::runs::{By, Line};
+use smi_entry::args::{Args, Reading, Readings};
+use smi_entry::entry::{ActionEnd, Cause, Verdict};
+use smi_entry::envelope::Envelope;
+use smi_entry::session::SessionId;
+use smi_ledger::ledger::Ledger;
+use sml_domain::ids::{ActionId, ObjId, StateId};
+use std::alloc::Global;
+
+fn args_of(alloc: Global, given: &[Plain]) -> Option<Args> {
+    let mut values = Vec::new(alloc);
+    for plain in given {
+        values.push(value_of(alloc, *plain)?).ok()?;
+    }
+    Args::new(alloc, values).ok()
+}
+
+fn readings_of(alloc: Global, rows: &[(usize, usize)]) -> Option<Readings> {
+    let mut list = Vec::new(alloc);
+    for (object, state) in rows {
+        let object = ObjId::new(*object);
+        let state = StateId::new(*state);
+        list.push(Reading { object, state }).ok()?;
+    }
+    Readings::new(alloc, list).ok()
+}
+
+// A start, with its number, its action and its arguments.
+fn starts(
+    alloc: Global,
+    ledger: &mut Ledger,
+    o: ObjId,
+    by: By,
+    request: (u64, usize, &[Plain]),
+) -> bool {
+    let (number, action, given) = request;
+    let Some(args) = args_of(alloc, given) else {
+        return false;
+    };
+    if ledger.hold(2).is_err() {
+        return false;
+    }
+    let Some(sender) = sender_of(ledger.domain(), by) else {
+        return false;
+    };
+    if !ledger.domain().has(o) || ledger.opened(o).is_some() {
+        return false;
+    }
+    let Ok(envelope) = Envelope::new(sender, ActionId::new(action), args) else {
+        return false;
+    };
+    let mut envelope = envelope;
+    envelope.set_number(number);
+    let letters = envelope.into_letters();
+    ledger.add_start(o, letters.journal, letters.slot);
+    true
+}
+
+// A post to a target, with its action and its arguments.
+fn posts(
+    alloc: Global,
+    ledger: &mut Ledger,
+    o: ObjId,
+    target: ObjId,
+    request: (Verdict, usize, &[Plain]),
+) -> bool {
+    let (verdict, action, given) = request;
+    let Some(args) = args_of(alloc, given) else {
+        return false;
+    };
+    if !ledger.domain().has(o) || !ledger.domain().has(target) {
+        return false;
+    }
+    if ledger.hold(1).is_err() || ledger.hold_answers(o, 1).is_err() {
+        return false;
+    }
+    ledger.add_post(o, target, verdict, ActionId::new(action), args);
+    true
+}
+
+fn waits(ledger: &mut Ledger, o: ObjId) -> bool {
+    if !ledger.domain().has(o) || ledger.hold(1).is_err() {
+        return false;
+    }
+    ledger.add_wait(o);
+    true
+}
+
+fn sees(alloc: Global, ledger: &mut Ledger, o: ObjId, rows: &[(usize, usize)]) -> bool {
+    let Some(readings) = readings_of(alloc, rows) else {
+        return false;
+    };
+    let Ok(kept) = readings.share() else {
+        return false;
+    };
+    if !ledger.domain().has(o) {
+        return false;
+    }
+    if ledger.hold(1).is_err() || ledger.hold_answers(o, 1).is_err() {
+        return false;
+    }
+    ledger.add_seen(o, readings, kept);
+    true
+}
+
+// An end, which takes no memory.
+fn ends(ledger: &mut Ledger, o: ObjId, how: ActionEnd) -> bool {
+    if !ledger.domain().has(o) || !ledger.is_open(o) {
+        return false;
+    }
+    ledger.add_end(o, how);
+    true
+}
+
+// A kill, which takes no memory where an action is open.
+fn kills(ledger: &mut Ledger, o: ObjId, cause: Cause) -> bool {
+    if !ledger.domain().has(o) || ledger.killed(o).is_some() {
+        return false;
+    }
+    if !ledger.is_open(o) && ledger.hold(1).is_err() {
+        return false;
+    }
+    ledger.add_kill(o, cause);
+    true
+}
+
+fn kills_by(ledger: &mut Ledger, o: ObjId, session: u8) -> bool {
+    match SessionId::new(session) {
+        Some(session) => kills(ledger, o, Cause::By(session)),
+        None => false,
+    }
+}
+
+/// Whether an entry was added.
+pub fn adds(alloc: Global, ledger: &mut Ledger, line: Line) -> bool {
+    match line {
+        Line::Start(o, by, number, action, given) => {
+            starts(alloc, ledger, ObjId::new(o), by, (number, action, given))
+        }
+        Line::Post(o, target, verdict, action, given) => posts(
+            alloc,
+            ledger,
+            ObjId::new(o),
+            ObjId::new(target),
+            (verdict, action, given),
+        ),
+        Line::Wait(o) => waits(ledger, ObjId::new(o)),
+        Line::Seen(o, rows) => sees(alloc, ledger, ObjId::new(o), rows),
+        Line::End(o, state) => ends(ledger, ObjId::new(o), ActionEnd::State(StateId::new(state))),
+        Line::Skip(o) => ends(ledger, ObjId::new(o), ActionEnd::Skipped),
+        Line::Kill(o, session) => kills_by(ledger, ObjId::new(o), session),
+        Line::Fault(o) => kills(ledger, ObjId::new(o), Cause::Fault),
+    }
+}

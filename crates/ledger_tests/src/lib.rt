@@ -1,0 +1,21 @@
+//! Requests, and journals with their books.
+#![tactic(auto)]
+
+#[cfg(test)]
+mod adding;
+#[cfg(test)]
+mod completing;
+#[cfg(test)]
+mod domain_of;
+#[cfg(test)]
+mod facts;
+#[cfg(test)]
+mod fits;
+#[cfg(test)]
+mod look_ups;
+#[cfg(test)]
+mod runs;
+#[cfg(test)]
+mod tests_of_runs;
+#[cfg(test)]
+mod walks;

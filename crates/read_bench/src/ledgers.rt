@@ -1,0 +1,312 @@
+//! How long a ledger takes to add entries and to answer look-ups, beside a push on a `Vec`.
+ghost use Rattle.std.specs.Prelude.{◌<◌, length};
+
+use anyhow::{Result, anyhow, bail};
+use smi_entry::args::Args;
+use smi_entry::entry::{ActionEnd, Entry, Sender, Verdict};
+use smi_entry::envelope::Envelope;
+use smi_entry::session::SessionId;
+use smi_ledger::ledger::Ledger;
+use sml_check::check;
+use sml_checkable::laws::laws_of_read_files;
+use sml_domain::domain::Domain;
+use sml_domain::ids::{ActionId, ObjId};
+use sml_read::read;
+use std::alloc::{AllocError, Global};
+use std::fmt::Write;
+use std::sync::Arc;
+use std::time::{Clock, Duration, Instant};
+
+// How many objects there are. In a round of entries each starts, posts to itself, and ends.
+const OBJECTS: usize = 64;
+
+// How many rounds are timed. The least time of a round counts.
+const TIMED_ROUNDS: usize = 16;
+
+// How many calls of each sort a round has.
+const CALLS: u128 = 64;
+
+// How many entries there are before the time is taken.
+const COUNTS: [usize; 2] = [1_000, 1_000_000];
+
+// What is looked up.
+#[derive(Clone, Copy)]
+enum LookUp {
+    State,
+    Opened,
+    IsOpen,
+    Answers,
+    Waits,
+    Killed,
+    Started,
+    Posted,
+    Starts,
+    IsClear,
+}
+
+const LOOK_UPS: [(LookUp, &str); 10] = [
+    (LookUp::State, "state"),
+    (LookUp::Opened, "opened"),
+    (LookUp::IsOpen, "is_open"),
+    (LookUp::Answers, "answers"),
+    (LookUp::Waits, "waits"),
+    (LookUp::Killed, "killed"),
+    (LookUp::Started, "started"),
+    (LookUp::Posted, "posted"),
+    (LookUp::Starts, "starts"),
+    (LookUp::IsClear, "is_clear"),
+];
+
+// A ledger with its objects, beside a plain list of as many entries.
+#[derive(Drop)]
+struct Books {
+    ledger: Ledger,
+    plain: Vec<Entry>,
+    args: Args,
+}
+
+// How long the entries of a round took, at least: those of a plain list, and those of a ledger by their sort.
+#[derive(Clone, Copy)]
+struct Times {
+    push: Duration,
+    start: Duration,
+    post: Duration,
+    end: Duration,
+}
+
+fn domain_text(alloc: Global) -> Result<String, AllocError> {
+    let mut text = String::new(alloc);
+    writeln!(text, "class: K state: S action: GO")?;
+    for object in 0..OBJECTS {
+        writeln!(text, "object: X_{object} is_of_class K")?;
+    }
+    Ok(text)
+}
+
+fn domain_of(alloc: Global, text: &[u8]) -> Result<Arc<Domain>> {
+    let file = read(alloc, text).map_err(|error| anyhow!("a text is refused: {error}"))?;
+    laws_of_read_files();
+    let domain = check(alloc, &file).map_err(|error| anyhow!("a file is refused: {error}"))?;
+    match Arc::new(alloc, domain) {
+        Ok(domain) => Ok(domain),
+        Err(_) => bail!("there is no memory for a domain"),
+    }
+}
+
+fn books_of(alloc: Global) -> Result<Books> {
+    let text = domain_text(alloc)?.into_bytes();
+    Ok(Books {
+        ledger: Ledger::new(alloc, domain_of(alloc, text.as_slice())?)?,
+        plain: Vec::new(alloc),
+        args: Args::new(alloc, Vec::new(alloc))?,
+    })
+}
+
+// An envelope of the first session.
+fn envelope_of(args: &Args) -> Result<Envelope> {
+    let Some(session) = SessionId::new(1) else {
+        bail!("there is no first session");
+    };
+    let sender = Sender::Operator(session);
+    let envelope = Envelope::new(sender, ActionId::new(0), args.share()?)?;
+    Ok(envelope)
+}
+
+// Adds a start, with what must be asked before.
+fn add_start(ledger: &mut Ledger, o: ObjId, envelope: Envelope) -> bool {
+    if ledger.hold(2).is_err() {
+        return false;
+    }
+    let Sender::Operator(_) = &envelope.letter().sender else {
+        return false;
+    };
+    if !ledger.domain().has(o) || ledger.opened(o).is_some() {
+        return false;
+    }
+    let letters = envelope.into_letters();
+    ledger.add_start(o, letters.journal, letters.slot);
+    true
+}
+
+fn add_post(ledger: &mut Ledger, o: ObjId, args: Args) -> bool {
+    if !ledger.domain().has(o) {
+        return false;
+    }
+    if ledger.hold(1).is_err() || ledger.hold_answers(o, 1).is_err() {
+        return false;
+    }
+    ledger.add_post(o, o, Verdict::Accepted(0), ActionId::new(0), args);
+    true
+}
+
+fn add_end(ledger: &mut Ledger, o: ObjId) -> bool {
+    if !ledger.domain().has(o) || !ledger.is_open(o) {
+        return false;
+    }
+    ledger.add_end(o, ActionEnd::Skipped);
+    true
+}
+
+// Arguments for an entry of each object.
+fn shares_of(alloc: Global, args: &Args) -> Result<Vec<Args>> {
+    let mut shares = Vec::new(alloc);
+    for _ in 0..OBJECTS {
+        shares.push(args.share()?)?;
+    }
+    Ok(shares)
+}
+
+fn time_pushes<R: Clock + AllocGlobal>(rt: &R, books: &mut Books) -> Result<Duration> {
+    let mut shares = shares_of(rt.alloc(), &books.args)?;
+    let begin = Instant::now(rt)?;
+    for _ in 0..OBJECTS {
+        let Some(args) = shares.pop() else {
+            bail!("there are too few arguments");
+        };
+        books.plain.push(Entry::Post {
+            sender: ObjId::new(0),
+            target: ObjId::new(0),
+            verdict: Verdict::Full,
+            action: ActionId::new(0),
+            args,
+        })?;
+    }
+    Ok(begin.elapsed(rt)?)
+}
+
+fn time_starts<R: Clock + AllocGlobal>(rt: &R, books: &mut Books) -> Result<Duration> {
+    let mut envelopes = Vec::new(rt.alloc());
+    for _ in 0..OBJECTS {
+        envelopes.push(envelope_of(&books.args)?)?;
+    }
+    let begin = Instant::now(rt)?;
+    for o in 0..OBJECTS {
+        let Some(envelope) = envelopes.pop() else {
+            bail!("there are too few envelopes");
+        };
+        if !add_start(&mut books.ledger, ObjId::new(o), envelope) {
+            bail!("a start is not added");
+        }
+    }
+    Ok(begin.elapsed(rt)?)
+}
+
+fn time_posts<R: Clock + AllocGlobal>(rt: &R, books: &mut Books) -> Result<Duration> {
+    let mut shares = shares_of(rt.alloc(), &books.args)?;
+    let begin = Instant::now(rt)?;
+    for o in 0..OBJECTS {
+        let Some(args) = shares.pop() else {
+            bail!("there are too few arguments");
+        };
+        if !add_post(&mut books.ledger, ObjId::new(o), args) {
+            bail!("a post is not added");
+        }
+    }
+    Ok(begin.elapsed(rt)?)
+}
+
+fn time_ends<R: Clock>(rt: &R, books: &mut Books) -> Result<Duration> {
+    let begin = Instant::now(rt)?;
+    for o in 0..OBJECTS {
+        if !add_end(&mut books.ledger, ObjId::new(o)) {
+            bail!("an end is not added");
+        }
+    }
+    Ok(begin.elapsed(rt)?)
+}
+
+// Some rounds, with as many entries of the plain list as of the ledger.
+fn time_rounds<R: Clock + AllocGlobal>(rt: &R, books: &mut Books, rounds: usize) -> Result<Times> {
+    let mut times = Times {
+        push: Duration::MAX,
+        start: Duration::MAX,
+        post: Duration::MAX,
+        end: Duration::MAX,
+    };
+    for _ in 0..rounds {
+        times.start = times.start.min(time_starts(rt, books)?);
+        times.post = times.post.min(time_posts(rt, books)?);
+        times.end = times.end.min(time_ends(rt, books)?);
+        for _ in 0..3u32 {
+            times.push = times.push.min(time_pushes(rt, books)?);
+        }
+    }
+    Ok(times)
+}
+
+fn looked_up(ledger: &Ledger, look_up: LookUp, o: ObjId) -> usize
+    requires { o < length ledger.now.domain.objects }
+{
+    match look_up {
+        LookUp::State => ledger.state(o).get(),
+        LookUp::Opened => usize::from(ledger.opened(o).is_some()),
+        LookUp::IsOpen => usize::from(ledger.is_open(o)),
+        LookUp::Answers => ledger.answers(o).len(),
+        LookUp::Waits => usize::from(ledger.waits(o)),
+        LookUp::Killed => usize::from(ledger.killed(o).is_some()),
+        LookUp::Started => ledger.started(&Sender::Object(o), o),
+        LookUp::Posted => ledger.posted(o, o),
+        LookUp::Starts => ledger.starts(),
+        LookUp::IsClear => usize::from(ledger.is_clear(o, o)),
+    }
+}
+
+// All objects once, with the sum of what is looked up.
+fn sum_of(ledger: &Ledger, look_up: LookUp) -> usize {
+    let objects = ledger.domain().objects();
+    let mut sum = 0usize;
+    for o in 0..objects {
+        sum = sum.saturating_add(looked_up(ledger, look_up, ObjId::new(o)));
+    }
+    sum
+}
+
+fn time_look_ups<R: Clock>(rt: &R, ledger: &Ledger, look_up: LookUp) -> Result<Duration> {
+    let mut least = Duration::MAX;
+    for _ in 0..TIMED_ROUNDS {
+        let begin = Instant::now(rt)?;
+        let sum = sum_of(ledger, look_up);
+        least = least.min(begin.elapsed(rt)?);
+        if sum == usize::MAX {
+            bail!("a sum is too great");
+        }
+    }
+    Ok(least)
+}
+
+// A line: the time of a call in nanoseconds, with a tenth of one, and how many hundredths of a push that is.
+fn tell<R: Print>(rt: &R, name: &str, time: Duration, push: u128) -> Result<()> {
+    let tenths = time.as_nanos() * 10 / CALLS;
+    let (whole, part) = (tenths / 10, tenths % 10);
+    let ratio = tenths * 100 / push.max(1);
+    println!(rt; "{name:<10} {whole:>6}.{part} ns {ratio:>6} %")?;
+    Ok(())
+}
+
+fn report_at<R: Clock + Print + AllocGlobal>(rt: &R, entries: usize) -> Result<()> {
+    let mut books = books_of(rt.alloc())?;
+    time_rounds(rt, &mut books, entries / (3 * OBJECTS))?;
+    println!(rt;
+        "after {} entries, with a push as 100 %:",
+        books.ledger.journal().len()
+    )?;
+    let times = time_rounds(rt, &mut books, TIMED_ROUNDS)?;
+    let push = times.push.as_nanos() * 10 / CALLS;
+    println!(rt; "{:<10} {:>6}.{} ns", "push", push / 10, push % 10)?;
+    tell(rt, "start", times.start, push)?;
+    tell(rt, "post", times.post, push)?;
+    tell(rt, "end", times.end, push)?;
+    for (look_up, name) in LOOK_UPS {
+        tell(rt, name, time_look_ups(rt, &books.ledger, look_up)?, push)?;
+    }
+    Ok(())
+}
+
+/// Prints how long entries and look-ups take in a ledger of 64 objects, after a thousand entries and
+/// after a million.
+pub fn report<R: Clock + Print + AllocGlobal>(rt: &R) -> Result<()> {
+    for entries in COUNTS {
+        report_at(rt, entries)?;
+    }
+    Ok(())
+}
