@@ -7,13 +7,14 @@ use crate::judgement::Judgement;
 use smi_core::{CoreError, ScheduleFault};
 use sml_faults::{CheckError, CheckKind};
 use sml_read::{ReadError, ReadErrorKind};
+use std::error::Error;
 use std::io::{ErrorKind, Write};
 use std::{fmt, io};
 
 /// Why a command ends before it is done. Its `Display` is the fault line (docs/FORMATS.md, "Fault
 /// lines and exit statuses"), without the line feed. Each text is the word of the command line that
 /// names the file.
-#[derive(Drop)]
+#[derive(Debug, Drop)]
 pub enum Fault<'a> {
     /// The text is no file of the language.
     Read(&'a str, ReadError),
@@ -132,3 +133,5 @@ impl fmt::Display for Fault<'_> {
         }
     }
 }
+
+impl Error for Fault<'_> {}
