@@ -161,7 +161,7 @@ fn shows_classes(domain: &Domain) -> bool {
             lamp.name == Name::from_word(b"LAMP")
                 && lamp.associated
                 && boss.name == Name::from_word(b"BOSS")
-                && boss.states.len() == 2
+                && boss.states.rows().len() == 2
         }
         _ => false,
     }

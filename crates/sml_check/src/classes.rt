@@ -12,6 +12,7 @@ use crate::names::Names;
 use crate::params::class_params;
 use crate::signatures::signatures;
 use sml_domain::rows::{Action, Class, State};
+use sml_domain::table::Table;
 use sml_tree::file::Item;
 use std::alloc::{AllocError, Allocator, Global};
 
@@ -72,7 +73,10 @@ fn state_row<A: Allocator + Clone>(
 {
     let number = names.state(&state.name);
     let actions = action_rows(alloc, blocks, names, class, &state.actions)?;
-    Ok(State { number, actions })
+    Ok(State {
+        number,
+        actions: Table::new(alloc, actions)?,
+    })
 }
 
 // The states that a class declares.
@@ -109,7 +113,7 @@ fn all_states<A: Allocator + Clone>(
         let number = names.state(&dead_name());
         made.push(State {
             number,
-            actions: Vec::new(alloc),
+            actions: Table::new(alloc, Vec::new(alloc))?,
         })?;
     }
     Ok(made)
@@ -138,10 +142,10 @@ fn class_row<A: Allocator + Clone>(
         name: class.name,
         associated: class.associated,
         params,
-        states,
+        states: Table::new(alloc, states)?,
         initial,
         dead,
-        signatures,
+        signatures: Table::new(alloc, signatures)?,
     })
 }
 

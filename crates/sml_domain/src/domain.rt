@@ -244,7 +244,7 @@ impl Domain {
         self.classes[self.class_of(o).get()].dead
     }
 
-    /// Whether an object's class has a state. The cost is the count of the class's states.
+    /// Whether an object's class has a state. The cost is that of a look-up by hash.
     pub fn is_state(&self, o: ObjId, s: StateId) -> bool
         ensures { result ≡ says.is_state_of self.now o s }
     {
@@ -255,8 +255,7 @@ impl Domain {
     }
 
     /// The block that an object's class declares in a state for an action, or None where the state
-    /// declares no such action. The cost is the count of the class's states and that of the state's
-    /// actions.
+    /// declares no such action. The cost is that of two look-ups by hash.
     pub fn block(&self, o: ObjId, s: StateId, a: ActionId) -> Option<BlockId>
         ensures is { result ≡ says.block_at self.now o s a }
         ensures within { IfSome result (λ b. b < length self.now.blocks) }
@@ -286,7 +285,7 @@ impl Domain {
     }
 
     /// The parameters of an action of an object's class in order, with their defaults, or None where
-    /// the class lists no such action. The cost is the count of the class's actions.
+    /// the class lists no such action. The cost is that of a look-up by hash.
     pub fn parameters(&self, o: ObjId, a: ActionId) -> Option<&[Param]>
         ensures is { option_map (λ ps. ps.now) result ≡ says.params_at self.now o a }
         ensures fit { IfSome result (λ ps. All ParamFits ps.now) }

@@ -4,6 +4,7 @@ ghost use Rattle.sml_domain.specs.Lookups as says;
 
 use crate::ids::{ActionId, BlockId, ClassId, ObjId, StateId};
 use crate::param::Param;
+use crate::table::{Numbered, Table};
 use sml_tree::name::Name;
 use std::marker::Model;
 
@@ -24,11 +25,19 @@ impl Model for Action {
     ghost inverse = { λ a. record { number = a.number; block = a.block } };
 }
 
+impl Numbered for Action {
+    ghost number_of = { λ a. a.number };
+
+    fn number(&self) -> usize {
+        self.number.get()
+    }
+}
+
 /// A state of a class, with the actions that it declares.
 #[derive(Drop)]
 pub struct State {
     pub number: StateId,
-    pub actions: Vec<Action>,
+    pub actions: Table<Action>,
 }
 
 impl Model for State {
@@ -36,7 +45,15 @@ impl Model for State {
 
     ghost Value = { plain.State };
 
-    ghost view = { λ s. record { number = s.number; actions = s.actions.items } };
+    ghost view = { λ s. record { number = s.number; actions = s.actions } };
+}
+
+impl Numbered for State {
+    ghost number_of = { λ s. s.number };
+
+    fn number(&self) -> usize {
+        self.number.get()
+    }
 }
 
 /// The parameters of an action of a class, as the first state that declares it lists them.
@@ -54,6 +71,14 @@ impl Model for Signature {
     ghost view = { λ s. record { action = s.action; params = s.params.items } };
 }
 
+impl Numbered for Signature {
+    ghost number_of = { λ s. s.action };
+
+    fn number(&self) -> usize {
+        self.action.get()
+    }
+}
+
 /// A class: its states in the order of the text, an added dead state last, and the parameters of
 /// its actions in the order of their first declaration.
 #[derive(Drop)]
@@ -61,10 +86,10 @@ pub struct Class {
     pub name: Name,
     pub associated: bool,
     pub params: Vec<Param>,
-    pub states: Vec<State>,
+    pub states: Table<State>,
     pub initial: StateId,
     pub dead: StateId,
-    pub signatures: Vec<Signature>,
+    pub signatures: Table<Signature>,
 }
 
 impl Model for Class {
@@ -76,10 +101,10 @@ impl Model for Class {
       name = c.name;
       associated = c.associated;
       params = c.params.items;
-      states = c.states.items;
+      states = c.states;
       initial = c.initial;
       dead = c.dead;
-      signatures = c.signatures.items;
+      signatures = c.signatures;
     } };
 }
 
@@ -140,28 +165,26 @@ pub(crate) fn group_place(groups: &[Group], name: &Name) -> Option<usize>
 }
 
 impl State {
-    // The action with a number. The cost is the count of the state's actions.
+    // The action with a number. The cost is that of a look-up by hash.
     pub(crate) fn action(&self, a: ActionId) -> Option<&Action>
         ensures { option_map (λ x. x.now) result ≡ says.action_in a self.now }
     {
-        self.actions.iter().find(|action| action.number == a)
+        self.actions.get(a.get())
     }
 }
 
 impl Class {
-    // The state with a number. The cost is the count of the class's states.
+    // The state with a number. The cost is that of a look-up by hash.
     pub(crate) fn state(&self, s: StateId) -> Option<&State>
         ensures { option_map (λ x. x.now) result ≡ says.state_in s self.now }
     {
-        self.states.iter().find(|state| state.number == s)
+        self.states.get(s.get())
     }
 
-    // The parameters of an action. The cost is the count of the class's actions.
+    // The parameters of an action. The cost is that of a look-up by hash.
     pub(crate) fn signature(&self, a: ActionId) -> Option<&Signature>
         ensures { option_map (λ x. x.now) result ≡ says.signature_in a self.now }
     {
-        self.signatures
-            .iter()
-            .find(|signature| signature.action == a)
+        self.signatures.get(a.get())
     }
 }
