@@ -219,6 +219,17 @@ fn makes(alloc: Global, domain: &Domain, row: Row) -> bool {
     }
 }
 
+/// Whether the sink's arguments are completed, at the second time at the latest.
+pub fn completes_at_last(alloc: Global, domain: &Domain) -> bool {
+    let row = Row {
+        object: OUT,
+        action: TAKE,
+        passed: &[(b"W", Plain::Str(b"a")), (b"V", Plain::Int(5))],
+        made: Some(&[Plain::Int(5), Plain::Str(b"a")]),
+    };
+    makes(alloc, domain, row) || makes(alloc, domain, row)
+}
+
 // The place of the first row that makes something else.
 fn wrong_row(alloc: Global, domain: &Domain) -> Option<usize> {
     for (place, row) in ROWS.iter().enumerate() {

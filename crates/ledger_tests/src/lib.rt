@@ -14,6 +14,8 @@ mod fits;
 #[cfg(test)]
 mod look_ups;
 #[cfg(test)]
+mod memory;
+#[cfg(test)]
 mod runs;
 #[cfg(test)]
 mod tests_of_runs;

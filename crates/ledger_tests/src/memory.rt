@@ -1,0 +1,106 @@
+//! Memory that is refused: nothing has changed, and the same call then gives its answer.
+//!
+//! `tools/refused-memory` runs this again and again, and each time another allocation is refused.
+
+use crate::adding::adds;
+use crate::completing::{Plain, completes_at_last};
+use crate::domain_of::domain_of;
+use crate::look_ups::is_as_walked;
+use crate::runs::{By, Line};
+use smi_entry::entry::Verdict;
+use smi_ledger::ledger::Ledger;
+use sml_domain::domain::Domain;
+use sml_domain::ids::ObjId;
+use std::alloc::Global;
+use std::sync::Arc;
+use std::test::*;
+
+const SINK: &[u8] = b"class: SINK
+  state: READY
+    action: TAKE (int V, string W)
+object: OUT is_of_class SINK
+";
+
+const GIVEN: &[Plain] = &[Plain::Int(5), Plain::Str(b"a")];
+
+// An entry of each kind.
+const LINES: &[Line] = &[
+    Line::Start(0, By::Session(1), 0, 0, GIVEN),
+    Line::Post(0, 0, Verdict::Accepted(0), 0, GIVEN),
+    Line::Wait(0),
+    Line::Seen(0, &[(0, 0)]),
+    Line::End(0, 0),
+    Line::Kill(0, 1),
+];
+
+// The domain, asked for a second time where it was refused.
+fn domain_at_last(alloc: Global) -> Option<Arc<Domain>> {
+    match domain_of(alloc, SINK) {
+        Some(domain) => Some(domain),
+        None => domain_of(alloc, SINK),
+    }
+}
+
+// A ledger, asked for a second time where it was refused.
+fn ledger_at_last(alloc: Global) -> Option<Ledger> {
+    match Ledger::new(alloc, domain_at_last(alloc)?) {
+        Ok(ledger) => Some(ledger),
+        Err(_) => Ledger::new(alloc, domain_at_last(alloc)?).ok(),
+    }
+}
+
+// Whether an entry is added, at the second time at the latest, and a refusal leaves all as it was.
+fn adds_at_last(alloc: Global, ledger: &mut Ledger, line: Line) -> bool {
+    let entries = ledger.journal().len();
+    adds(alloc, ledger, line)
+        || (ledger.journal().len() == entries && is_as_walked(ledger) && adds(alloc, ledger, line))
+}
+
+// Whether all entries are added.
+fn adds_all_at_last(alloc: Global, ledger: &mut Ledger) -> bool {
+    for line in LINES {
+        if !adds_at_last(alloc, ledger, *line) {
+            return false;
+        }
+    }
+    ledger.journal().len() == LINES.len() && is_as_walked(ledger)
+}
+
+fn goes_on(alloc: Global) -> bool {
+    match ledger_at_last(alloc) {
+        Some(ledger) => {
+            let mut ledger = ledger;
+            completes_at_last(alloc, ledger.domain()) && adds_all_at_last(alloc, &mut ledger)
+        }
+        None => false,
+    }
+}
+
+#[test]
+fn goes_on_after_a_refusal(rt: HostRuntime) {
+    assert!(rt; goes_on(rt.alloc()));
+}
+
+// Whether room that no memory has is refused, and all is as it was.
+fn refuses_too_much(ledger: &mut Ledger) -> bool {
+    let o = ObjId::new(0);
+    ledger.domain().has(o)
+        && ledger.hold(usize::MAX).is_err()
+        && ledger.hold_answers(o, usize::MAX).is_err()
+        && is_as_walked(ledger)
+}
+
+fn holds_on(alloc: Global) -> bool {
+    match ledger_at_last(alloc) {
+        Some(ledger) => {
+            let mut ledger = ledger;
+            refuses_too_much(&mut ledger) && adds_all_at_last(alloc, &mut ledger)
+        }
+        None => false,
+    }
+}
+
+#[test]
+fn refuses_room_that_no_memory_has(rt: HostRuntime) {
+    assert!(rt; holds_on(rt.alloc()));
+}
