@@ -219,15 +219,17 @@ fn makes(alloc: Global, domain: &Domain, row: Row) -> bool {
     }
 }
 
+// What is passed in another order than that of the sink's parameters.
+const TURNED: Row = Row {
+    object: OUT,
+    action: TAKE,
+    passed: &[(b"W", Plain::Str(b"a")), (b"V", Plain::Int(5))],
+    made: Some(&[Plain::Int(5), Plain::Str(b"a")]),
+};
+
 /// Whether the sink's arguments are completed, at the second time at the latest.
 pub fn completes_at_last(alloc: Global, domain: &Domain) -> bool {
-    let row = Row {
-        object: OUT,
-        action: TAKE,
-        passed: &[(b"W", Plain::Str(b"a")), (b"V", Plain::Int(5))],
-        made: Some(&[Plain::Int(5), Plain::Str(b"a")]),
-    };
-    makes(alloc, domain, row) || makes(alloc, domain, row)
+    makes(alloc, domain, TURNED) || makes(alloc, domain, TURNED)
 }
 
 // The place of the first row that makes something else.
