@@ -48,10 +48,10 @@ distinct_apart names = fold_apart names [] tt
 
 -- ---- of pairs
 
-stands_first : {X : Type 0} (x y : X) (xs : List X) → Contains xs y → StandsBefore x y (x ∷ xs)
+pub stands_first : {X : Type 0} (x y : X) (xs : List X) → Contains xs y → StandsBefore x y (x ∷ xs)
 stands_first x y xs at = let s = split xs y at in record { before = []; between = s.before; after = s.after; is = ap (λ ys. x ∷ ys) s.is }
 
-stands_next : {X : Type 0} (z x y : X) (xs : List X) → StandsBefore x y xs → StandsBefore x y (z ∷ xs)
+pub stands_next : {X : Type 0} (z x y : X) (xs : List X) → StandsBefore x y xs → StandsBefore x y (z ∷ xs)
 stands_next z x y xs s = record { before = z ∷ s.before; between = s.between; after = s.after; is = ap (λ ys. z ∷ ys) s.is }
 
 -- the names of some things

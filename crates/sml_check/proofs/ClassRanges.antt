@@ -66,7 +66,7 @@ find_first {X} p (z ∷ xs) ys x e = by (p z) e (find_first p xs ys x)
 stands_in : {X : Type 0} (x y : X) (xs : List X) → StandsBefore x y xs → Contains xs x
 stands_in x y xs s = contains_split xs x (record { before = s.before; after = s.between ++ y ∷ s.after; is = s.is })
 
-other_number : (j k : ℕ) → (j ≡ k → ⊥) → (j == k) ≡ false
+pub other_number : (j k : ℕ) → (j ≡ k → ⊥) → (j == k) ≡ false
 other_number j k other = by (j == k) refl
   where
     by : (b : Bool) → (j == k) ≡ b → b ≡ false

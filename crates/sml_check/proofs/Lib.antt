@@ -17,6 +17,7 @@ pub mod Alike
 pub mod ClassRanges
 pub mod Places
 pub mod ObjectRows
+pub mod Members
 pub mod RequestRanges
 pub mod ProgramRanges
 pub mod Soundness

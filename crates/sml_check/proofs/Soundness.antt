@@ -33,6 +33,7 @@ use Rattle.sml_check.proofs.Alike.{position_map, got_map}
 use Rattle.sml_check.proofs.Numbered.{contains_map, all_from}
 use Rattle.sml_check.proofs.Apart.{only, contains_unmap}
 use Rattle.sml_check.proofs.PlacedFiles.{class_there, state_number, dead_number, action_number}
+use Rattle.sml_check.proofs.Members.{members_differ}
 use Rattle.sml_check.proofs.Ranges.{number_within, class_in, object_in, objects_fit, groups_fit, objects_apart, classes_apart, one_number}
 use Rattle.sml_check.proofs.ClassRanges.{params_fit, params_apart, own_states, first_is, dead_is, signatures_fit, signatures_declared}
 use Rattle.sml_check.proofs.ObjectRows.{signature_there, stands_there}
@@ -208,7 +209,7 @@ module _ (file : List ItemData) (d : Domain) (is : IsDomainOf file d) (placed : 
           (blocks_spare one.of one.of_in x one.row one.said one.said_in one.named)))
 
   sound : IsSound d
-  sound = record { range = in_range; names = one_number file d is ok; others = ask_others }
+  sound = record { range = in_range; names = one_number file d is ok; members = members_differ file d is ok; others = ask_others }
 
 -- so it is
 pub domain_is_sound : (file : List ItemData) (d : Domain) → IsWellFormed file → IsDomainOf file d → AreInPlace d → IsSound d

@@ -1,6 +1,7 @@
--- What is so of every domain: its numbers are its own, values have the kinds of their parameters, and no condition asks
--- the object that runs it.
-use Rattle.std.specs.Prelude.{◌≡◌, ◌<◌, ℕ, Bool, true, List, Some, All, IfSome, IsSomeAnd, is_some, length, map}
+-- What is so of every domain: its numbers are its own, values have the kinds of their parameters, no set has a member
+-- twice, and no condition asks the object that runs it.
+use Rattle.std.specs.Prelude.{◌≡◌, ◌<◌, ℕ, Bool, true, false, List, [], ◌∷◌, Some, All, IfSome, IsSomeAnd, is_some, length, map, nat_eq}
+use Rattle.std.specs.List.{list_any}
 use Rattle.std.specs.Option.{option_and_then}
 use Rattle.sml_tree.specs.declared.file.Kind.{Kind}
 use Rattle.sml_domain.specs.declared.value.Value.{Value}
@@ -88,6 +89,15 @@ ObjectFits d o = o.class < length d.classes
 abbrev pub GroupFits : Domain → Group → Type 0
 GroupFits d g = All (IsObject d) g.members
 
+-- no number stands twice
+abbrev pub EachOnce : List ℕ → Type 0
+EachOnce [] = Unit {0}
+EachOnce (n ∷ ns) = (list_any (nat_eq n) ns ≡ false) × EachOnce ns
+
+-- no member of a set stands twice
+abbrev pub MembersDiffer : Group → Type 0
+MembersDiffer g = EachOnce g.members
+
 -- all numbers of a domain are its own, and each block names those before it
 pub record AreInRange (d : Domain) : Type 0 where
   pub objects : All (ObjectFits d) d.objects
@@ -119,6 +129,7 @@ ProgramsAskOthers d = (o s a b : ℕ) → block_at d o s a ≡ Some b → Progra
 pub record IsSound (d : Domain) : Type 0 where
   pub range : AreInRange d
   pub names : HaveOneNumber d
+  pub members : All MembersDiffer d.groups
   pub others : ProgramsAskOthers d
 
 -- what is left of a block at its beginning is its tree

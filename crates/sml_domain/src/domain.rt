@@ -4,7 +4,7 @@ ghost use Rattle.sml_domain.specs.Domain.{block_items};
 ghost use Rattle.sml_domain.specs.Trees.{instruction};
 ghost use Rattle.sml_domain.specs.Lookups as says;
 ghost use Rattle.sml_domain.specs.Places.{Shows, instrs_at};
-ghost use Rattle.sml_domain.specs.Sound.{IsSound, EachBegins, IsObject, BlockFits, ClassFits, ClassParamFits, ParamFits, name_of_param};
+ghost use Rattle.sml_domain.specs.Sound.{IsSound, EachBegins, EachOnce, IsObject, BlockFits, ClassFits, ClassParamFits, ParamFits, name_of_param};
 ghost use Rattle.sml_domain.specs.Names.{AreDistinct};
 
 use crate::ids::{ActionId, BlockId, ClassId, ObjId, SetId, StateId};
@@ -297,10 +297,11 @@ impl Domain {
         }
     }
 
-    /// The members of a set in order. Empty where no set has the number.
+    /// The members of a set in order, each once. Empty where no set has the number.
     pub fn members(&self, set: SetId) -> &[ObjId]
         ensures is { result.now ≡ says.members_at self.now set }
         ensures within { All (IsObject self.now) result.now }
+        ensures once { EachOnce result.now }
     {
         match self.groups.get(set.get()) {
             Some(group) => &group.members,

@@ -34,7 +34,11 @@ impl<T: Numbered + Drop> Model for Table<T> {
 }
 
 // The row at the place of a number.
-fn row_at_place<'a, T>(rows: &'a [T], places: &IndexMap<usize, usize>, number: usize) -> Option<&'a T>
+fn row_at_place<'a, T>(
+    rows: &'a [T],
+    places: &IndexMap<usize, usize>,
+    number: usize,
+) -> Option<&'a T>
     ensures { option_map (λ x. x.now) result ≡ row_at rows.now places.now number }
 {
     rows.get(*places.get(&number)?)

@@ -16,10 +16,11 @@ loop-place-preserved g c =
     let within = subst (λ ys. i < length ys) same c.loop-place-test.true in
     let is = subst (λ ys. c.row-item.result ≡ get_or ys i c.row-item.result) same c.row-item.is in
     elim c.if-is_none.branch [
-      then-is_none+in_ok-insert w ↦
-        let none : row_at rows places k ≡ None = search rules in
-        subst (LeadSoFar number rows (i + 1)) (sym w.places-is)
-        (newly number rows i k c.row-item.result places w.insert.new.self within is c.number-number.ensures c.loop-place.invariant none (λ n. w.in_ok-insert.ensures.updates.0 n))
-    | else-is_none w ↦
-        let there : is_some (row_at rows places k) ≡ true = search rules in
-        subst (LeadSoFar number rows (i + 1)) (sym w.places-is) (kept number rows i k c.row-item.result places within is c.number-number.ensures c.loop-place.invariant there) ]
+      | then-is_none+in_ok-insert w ↦
+          let none : row_at rows places k ≡ None = search rules in
+          subst (LeadSoFar number rows (i + 1)) (sym w.places-is)
+          (newly number rows i k c.row-item.result places w.insert.new.self within is c.number-number.ensures c.loop-place.invariant none (λ n. w.in_ok-insert.ensures.updates.0 n))
+      | else-is_none w ↦
+          let there : is_some (row_at rows places k) ≡ true = search rules in
+          subst (LeadSoFar number rows (i + 1)) (sym w.places-is) (kept number rows i k c.row-item.result places within is c.number-number.ensures c.loop-place.invariant there)
+    ]
