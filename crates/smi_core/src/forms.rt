@@ -78,7 +78,7 @@ fn are_plain_signatures(signatures: &[Signature]) -> bool
 fn is_plain_class(class: &Class) -> bool
     ensures { result ≡ forms.is_plain_class class.now }
 {
-    !class.associated && class.params.is_empty() && are_plain_signatures(&class.signatures)
+    !class.associated && class.params.is_empty() && are_plain_signatures(class.signatures.rows())
 }
 
 // Whether all classes are such.
