@@ -1,0 +1,16 @@
+pub mod Picked
+pub mod Blocks
+pub mod Naming
+pub mod Showing
+pub mod Asking
+pub mod Arguments
+pub mod KindsKept
+pub mod Parameters
+pub mod Journals
+pub mod StatesKnown
+pub mod ValuesKept
+mod Worked
+pub mod Readings
+pub mod Leaving
+pub mod Numbered
+pub mod Tested

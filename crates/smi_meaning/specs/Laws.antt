@@ -1,0 +1,189 @@
+-- The laws of what blocks mean.
+use Rattle.std.specs.Prelude.{◌≡◌, ◌↔◌, ℕ, true, nat_eq, List, [], ◌∷◌, ◌++◌, map, Some, All}
+use Rattle.std.specs.List.{IsDistinct, list_any}
+use Rattle.sml_domain.specs.declared.value.Value.{Value}
+use Rattle.sml_domain.specs.Program.{Argument, Target, Formula, Program}
+use Rattle.sml_domain.specs.Domain.{Domain, Class, Param}
+use Rattle.sml_domain.specs.Lookups.{members_at, has_state}
+use Rattle.sml_domain.specs.Truth.{Reading, state_read}
+use Rattle.sml_domain.specs.Completing.{complete}
+use Rattle.sml_domain.specs.Names.{AreDistinct}
+use Rattle.sml_domain.specs.Fits.{ArgumentsFit, SendFits, ProgramFits}
+use Rattle.sml_domain.specs.Sound.{ParamFits, IsSound, name_of_param}
+use Rattle.sml_domain.specs.Laws.{passed_as, KeepsKinds}
+use Rattle.smi_entry.specs.Fits.{are_values_of, are_arguments}
+use Rattle.smi_meaning.specs.Items.{Post}
+use Rattle.smi_entry.specs.Words.{Item}
+use Rattle.smi_meaning.specs.Environment.{Env, value_of, ValuesFit, ArgumentsAre, EnvFits}
+use Rattle.smi_meaning.specs.Conditions.{firsts, named_by, objects_of, object_read}
+use Rattle.smi_meaning.specs.Meaning.{Move, Outcome, To, Means, values_for, wanted}
+use Rattle.smi_meaning.specs.Steps.{After, Leads}
+use Rattle.smi_meaning.specs.Shown.{items_of, shown_moves, replies_to, question_in}
+
+-- ---- meanings
+
+-- equal moves leave one environment, and have one outcome
+abbrev pub OneEnd : Type 0
+OneEnd = (d : Domain) (members : ℕ → List ℕ) (b : Program) (env : Env) (moves : List Move) (e1 : Env) (r1 : Outcome) (e2 : Env) (r2 : Outcome)
+    → Means d members b env moves e1 r1 → Means d members b env moves e2 r2 → (e1 ≡ e2) × (r1 ≡ r2)
+
+-- a block has a meaning
+abbrev pub HasMeaning : Domain → (ℕ → List ℕ) → Program → Env → Type 0
+HasMeaning d members b env = (moves : List Move) × (env2 : Env) × (r : Outcome) × Means d members b env moves env2 r
+
+-- so has every block
+abbrev pub SomeMeaning : Type 0
+SomeMeaning = (d : Domain) (members : ℕ → List ℕ) (b : Program) (env : Env) → HasMeaning d members b env
+
+-- some meaning begins with these moves
+abbrev pub Begins : Domain → (ℕ → List ℕ) → Program → Env → List Move → Type 0
+Begins d members b env made = (more : List Move) × (env2 : Env) × (r : Outcome) × Means d members b env (made ++ more) env2 r
+
+-- some meaning begins with what was made
+abbrev pub SomeGoesOn : Type 0
+SomeGoesOn = (d : Domain) (members : ℕ → List ℕ) (b : Program) (env : Env) (made : List Move) (left : Program) (env1 : Env)
+    → Leads d members b env made left env1 → Begins d members b env made
+
+-- whole moves do not go on
+abbrev pub WholeEnds : Type 0
+WholeEnds = (d : Domain) (members : ℕ → List ℕ) (b : Program) (env : Env) (moves more : List Move) (m : Move) (e1 : Env) (r1 : Outcome) (e2 : Env) (r2 : Outcome)
+    → Means d members b env moves e1 r1 → Means d members b env (moves ++ m ∷ more) e2 r2 → ⊥
+
+-- ---- moves
+
+-- the moves made and a meaning of what is left make a meaning
+abbrev pub LeadsIn : Type 0
+LeadsIn = (d : Domain) (members : ℕ → List ℕ) (b : Program) (env : Env) (made : List Move) (left : Program) (env1 : Env) (moves : List Move) (e2 : Env) (r : Outcome)
+    → Leads d members b env made left env1 → Means d members left env1 moves e2 r → Means d members b env (made ++ moves) e2 r
+
+-- and a meaning that begins with the moves made goes on as one of what is left
+abbrev pub LeadsOut : Type 0
+LeadsOut = (d : Domain) (members : ℕ → List ℕ) (b : Program) (env : Env) (made : List Move) (left : Program) (env1 : Env) (moves : List Move) (e2 : Env) (r : Outcome)
+    → Leads d members b env made left env1 → Means d members b env (made ++ moves) e2 r → Means d members left env1 moves e2 r
+
+-- one more move is made from what is left
+abbrev pub LeadsMore : Type 0
+LeadsMore = (d : Domain) (members : ℕ → List ℕ) (b : Program) (env : Env) (made : List Move) (left : Program) (env1 : Env) (m : Move) (left2 : Program) (env2 : Env)
+    → Leads d members b env made left env1 → After d members left env1 m left2 env2 → Leads d members b env (made ++ m ∷ []) left2 env2
+
+-- a front of a meaning's moves leads to what means the others
+abbrev pub LeadsTo : Domain → (ℕ → List ℕ) → Program → Env → List Move → List Move → Env → Outcome → Type 0
+LeadsTo d members b env made moves e2 r = (left : Program) × (env1 : Env) × Leads d members b env made left env1 × Means d members left env1 moves e2 r
+
+-- so does every front of the moves of every meaning
+abbrev pub FrontsLead : Type 0
+FrontsLead = (d : Domain) (members : ℕ → List ℕ) (b : Program) (env : Env) (made moves : List Move) (e2 : Env) (r : Outcome)
+    → Means d members b env (made ++ moves) e2 r → LeadsTo d members b env made moves e2 r
+
+-- equal moves leave one rest, in one environment
+abbrev pub LeadsOnce : Type 0
+LeadsOnce = (d : Domain) (members : ℕ → List ℕ) (b : Program) (env : Env) (made : List Move) (left : Program) (env1 : Env) (left2 : Program) (env2 : Env)
+    → Leads d members b env made left env1 → Leads d members b env made left2 env2 → (left ≡ left2) × (env1 ≡ env2)
+
+-- ---- what is shown
+
+-- a meaning that shows what the moves made show, and then more, begins with them
+abbrev pub ShownSettles : Type 0
+ShownSettles = (d : Domain) (members : ℕ → List ℕ) (b : Program) (env : Env) (made : List Move) (left : Program) (env1 : Env) (moves : List Move) (e2 : Env) (r : Outcome) (more : List Item)
+    → Leads d members b env made left env1 → Means d members b env moves e2 r → shown_moves moves ≡ shown_moves made ++ more
+    → (rest : List Move) × (moves ≡ made ++ rest) × (shown_moves rest ≡ more)
+
+-- a move that may come next, by a meaning of what is left that shows more
+pub record ComesNext (d : Domain) (members : ℕ → List ℕ) (left : Program) (env : Env) (m : Move) (more : List Item) : Type 0 where
+  pub rest : List Move
+  pub end : Env
+  pub outcome : Outcome
+  pub means : Means d members left env (m ∷ rest) end outcome
+  pub shown : items_of m ++ shown_moves rest ≡ more
+
+-- what a meaning shows after the moves made is shown by a move that may come next, unless it shows no more
+abbrev pub NextIsShown : Type 0
+NextIsShown = (d : Domain) (members : ℕ → List ℕ) (b : Program) (env : Env) (made : List Move) (left : Program) (env1 : Env) (moves : List Move) (e2 : Env) (r : Outcome) (item : Item) (more : List Item)
+    → Leads d members b env made left env1 → Means d members b env moves e2 r → shown_moves moves ≡ shown_moves made ++ item ∷ more
+    → (m : Move) × ComesNext d members left env1 m (item ∷ more)
+
+-- what was shown settles what is asked next: two meanings that show the same so far ask the same
+abbrev pub ShownAsksOne : Type 0
+ShownAsksOne = (d : Domain) (members : ℕ → List ℕ) (b : Program) (env : Env) (moves others : List Move) (e1 e2 : Env) (r1 r2 : Outcome) (items : List Item) (x : Item) (more : List Item) (y : Item) (rest : List Item)
+    → Means d members b env moves e1 r1 → Means d members b env others e2 r2
+    → shown_moves moves ≡ items ++ x ∷ more → shown_moves others ≡ items ++ y ∷ rest
+    → question_in x ≡ question_in y
+
+-- and whether anything is
+abbrev pub ShownEndsOrAsks : Type 0
+ShownEndsOrAsks = (d : Domain) (members : ℕ → List ℕ) (b : Program) (env : Env) (moves others : List Move) (e1 e2 : Env) (r1 r2 : Outcome) (y : Item) (rest : List Item)
+    → Means d members b env moves e1 r1 → Means d members b env others e2 r2
+    → shown_moves others ≡ shown_moves moves ++ y ∷ rest → ⊥
+
+-- the replies to moves settle what they show
+abbrev pub RepliesSettle : Type 0
+RepliesSettle = (d : Domain) (members : ℕ → List ℕ) (b : Program) (env : Env) (made : List Move) (left : Program) (env1 : Env) (others : List Move) (left2 : Program) (env2 : Env)
+    → Leads d members b env made left env1 → Leads d members b env others left2 env2 → replies_to made ≡ replies_to others → shown_moves made ≡ shown_moves others
+
+-- ---- conditions
+
+-- no object of a condition stands twice
+abbrev pub NamedOnce : Type 0
+NamedOnce = (members : ℕ → List ℕ) (f : Formula) → IsDistinct nat_eq (objects_of members f)
+
+-- they are those that it names
+abbrev pub NamedAreThose : Type 0
+NamedAreThose = (members : ℕ → List ℕ) (f : Formula) (o : ℕ) → list_any (nat_eq o) (objects_of members f) ≡ list_any (nat_eq o) (named_by members f)
+
+-- those that stand in a front of what it names stand in front of the others
+abbrev pub NamedInOrder : Type 0
+NamedInOrder = (members : ℕ → List ℕ) (f : Formula) (front back : List ℕ) → named_by members f ≡ front ++ back
+    → (others : List ℕ) × (objects_of members f ≡ firsts front ++ others)
+
+-- a state was read of each that it names, where its objects were read
+abbrev pub NamedAreRead : Type 0
+NamedAreRead = (members : ℕ → List ℕ) (f : Formula) (readings : List Reading) (o : ℕ) → map object_read readings ≡ objects_of members f
+    → list_any (nat_eq o) (named_by members f) ≡ true → (s : ℕ) × (state_read readings o ≡ Some s)
+
+-- ---- arguments
+
+-- where arguments fit, no parameter goes without a value
+abbrev pub ArgumentsAreWhole : Type 0
+ArgumentsAreWhole = (own given params : List Param) (args : List Argument) (env : Env)
+    → KeepsKinds own given (value_of env) → All ParamFits params → AreDistinct (map name_of_param params) → ArgumentsFit own given args params
+    → map Some (values_for params env args) ≡ complete params (map (passed_as (value_of env)) args)
+
+-- and each value has the kind of its parameter
+abbrev pub ArgumentsHaveKinds : Type 0
+ArgumentsHaveKinds = (own given params : List Param) (args : List Argument) (env : Env)
+    → EnvFits own given env → All ParamFits params → AreDistinct (map name_of_param params) → ArgumentsFit own given args params
+    → ValuesFit (values_for params env args) params
+
+-- operands have values of their kinds in an environment that fits
+abbrev pub OperandsHaveKinds : Type 0
+OperandsHaveKinds = (own given : List Param) (env : Env) → EnvFits own given env → KeepsKinds own given (value_of env)
+
+-- the target of a post has the action, with parameters that the arguments are of
+abbrev pub PostFits : Domain → Post → Type 0
+PostFits d p = ArgumentsAre d p.target p.action p.args
+
+-- so has that of each post that is wanted
+abbrev pub WantedFit : Type 0
+WantedFit = (d : Domain) (own given : List Param) (env : Env) (target : Target) (a : ℕ) (args : List Argument)
+    → IsSound d → SendFits d own given a args target → EnvFits own given env
+    → All (PostFits d) (wanted d (members_at d) target a args env)
+
+-- values fit parameters exactly where the test of them passes
+abbrev pub FitIsTested : Type 0
+FitIsTested = (params : List Param) (values : List Value) → ValuesFit values params ↔ (are_values_of params values ≡ true)
+
+-- and arguments an action of an object
+abbrev pub ArgumentsAreTested : Type 0
+ArgumentsAreTested = (d : Domain) (o a : ℕ) (args : List Value) → ArgumentsAre d o a args ↔ (are_arguments d o a args ≡ true)
+
+-- ---- environments
+
+-- a block that fits leaves an environment that fits
+abbrev pub MeaningsKeepKinds : Type 0
+MeaningsKeepKinds = (d : Domain) (members : ℕ → List ℕ) (c : Class) (given : List Param) (b : Program) (env : Env) (moves : List Move) (env2 : Env) (r : Outcome)
+    → ProgramFits d c given b → EnvFits c.params given env → Means d members b env moves env2 r → EnvFits c.params given env2
+
+-- a block that fits ends in states of its class alone
+abbrev pub MeaningsEndInStates : Type 0
+MeaningsEndInStates = (d : Domain) (members : ℕ → List ℕ) (c : Class) (given : List Param) (b : Program) (env : Env) (moves : List Move) (env2 : Env) (s : ℕ)
+    → ProgramFits d c given b → Means d members b env moves env2 (To s) → has_state s c ≡ true

@@ -1,0 +1,12 @@
+pub mod Items
+pub mod Environment
+pub mod Conditions
+pub mod Meaning
+pub mod Steps
+pub mod Shown
+pub mod Laws
+pub mod Params
+pub mod Legal
+pub mod LegalLaws
+pub mod Example
+pub mod EntryLaws

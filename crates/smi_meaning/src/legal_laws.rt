@@ -1,0 +1,38 @@
+//! What holds of parameters and of legal journals, as contracts of functions that do nothing.
+ghost use Rattle.smi_meaning.specs.Example.{ExampleIsLegal};
+ghost use Rattle.smi_meaning.specs.LegalLaws.{ShownIsOne, DoneOnce, ParamsAreOne, ParamsMore, ParamsAreThere, LegalMore, LegalFront, NothingStartsDead, StateIsKnown, LegalFits, NextIsLegal, LegalIsNext, WholeIsDone, DoneIsWhole, ShowsOne, DoneOrShows};
+
+/// After a legal journal every object has one list of parameters.
+pub fn laws_of_params()
+    ensures one_meaning { ShownIsOne }
+    ensures one_end { DoneOnce }
+    ensures one { ParamsAreOne }
+    ensures more { ParamsMore }
+    ensures there { ParamsAreThere }
+{}
+
+/// Legal journals grow by entries that may follow, and nothing starts after a kill.
+pub fn laws_of_legal_journals()
+    ensures more { LegalMore }
+    ensures front { LegalFront }
+    ensures killed { NothingStartsDead }
+    ensures states { StateIsKnown }
+    ensures values { LegalFits }
+{}
+
+/// What an action may do next may be added to the journal that shows what it did.
+pub fn laws_of_next_entries()
+    ensures next { NextIsLegal }
+    ensures is_next { LegalIsNext }
+    ensures done { WholeIsDone }
+    ensures is_whole { DoneIsWhole }
+    ensures shows { ShowsOne }
+    ensures ends { DoneOrShows }
+{}
+
+/// An example, so that nothing of this is empty: supplies are switched on, are killed and fail; a
+/// counter is told what to hold, and tells two takers with parameters of their own. It has all kinds
+/// of entry, of verdict and of end.
+pub fn an_example()
+    ensures { ExampleIsLegal }
+{}
