@@ -1,0 +1,100 @@
+//! Long blocks: a task makes each move of them, in a time that grows with their count alone.
+
+use crate::domain_of::domain_of;
+use smi_entry::args::Args;
+use smi_entry::entry::Sender;
+use smi_entry::envelope::Envelope;
+use smi_entry::session::SessionId;
+use smi_interp::contact::Contact;
+use smi_interp::task::{Ready, Task};
+use sml_domain::ids::{ActionId, ObjId, StateId};
+use sml_domain::value::Value;
+use std::alloc::Global;
+use std::test::*;
+
+const HEAD: &[u8] = b"class: K
+  parameters: int N = 0
+  state: S
+    action: GO
+";
+
+const TAIL: &[u8] = b"object: X is_of_class K
+objectset: E { }
+";
+
+// An instruction, how often it stands in the block, and how many moves it makes.
+const ROWS: &[(&[u8], usize, usize)] = &[
+    (b"set N = 1 ", 10000, 1),
+    (b"if ( all_in E in_state S ) then set N = 2 endif ", 2000, 2),
+    (b"do GO all_in E ", 2000, 1),
+];
+
+// A text with an instruction so often.
+fn text_of(alloc: Global, piece: &[u8], count: usize) -> Option<Vec<u8>> {
+    let mut text = Vec::new(alloc);
+    text.extend_from_slice(HEAD).ok()?;
+    for _ in 0..count {
+        text.extend_from_slice(piece).ok()?;
+    }
+    text.extend_from_slice(TAIL).ok()?;
+    Some(text)
+}
+
+fn begun(alloc: Global, text: &[u8]) -> Option<Task> {
+    let domain = domain_of(alloc, text)?;
+    let object = ObjId::new(0);
+    let state = StateId::new(0);
+    let action = ActionId::new(0);
+    if !domain.declares(object, state, action) {
+        return None;
+    }
+    let args = Args::new(alloc, Vec::new(alloc)).ok()?;
+    let sender = Sender::Operator(SessionId::new(1)?);
+    let envelope = Envelope::new(sender, action, args).ok()?;
+    let params = vec![in alloc; Value::Int(0)].ok()?;
+    let ready = Ready::new(alloc, domain, object, &params).ok()?;
+    Some(ready.begin(state, envelope))
+}
+
+// Makes a move that asks nobody, and tells whether the action goes on.
+fn moves_on(task: &mut Task) -> bool {
+    let Ok(contact) = task.advance() else {
+        return false;
+    };
+    match &contact {
+        Contact::Local { .. } => true,
+        Contact::Send(posts) if posts.list().is_empty() => {
+            task.sent(&[]);
+            true
+        }
+        Contact::Read(objects) if objects.list().is_empty() => {
+            task.tell(&[]);
+            true
+        }
+        _ => false,
+    }
+}
+
+fn is_long(alloc: Global, piece: &[u8], count: usize, each: usize) -> bool {
+    let Some(text) = text_of(alloc, piece, count) else {
+        return false;
+    };
+    let Some(task) = begun(alloc, &text) else {
+        return false;
+    };
+    let mut task = task;
+    let most = count.saturating_mul(each);
+    for _ in 0..most {
+        if !moves_on(&mut task) {
+            return false;
+        }
+    }
+    task.turn().moves.len() == most && !moves_on(&mut task)
+}
+
+#[test]
+fn long_blocks(rt: HostRuntime) {
+    let alloc = rt.alloc();
+    let all = ROWS.iter().all(|row| is_long(alloc, row.0, row.1, row.2));
+    assert!(rt; all);
+}

@@ -1,0 +1,110 @@
+//! The domains of the walks.
+
+/// Two supplies, and what switches them on.
+pub const SUPPLIES: &[u8] = b"class: SUPPLY /associated
+  state: OFF /initial_state
+    action: SWITCH_ON
+  state: ON
+    action: SWITCH_OFF
+class: RUN_TYPE
+  state: NOT_READY /initial_state
+    action: CONFIGURE
+      do SWITCH_ON all_in HV
+      if ( all_in HV in_state ON ) then
+        move_to READY
+      endif
+      move_to ERROR
+  state: READY
+  state: ERROR
+object: HV1 is_of_class SUPPLY
+object: HV2 is_of_class SUPPLY
+object: RUN is_of_class RUN_TYPE
+objectset: HV { HV1, HV2 }
+";
+
+/// A counter, and the sink to which it sends what it keeps.
+pub const COUNTER: &[u8] = b"class: SINK /associated
+  state: READY
+    action: TAKE (int V, string W = \"none\")
+class: COUNTER
+  parameters: int N = 3, string P = \"x\"
+  state: IDLE
+    action: PUT (int T = 5, string M)
+      set N = T
+      set P = M
+      do TAKE (W = P, V = N) OUT
+    action: SHOW
+      do TAKE (V = N) OUT
+object: OUT is_of_class SINK
+object: C is_of_class COUNTER
+";
+
+/// Three `if`s within each other, with sets before, between and behind them.
+pub const NESTED: &[u8] = b"class: LAMP /associated
+  state: OFF /initial_state
+    action: LIGHT
+  state: ON
+class: DEEP
+  parameters: int N = 0, int M = 0
+  state: S
+    action: GO (int K = 7)
+      set N = K
+      if ( A in_state ON ) then
+        set N = 2
+        if ( B in_state ON or A in_state OFF and B in_state OFF ) then
+          set M = N
+          if ( not C in_state ON ) then
+            set N = 3
+          else
+            set N = K
+          endif
+          set M = N
+        else
+          terminate_action /state=T
+        endif
+        set N = 6
+      endif
+      set M = N
+  state: T
+object: A is_of_class LAMP
+object: B is_of_class LAMP
+object: C is_of_class LAMP
+object: D is_of_class DEEP
+";
+
+/// A condition over a set without members.
+pub const EMPTY: &[u8] = b"class: T
+  state: S
+    action: GO
+      if ( any_in E in_state S or not all_in E in_state S ) then
+        move_to BAD
+      endif
+      move_to GOOD
+  state: GOOD
+  state: BAD
+object: X is_of_class T
+objectset: E { }
+";
+
+/// Requests to two classes whose lists of parameters differ, and to nobody.
+pub const LISTS: &[u8] = b"class: LEFT /associated
+  state: S
+    action: TAKE (int V = 1, string W = \"w\")
+class: RIGHT /associated
+  state: S
+    action: TAKE (string W, int V = 2)
+class: SENDER
+  parameters: int N = 9
+  state: S
+    action: GO
+      do TAKE (W = \"x\") all_in BOTH
+      set N = 8
+      do TAKE (W = \"y\", V = N) all_in BOTH
+      do TAKE (W = \"z\") all_in NONE
+      do LEAVE all_in NONE
+object: L is_of_class LEFT
+object: R is_of_class RIGHT
+object: X is_of_class SENDER
+objectset: BOTH { R, L }
+objectset: NONE { }
+";

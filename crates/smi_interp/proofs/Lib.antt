@@ -1,0 +1,5 @@
+mod Named
+mod Passing
+mod Places
+mod Going
+mod Whole

@@ -1,0 +1,37 @@
+-- The fields of a task, and what they keep.
+use Rattle.std.specs.Prelude.{◌≡◌, [], IfSome}
+use Rattle.std.specs.Arc.{arc_value}
+use Rattle.sml_domain.specs.Program.{Program, Nothing}
+use Rattle.sml_domain.specs.Lookups.{members_at}
+use Rattle.smi_interp.specs.declared.contact.Contact.{Contact}
+use Rattle.smi_interp.specs.declared.run.Run.{Run}
+use Rattle.smi_interp.specs.Turn.{turn_of}
+use Rattle.smi_interp.specs.Cursor.{left_in, left_of, first_contact, HasRoom, Waits}
+use Rattle.smi_interp.specs.Task.{TaskView, HasLeft, env_now}
+
+-- a task by its fields
+abbrev pub task_of : Run → TaskView
+task_of r = record {
+  domain = arc_value r.domain;
+  turn = turn_of r.turn;
+  params = r.params.items;
+  pending = r.pending;
+}
+
+-- what is left of the block at the place where the task is
+abbrev pub here : Run → Program
+here r = left_in (arc_value r.domain) r.at
+
+-- the contact that comes next
+abbrev pub contact_here : Run → Contact
+contact_here r = first_contact (arc_value r.domain) (members_at (arc_value r.domain)) (here r) (env_now (task_of r))
+
+-- what the fields keep: the place is where the moves led, the contact that waits is what comes there, and there is room for its answer
+pub record IsSound (r : Run) : Type 0 where
+  pub leads : HasLeft (task_of r) (left_of (arc_value r.domain) r.at r.later.items)
+  pub asks : IfSome r.pending (λ c. c ≡ contact_here r)
+  pub settled : IfSome r.pending (λ c. here r ≡ Nothing → r.later.items ≡ [])
+  pub room : IfSome r.pending (λ c. HasRoom c r.turn.moves r.verdicts r.readings r.later)
+  pub waits : IfSome r.pending Waits
+  pub verdicts : r.verdicts.items ≡ []
+  pub readings : r.readings.items ≡ []

@@ -1,0 +1,297 @@
+//! The fields of a task, and its steps.
+ghost use Rattle.std.specs.Prelude.{◌≡◌, ◌≤◌, ◌+◌, ◌++◌, IsSome, IsTrue, is_some, None, Some, length, slice_set, vec_capacity, vec_len};
+ghost use Rattle.sml_domain.specs.Lookups.{block_at, program_at};
+ghost use Rattle.sml_domain.specs.Places.{left_at};
+ghost use Rattle.smi_interp.specs.Turn.{readings_of};
+
+use crate::contact::{Contact, Objects, Posts};
+use crate::cursor::{Place, branch_of, contact_at, make_room, next_of, settle};
+use crate::turn::{Move, TurnRecord};
+use smi_entry::args::Reading;
+use smi_entry::entry::Verdict;
+use smi_entry::letter::Letter;
+use sml_domain::domain::Domain;
+use sml_domain::ids::{ActionId, BlockId, ObjId, ParamId, StateId};
+use sml_domain::value::Value;
+use std::alloc::{AllocError, Global};
+use std::mem;
+use std::sync::Arc;
+
+/// A task under way.
+#[derive(Drop)]
+pub struct Run {
+    pub domain: Arc<Domain, Global>,
+    pub turn: TurnRecord,
+    /// The object's parameters now.
+    pub params: Vec<Value>,
+    /// Where the action goes on.
+    pub at: Place,
+    /// Where it goes on after that: the places behind the `if`s that are under way, the innermost last.
+    pub later: Vec<Place>,
+    /// The contact that waits for an answer.
+    pub pending: Option<Contact>,
+    /// Room for the verdicts of the contact that waits.
+    pub verdicts: Vec<Verdict>,
+    /// Room for the readings of the contact that waits.
+    pub readings: Vec<Reading>,
+    pub alloc: Global,
+}
+
+/// What a task is made of before it begins, with its growths made.
+#[derive(Drop)]
+pub struct Parts {
+    pub domain: Arc<Domain, Global>,
+    pub object: ObjId,
+    pub start: Vec<Value>,
+    pub params: Vec<Value>,
+    pub alloc: Global,
+}
+
+impl Run {
+    ghost use Rattle.std.specs.Prelude.{◌≡◌, ◌<◌, ◌++◌, ◌∷◌, [], IfOk, IfSome, IsSomeAnd, IsTrue, None, OnErr, OnOk, Some, is_some, length, vec_capacity, vec_len};
+    ghost use Rattle.sml_domain.specs.Lookups.{block_at};
+    ghost use Rattle.std.specs.Arc.{arc_value};
+    ghost use Rattle.sml_domain.specs.Program.{Nothing};
+    ghost use Rattle.smi_meaning.specs.Meaning.{DidRead, DidSend};
+    ghost use Rattle.smi_interp.specs.declared.contact.Contact.TheVariants as contact;
+    ghost use Rattle.smi_interp.specs.Turn.{posted_of, readings_of};
+    ghost use Rattle.smi_interp.specs.Cursor.{HasRoom, Waits};
+    ghost use Rattle.smi_interp.specs.Task.{IsNext, LeftAsks, WantsStates, WantsVerdicts, begun, shown, with_move, with_states, with_verdicts};
+    ghost use Rattle.smi_interp.specs.Run.{IsSound, contact_here, here, task_of};
+
+    /// A task that made no move, at the beginning of the block that a state declares for the action.
+    pub fn begin(parts: Parts, state: StateId, letter: Letter) -> Run
+        requires declared { IsTrue (is_some (block_at (arc_value parts.domain) parts.object state letter.action)) }
+        requires same { parts.start.items ≡ parts.params.items }
+        ensures sound { IsSound result }
+        ensures task { task_of result ≡ begun (arc_value parts.domain) parts.object state letter parts.params.items }
+    {
+        let alloc = parts.alloc;
+        let block = block_of(&parts.domain, parts.object, state, letter.action);
+        Run {
+            domain: parts.domain,
+            turn: TurnRecord {
+                object: parts.object,
+                state,
+                params: parts.start,
+                letter,
+                moves: Vec::new(alloc),
+            },
+            params: parts.params,
+            at: Place { block, index: 0 },
+            later: Vec::new(alloc),
+            pending: None,
+            verdicts: Vec::new(alloc),
+            readings: Vec::new(alloc),
+            alloc,
+        }
+    }
+
+    /// The next move, or the contact that waits.
+    pub fn advance(&mut self) -> Result<Contact, AllocError>
+        requires sound { IsSound self.old }
+        ensures sound { IsSound self.new }
+        ensures next { IfOk result (IsNext (task_of self.old)) }
+        ensures left { IfOk result (LeftAsks (task_of self.old)) }
+        ensures waiting { IfOk result (λ c. IfSome self.old.pending (λ w. c ≡ w)) }
+        ensures ok { IfOk result (λ c. task_of self.new ≡ shown (task_of self.old) c) }
+        ensures err { OnErr result (task_of self.new ≡ task_of self.old) }
+    {
+        match &self.pending {
+            Some(contact) => {
+                let told = contact.share()?;
+                Ok(told)
+            }
+            None => self.go_on(),
+        }
+    }
+
+    fn go_on(&mut self) -> Result<Contact, AllocError>
+        requires sound { IsSound self.old }
+        requires idle { self.old.pending ≡ None }
+        ensures sound { IsSound self.new }
+        ensures next { IfOk result (IsNext (task_of self.old)) }
+        ensures left { IfOk result (LeftAsks (task_of self.old)) }
+        ensures ok { IfOk result (λ c. task_of self.new ≡ shown (task_of self.old) c) }
+        ensures err { OnErr result (task_of self.new ≡ task_of self.old) }
+    {
+        self.at = settle(&self.domain, self.at, &mut self.later);
+        let contact = contact_at(
+            self.alloc,
+            &self.domain,
+            self.at,
+            &self.params,
+            self.turn.letter.args.values(),
+        )?;
+        let told = contact.share()?;
+        make_room(
+            &contact,
+            &mut self.turn.moves,
+            &mut self.verdicts,
+            &mut self.readings,
+            &mut self.later,
+        )?;
+        match contact {
+            Contact::Local { param, value } => self.set(param, value)?,
+            Contact::Send(posts) => self.wait(Contact::Send(posts)),
+            Contact::Read(objects) => self.wait(Contact::Read(objects)),
+            Contact::End(state) => self.wait(Contact::End(state)),
+        }
+        Ok(told)
+    }
+
+    /// The verdicts on the posts that wait.
+    pub fn sent(&mut self, verdicts: &[Verdict])
+        requires sound { IsSound self.old }
+        requires waits { IsSomeAnd self.old.pending (WantsVerdicts (length verdicts.now)) }
+        ensures sound { IsSound self.new }
+        ensures sent { task_of self.new ≡ with_verdicts (task_of self.old) verdicts.now }
+    {
+        match take_contact(&mut self.pending) {
+            Contact::Send(posts) => self.note_sent(posts, verdicts),
+            _ => unreachable!(),
+        }
+    }
+
+    fn note_sent(&mut self, posts: Posts, verdicts: &[Verdict])
+        requires sound { IsSound self.old }
+        requires idle { self.old.pending ≡ None }
+        requires asks { contact.Send posts ≡ contact_here self.old }
+        requires room { HasRoom (contact.Send posts) self.old.turn.moves self.old.verdicts self.old.readings self.old.later }
+        requires each { length verdicts.now ≡ length posts }
+        ensures sound { IsSound self.new }
+        ensures sent { task_of self.new ≡ with_move (task_of self.old) (DidSend (posted_of posts verdicts.now)) }
+    {
+        add_verdicts(&mut self.verdicts, verdicts);
+        let verdicts = mem::replace(&mut self.verdicts, Vec::new(self.alloc));
+        self.turn
+            .moves
+            .push_reserved(Move::Sent { posts, verdicts });
+        self.at = next_of(&self.domain, self.at);
+    }
+
+    /// The states of the objects that wait to be read.
+    pub fn tell(&mut self, states: &[StateId])
+        requires sound { IsSound self.old }
+        requires waits { IsSomeAnd self.old.pending (WantsStates (length states.now)) }
+        ensures sound { IsSound self.new }
+        ensures told { task_of self.new ≡ with_states (task_of self.old) states.now }
+    {
+        match take_contact(&mut self.pending) {
+            Contact::Read(objects) => self.note_read(objects, states),
+            _ => unreachable!(),
+        }
+    }
+
+    fn note_read(&mut self, objects: Objects, states: &[StateId])
+        requires sound { IsSound self.old }
+        requires idle { self.old.pending ≡ None }
+        requires asks { contact.Read objects ≡ contact_here self.old }
+        requires room { HasRoom (contact.Read objects) self.old.turn.moves self.old.verdicts self.old.readings self.old.later }
+        requires each { length states.now ≡ length objects }
+        ensures sound { IsSound self.new }
+        ensures told { task_of self.new ≡ with_move (task_of self.old) (DidRead (readings_of objects states.now)) }
+    {
+        add_readings(&mut self.readings, objects.list(), states);
+        let branch = branch_of(&self.domain, self.at, &self.readings);
+        let next = next_of(&self.domain, self.at);
+        let readings = mem::replace(&mut self.readings, Vec::new(self.alloc));
+        self.turn.moves.push_reserved(Move::Saw { readings });
+        self.later.push_reserved(next);
+        self.at = branch;
+    }
+
+    // Makes the `set` that comes next.
+    fn set(&mut self, param: ParamId, value: Value) -> Result<(), AllocError>
+        requires sound { IsSound self.old }
+        requires idle { self.old.pending ≡ None }
+        requires asks { contact.Local param value ≡ contact_here self.old }
+        requires room { vec_len self.old.turn.moves < vec_capacity self.old.turn.moves }
+        ensures sound { IsSound self.new }
+        ensures ok { OnOk result (task_of self.new ≡ shown (task_of self.old) (contact.Local param value)) }
+        ensures err { OnErr result (task_of self.new ≡ task_of self.old) }
+    {
+        let kept = value.share()?;
+        self.turn
+            .moves
+            .push_reserved(Move::Set { param, value: kept });
+        put_value(&mut self.params, param, value);
+        self.at = next_of(&self.domain, self.at);
+        Ok(())
+    }
+
+    // Waits for the answer to the contact that comes next.
+    fn wait(&mut self, contact: Contact)
+        requires sound { IsSound self.old }
+        requires asks { contact ≡ contact_here self.old }
+        requires settled { here self.old ≡ Nothing → self.old.later.items ≡ [] }
+        requires room { HasRoom contact self.old.turn.moves self.old.verdicts self.old.readings self.old.later }
+        requires waits { Waits contact }
+        ensures sound { IsSound self.new }
+        ensures shown { task_of self.new ≡ shown (task_of self.old) contact }
+    {
+        put_contact(&mut self.pending, contact);
+    }
+}
+
+// The block that a state declares for an action.
+fn block_of(domain: &Domain, object: ObjId, state: StateId, action: ActionId) -> BlockId
+    requires { IsTrue (is_some (block_at domain.now object state action)) }
+    ensures tree { Some (left_at domain.now.blocks result 0) ≡ program_at domain.now object state action }
+{
+    let Some(block) = domain.block(object, state, action) else {
+        unreachable!();
+    };
+    // What is left of a block at its beginning is its tree.
+    let _instrs = domain.instructions(block);
+    block
+}
+
+// Gives a parameter a value. In a domain no place beyond the end is set.
+fn put_value(params: &mut Vec<Value>, param: ParamId, value: Value)
+    ensures { params.new.items ≡ slice_set params.old.items param value }
+{
+    if param.get() < params.len() {
+        params[param.get()] = value;
+    }
+}
+
+fn put_contact(pending: &mut Option<Contact>, contact: Contact)
+    ensures { pending.new ≡ Some contact }
+{
+    *pending = Some(contact);
+}
+
+fn take_contact(pending: &mut Option<Contact>) -> Contact
+    requires { IsSome pending.old }
+    ensures contact { pending.old ≡ Some result }
+    ensures none { pending.new ≡ None }
+{
+    match pending.take() {
+        Some(contact) => contact,
+        None => unreachable!(),
+    }
+}
+
+fn add_verdicts(to: &mut Vec<Verdict>, more: &[Verdict])
+    requires { vec_len to.old + length more.now ≤ vec_capacity to.old }
+    ensures { to.new.items ≡ to.old.items ++ more.now }
+{
+    for verdict in more {
+        to.push_reserved(*verdict);
+    }
+}
+
+// Adds a reading of each object, in the state of its place.
+fn add_readings(to: &mut Vec<Reading>, objects: &[ObjId], states: &[StateId])
+    requires room { vec_len to.old + length objects.now ≤ vec_capacity to.old }
+    requires each { length states.now ≡ length objects.now }
+    ensures { to.new.items ≡ to.old.items ++ readings_of objects.now states.now }
+{
+    for (i, object) in objects.iter().enumerate() {
+        to.push_reserved(Reading {
+            object: *object,
+            state: states[i],
+        });
+    }
+}

@@ -1,0 +1,192 @@
+//! Tasks: one action of an object, which stops at each contact with others and resumes.
+ghost use Rattle.std.specs.Prelude.{◌≡◌, IfOk};
+
+use crate::contact::Contact;
+use crate::run::{Parts, Run};
+use crate::turn::TurnRecord;
+use smi_entry::entry::Verdict;
+use smi_entry::envelope::Envelope;
+use smi_entry::letter::Letter;
+use sml_domain::domain::Domain;
+use sml_domain::ids::{ObjId, StateId};
+use sml_domain::value::Value;
+use std::alloc::{AllocError, Global};
+use std::marker::Model;
+use std::sync::Arc;
+
+/// What a task is made of, with its growths made: so that a task begins without memory.
+#[derive(Drop)]
+pub struct Ready {
+    parts: Parts,
+}
+
+impl Model for Ready {
+    ghost use Rattle.std.specs.Prelude.{◌≡◌};
+    ghost use Rattle.std.specs.Arc.{arc_value};
+    ghost use Rattle.std.specs.Coded.{codes};
+    ghost use Rattle.sml_domain.specs.Codes.{formula_code};
+    ghost use Rattle.smi_interp.specs.Task.{ReadyView};
+
+    ghost Value = { ReadyView };
+
+    ghost coded = { Prim.hlevel (codes, formula_code) };
+
+    ghost view = { λ r. record {
+      domain = arc_value r.parts.domain;
+      object = r.parts.object;
+      params = r.parts.params.items;
+    } };
+
+    ghost invariant = { λ r. r.parts.start.items ≡ r.parts.params.items };
+}
+
+// The same values, whose texts are shared.
+fn shared_values(alloc: Global, values: &[Value]) -> Result<Vec<Value>, AllocError>
+    ensures { IfOk result (λ shared. shared.items ≡ values.now) }
+{
+    let mut shared = Vec::new(alloc);
+    for value in values {
+        shared.push(value.share()?)?;
+    }
+    Ok(shared)
+}
+
+impl Ready {
+    ghost use Rattle.std.specs.Prelude.{◌≡◌, IfOk, IsTrue, is_some};
+    ghost use Rattle.std.specs.Arc.{arc_value};
+    ghost use Rattle.sml_domain.specs.Lookups.{block_at};
+    ghost use Rattle.smi_interp.specs.Task.{begun};
+
+    /// Makes the growths of a task of an object with these parameters, which are in the order of its
+    /// class's list. An error is want of memory. The cost is the count of the parameters.
+    pub fn new(
+        alloc: Global,
+        domain: Arc<Domain>,
+        object: ObjId,
+        params: &[Value],
+    ) -> Result<Ready, AllocError>
+        ensures { IfOk result (λ r. r ≡ record { domain = arc_value domain; object = object; params = params.now }) }
+    {
+        let start = shared_values(alloc, params)?;
+        let params = shared_values(alloc, params)?;
+        Ok(Ready {
+            parts: Parts {
+                domain,
+                object,
+                start,
+                params,
+                alloc,
+            },
+        })
+    }
+
+    /// A task that made no move: the action of an envelope, which the object's class declares in a
+    /// state. Takes no memory. The cost is that of `Domain::block`.
+    pub fn begin(self, state: StateId, envelope: Envelope) -> Task
+        requires { IsTrue (is_some (block_at self.domain self.object state envelope.action)) }
+        ensures { result ≡ begun self.domain self.object state envelope self.params }
+    {
+        self.begin_letter(state, envelope.into_letters().task)
+    }
+
+    /// The same, for who has opened the envelope: one of its letters is the task's.
+    pub fn begin_letter(self, state: StateId, letter: Letter) -> Task
+        requires { IsTrue (is_some (block_at self.domain self.object state letter.action)) }
+        ensures { result ≡ begun self.domain self.object state letter self.params }
+    {
+        let Ready { parts } = self;
+        Task {
+            run: Run::begin(parts, state, letter),
+        }
+    }
+}
+
+/// One action of an object under way: the moves that it made, and the contact that waits.
+///
+/// A task asks for a contact by `advance`, and goes on once it was answered, whoever has it by then. A
+/// move costs what its instruction costs, whatever came before it. Memory is taken by `advance` alone,
+/// also for the answer.
+#[derive(Drop)]
+pub struct Task {
+    run: Run,
+}
+
+impl Model for Task {
+    ghost use Rattle.std.specs.Coded.{codes};
+    ghost use Rattle.sml_domain.specs.Codes.{formula_code};
+    ghost use Rattle.smi_interp.specs.Task.{TaskView};
+    ghost use Rattle.smi_interp.specs.Run.{IsSound, task_of};
+
+    ghost Value = { TaskView };
+
+    ghost coded = { Prim.hlevel (codes, formula_code) };
+
+    ghost view = { λ t. task_of t.run };
+
+    ghost invariant = { λ t. IsSound t.run };
+}
+
+impl Task {
+    ghost use Rattle.std.specs.Prelude.{◌≡◌, IfOk, IfSome, IsSomeAnd, OnErr, length, option_map};
+    ghost use Rattle.smi_interp.specs.Turn.{turn_of};
+    ghost use Rattle.smi_interp.specs.Cursor.{Waits};
+    ghost use Rattle.smi_interp.specs.Task.{EndsWhole, IsNext, IsUnderWay, LeftAsks, WantsStates, WantsVerdicts, shown, with_states, with_verdicts};
+
+    /// Makes one move: a `set`, or what a `do` or an `if` asks for, or the end of the action. After an
+    /// error, which is want of memory, the task is the same, and a contact that waits for its answer is
+    /// given again. Entering a branch and leaving it are no moves.
+    pub fn advance(&mut self) -> Result<Contact, AllocError>
+        ensures next { IfOk result (IsNext self.old) }
+        ensures left { IfOk result (LeftAsks self.old) }
+        // The end comes exactly where the moves are whole.
+        ensures whole { IfOk result (EndsWhole self.old) }
+        ensures waiting { IfOk result (λ c. IfSome self.old.pending (λ w. c ≡ w)) }
+        ensures ok { IfOk result (λ c. self.new ≡ shown self.old c) }
+        ensures err { OnErr result (self.new ≡ self.old) }
+    {
+        self.run.advance()
+    }
+
+    /// Answers a Send: the verdicts on its posts, in order. Takes no memory.
+    pub fn sent(&mut self, verdicts: &[Verdict])
+        requires { IsSomeAnd self.old.pending (WantsVerdicts (length verdicts.now)) }
+        ensures { self.new ≡ with_verdicts self.old verdicts.now }
+    {
+        self.run.sent(verdicts)
+    }
+
+    /// Answers a Read: the states of its objects, in order. Takes no memory. The cost is that of the
+    /// condition.
+    pub fn tell(&mut self, states: &[StateId])
+        requires { IsSomeAnd self.old.pending (WantsStates (length states.now)) }
+        ensures { self.new ≡ with_states self.old states.now }
+    {
+        self.run.tell(states)
+    }
+
+    /// The contact that waits for its answer, or None where none waits: no `set`, which is made at once.
+    /// An End waits for ever.
+    pub fn pending(&self) -> Option<&Contact>
+        ensures is { option_map (λ c. c.now) result ≡ self.now.pending }
+        ensures waits { IfSome self.now.pending Waits }
+    {
+        self.run.pending.as_ref()
+    }
+
+    /// The record of the turn: the moves so far with their verdicts and readings.
+    pub fn turn(&self) -> &TurnRecord
+        ensures is { turn_of result.now ≡ self.now.turn }
+        ensures under_way { IsUnderWay self.now }
+    {
+        &self.run.turn
+    }
+
+    /// The object's parameters now.
+    pub fn into_params(self) -> Vec<Value>
+        ensures params { result.items ≡ self.params }
+        ensures under_way { IsUnderWay self }
+    {
+        let Task { run } = self;
+        run.params
+    }
+}
