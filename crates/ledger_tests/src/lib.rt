@@ -1,4 +1,4 @@
-//! Requests, and journals with their books.
+//! Requests, journals with their books, and mails.
 #![tactic(auto)]
 
 #[cfg(test)]
@@ -14,9 +14,13 @@ mod fits;
 #[cfg(test)]
 mod look_ups;
 #[cfg(test)]
+mod mails;
+#[cfg(test)]
 mod memory;
 #[cfg(test)]
 mod runs;
+#[cfg(test)]
+mod tests_of_mails;
 #[cfg(test)]
 mod tests_of_runs;
 #[cfg(test)]

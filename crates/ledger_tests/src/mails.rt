@@ -1,0 +1,199 @@
+//! What is asked of any mail, step by step, and what it must answer. All go by number.
+ghost use Rattle.std.specs.Prelude.{◌≡◌, ◌<◌, IfSome, length, true};
+ghost use Rattle.smi_entry.specs.declared.entry.Sender.{Sender};
+ghost use Rattle.smi_entry.specs.Fits.{letter_fits};
+ghost use Rattle.smi_mail.specs.Mails.{is_sender};
+
+use crate::completing::{Plain, value_of};
+use crate::runs::By;
+use smi_entry::args::Args;
+use smi_entry::entry::Sender;
+use smi_entry::envelope::Envelope;
+use smi_entry::session::SessionId;
+use smi_mail::mail::Mail;
+use sml_domain::domain::Domain;
+use sml_domain::ids::{ActionId, ObjId};
+use sml_domain::value::same_values;
+use std::alloc::Global;
+
+/// A request: who sends it, its action and its arguments.
+#[derive(Clone, Copy)]
+pub struct Asked {
+    pub by: By,
+    pub action: usize,
+    pub given: &'static [Plain],
+}
+
+/// What is asked of a mail, and what it must answer.
+#[derive(Clone, Copy)]
+pub enum Move {
+    /// A request is posted to an object, and accepted under the number.
+    Posts(usize, Asked, u64),
+    /// A request is posted to an object whose mailbox is full, and comes back as it was.
+    Full(usize, Asked),
+    /// A request is taken of an object's mailbox, under the number.
+    Takes(usize, Asked, u64),
+    /// Nothing waits at an object.
+    Empty(usize),
+    /// A request is taken of an object's mailbox and posted to it again, under the number.
+    GoesRound(usize, u64),
+}
+
+// A sender of a domain, or none where it has none of the number.
+fn sender_of(domain: &Domain, by: By) -> Option<Sender>
+    ensures { IfSome result (λ s. is_sender domain.now s ≡ true) }
+{
+    match by {
+        By::Session(number) => Some(Sender::Operator(SessionId::new(number)?)),
+        By::Object(number) => {
+            let object = ObjId::new(number);
+            if !domain.has(object) {
+                return None;
+            }
+            Some(Sender::Object(object))
+        }
+    }
+}
+
+fn args_of(alloc: Global, given: &[Plain]) -> Option<Args> {
+    let mut values = Vec::new(alloc);
+    for plain in given {
+        values.push(value_of(alloc, *plain)?).ok()?;
+    }
+    Args::new(alloc, values).ok()
+}
+
+// The envelope of a request to an object, or none where it does not fit there.
+fn envelope_to(alloc: Global, domain: &Domain, o: ObjId, asked: Asked) -> Option<Envelope>
+    ensures sender { IfSome result (λ e. is_sender domain.now e.sender ≡ true) }
+    ensures fits { IfSome result (λ e. letter_fits domain.now o e ≡ true) }
+{
+    let sender = sender_of(domain, asked.by)?;
+    let args = args_of(alloc, asked.given)?;
+    let envelope = Envelope::new(sender, ActionId::new(asked.action), args).ok()?;
+    if !envelope.fits(domain, o) {
+        return None;
+    }
+    Some(envelope)
+}
+
+// Whether an envelope is a request's, under the number.
+fn is_of(alloc: Global, domain: &Domain, envelope: &Envelope, asked: Asked, number: u64) -> bool {
+    let Some(sender) = sender_of(domain, asked.by) else {
+        return false;
+    };
+    let Some(args) = args_of(alloc, asked.given) else {
+        return false;
+    };
+    let letter = envelope.letter();
+    letter.sender == sender
+        && letter.number == number
+        && letter.action == ActionId::new(asked.action)
+        && same_values(letter.args.values(), args.values())
+}
+
+// Posts an envelope to an object, for which room is made first: its number, or the envelope that came back.
+fn posts<M: Mail>(mail: &mut M, o: ObjId, envelope: Envelope) -> Option<Result<u64, Envelope>>
+    requires within { o < length (M.domain mail.old).objects }
+    requires sender { M.serves mail.old envelope.sender ≡ true }
+    requires fits { letter_fits (M.domain mail.old) o envelope ≡ true }
+    ensures domain { M.domain mail.new ≡ M.domain mail.old }
+    ensures serves { M.serves mail.new ≡ M.serves mail.old }
+{
+    mail.in_order(o);
+    mail.room(o).ok()?;
+    match mail.post(o, envelope) {
+        Ok(number) => Some(Ok(number)),
+        Err((_, back)) => Some(Err(back)),
+    }
+}
+
+// Posts a request to an object of the domain.
+fn posts_asked<M: Mail>(
+    alloc: Global,
+    domain: &Domain,
+    mail: &mut M,
+    o: ObjId,
+    asked: Asked,
+) -> Option<Result<u64, Envelope>>
+    requires domain { M.domain mail.old ≡ domain.now }
+    requires serves { (s : Sender) → is_sender domain.now s ≡ true → M.serves mail.old s ≡ true }
+    ensures domain { M.domain mail.new ≡ M.domain mail.old }
+    ensures serves { M.serves mail.new ≡ M.serves mail.old }
+{
+    let envelope = envelope_to(alloc, domain, o, asked)?;
+    if !domain.has(o) {
+        return None;
+    }
+    posts(mail, o, envelope)
+}
+
+// Takes a request of the mailbox of an object of the domain, and posts it there again.
+fn goes_round<M: Mail>(domain: &Domain, mail: &mut M, o: ObjId) -> Option<Result<u64, Envelope>>
+    requires domain { M.domain mail.old ≡ domain.now }
+    requires serves { (s : Sender) → is_sender domain.now s ≡ true → M.serves mail.old s ≡ true }
+    ensures domain { M.domain mail.new ≡ M.domain mail.old }
+    ensures serves { M.serves mail.new ≡ M.serves mail.old }
+{
+    if !domain.has(o) {
+        return None;
+    }
+    let envelope = mail.take(o)?;
+    posts(mail, o, envelope)
+}
+
+// Takes a request of the mailbox of an object of the domain.
+fn takes<M: Mail>(domain: &Domain, mail: &mut M, o: ObjId) -> Option<Envelope>
+    requires domain { M.domain mail.old ≡ domain.now }
+    ensures domain { M.domain mail.new ≡ M.domain mail.old }
+    ensures serves { M.serves mail.new ≡ M.serves mail.old }
+{
+    if !domain.has(o) {
+        return None;
+    }
+    mail.take(o)
+}
+
+// Whether a mail answers a step as it must.
+fn answers<M: Mail>(alloc: Global, domain: &Domain, mail: &mut M, step: Move) -> bool
+    requires domain { M.domain mail.old ≡ domain.now }
+    requires serves { (s : Sender) → is_sender domain.now s ≡ true → M.serves mail.old s ≡ true }
+    ensures domain { M.domain mail.new ≡ M.domain mail.old }
+    ensures serves { M.serves mail.new ≡ M.serves mail.old }
+{
+    match step {
+        Move::Posts(o, asked, number) => {
+            matches!(posts_asked(alloc, domain, mail, ObjId::new(o), asked), Some(Ok(told)) if told == number)
+        }
+        Move::Full(o, asked) => match posts_asked(alloc, domain, mail, ObjId::new(o), asked) {
+            Some(Err(back)) => is_of(alloc, domain, &back, asked, 0),
+            _ => false,
+        },
+        Move::Takes(o, asked, number) => match takes(domain, mail, ObjId::new(o)) {
+            Some(envelope) => is_of(alloc, domain, &envelope, asked, number),
+            None => false,
+        },
+        Move::Empty(o) => takes(domain, mail, ObjId::new(o)).is_none(),
+        Move::GoesRound(o, number) => {
+            matches!(goes_round(domain, mail, ObjId::new(o)), Some(Ok(told)) if told == number)
+        }
+    }
+}
+
+/// The place of the first step that a mail does not answer as it must.
+pub fn wrong_step<M: Mail>(
+    alloc: Global,
+    domain: &Domain,
+    mail: &mut M,
+    steps: &[Move],
+) -> Option<usize>
+    requires domain { M.domain mail.old ≡ domain.now }
+    requires serves { (s : Sender) → is_sender domain.now s ≡ true → M.serves mail.old s ≡ true }
+{
+    for (place, step) in steps.iter().enumerate() {
+        if !answers(alloc, domain, mail, *step) {
+            return Some(place);
+        }
+    }
+    None
+}
