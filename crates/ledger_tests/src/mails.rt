@@ -63,18 +63,13 @@ fn args_of(alloc: Global, given: &[Plain]) -> Option<Args> {
     Args::new(alloc, values).ok()
 }
 
-// The envelope of a request to an object, or none where it does not fit there.
-fn envelope_to(alloc: Global, domain: &Domain, o: ObjId, asked: Asked) -> Option<Envelope>
-    ensures sender { IfSome result (λ e. is_sender domain.now e.sender ≡ true) }
-    ensures fits { IfSome result (λ e. letter_fits domain.now o e ≡ true) }
+// The envelope of a request, whose sender is one of the domain.
+fn envelope_of(alloc: Global, domain: &Domain, asked: Asked) -> Option<Envelope>
+    ensures { IfSome result (λ e. is_sender domain.now e.sender ≡ true) }
 {
     let sender = sender_of(domain, asked.by)?;
     let args = args_of(alloc, asked.given)?;
-    let envelope = Envelope::new(sender, ActionId::new(asked.action), args).ok()?;
-    if !envelope.fits(domain, o) {
-        return None;
-    }
-    Some(envelope)
+    Envelope::new(sender, ActionId::new(asked.action), args).ok()
 }
 
 // Whether an envelope is a request's, under the number.
@@ -108,7 +103,7 @@ fn posts<M: Mail>(mail: &mut M, o: ObjId, envelope: Envelope) -> Option<Result<u
     }
 }
 
-// Posts a request to an object of the domain.
+// Posts a request to an object of the domain, where it fits.
 fn posts_asked<M: Mail>(
     alloc: Global,
     domain: &Domain,
@@ -121,8 +116,8 @@ fn posts_asked<M: Mail>(
     ensures domain { M.domain mail.new ≡ M.domain mail.old }
     ensures serves { M.serves mail.new ≡ M.serves mail.old }
 {
-    let envelope = envelope_to(alloc, domain, o, asked)?;
-    if !domain.has(o) {
+    let envelope = envelope_of(alloc, domain, asked)?;
+    if !domain.has(o) || !envelope.fits(domain, o) {
         return None;
     }
     posts(mail, o, envelope)
