@@ -1,0 +1,168 @@
+//! The board: what is asked of a domain under way, and what it answers.
+ghost use Rattle.std.specs.Prelude.{◌≡◌, ◌<◌, ℕ, [], IfOk, IfErr, length, option_map, true};
+ghost use Rattle.std.specs.Arc.{arc_value};
+ghost use mathlib.Core.List.{IsPrefix};
+ghost use Rattle.smi_entry.specs.declared.entry.Sender.{Sender};
+ghost use Rattle.smi_entry.specs.declared.entry.Sender.TheVariants.{Object};
+ghost use Rattle.smi_entry.specs.Requests.{from_sender};
+ghost use Rattle.smi_entry.specs.Words as says;
+ghost use Rattle.smi_meaning.specs.Params.{initial_params, ParamsAfter};
+ghost use Rattle.smi_meaning.specs.Legal.{IsLegal};
+ghost use Rattle.smi_board.specs.Boards.{own_at};
+
+use crate::params::{Params, first_params};
+use smi_entry::entry::Entry;
+use smi_ledger::ledger::Ledger;
+use smi_mail::mail::Mail;
+use sml_domain::domain::Domain;
+use sml_domain::ids::{ObjId, StateId};
+use sml_domain::value::Value;
+use std::alloc::{AllocError, Global};
+use std::marker::Model;
+use std::sync::Arc;
+
+/// A domain under way, with its mail. Its journal is legal; what was taken of the mail is what the
+/// journal starts, and what the objects sent is what the journal has of their accepted posts.
+///
+/// Each call takes a constant time, but for what its page says.
+#[derive(Drop)]
+pub struct Board<M: Mail> {
+    pub(crate) domain: Arc<Domain>,
+    pub(crate) ledger: Ledger,
+    pub(crate) params: Vec<Params>,
+    pub(crate) mail: M,
+    pub(crate) most: usize,
+    pub(crate) alloc: Global,
+}
+
+impl<M: Mail> Model for Board<M> {
+    ghost use Rattle.std.specs.Prelude.{◌≡◌};
+    ghost use Rattle.std.specs.Arc.{arc_value};
+    ghost use Rattle.std.specs.Coded.{codes};
+    ghost use Rattle.sml_domain.specs.Codes.{formula_code};
+    ghost use Rattle.smi_board.specs.Boards.{BoardView, EachRuns, IsTied};
+
+    ghost Value = { BoardView M };
+
+    ghost coded = { Prim.hlevel (codes, formula_code) };
+
+    ghost view = { λ b. record {
+      domain = arc_value b.domain;
+      most = b.most;
+      journal = b.ledger.journal;
+      params = b.params.items;
+      mail = b.mail;
+    } };
+
+    ghost invariant = { λ b.
+        IsTied (arc_value b.domain) b.ledger.journal b.params.items (M.serves b.mail) (M.taken b.mail) (M.sent b.mail)
+        × EachRuns (arc_value b.domain) b.ledger.journal
+        × (b.ledger.domain ≡ arc_value b.domain)
+        × (M.domain b.mail ≡ arc_value b.domain) };
+}
+
+// The ledger of a domain, and the parameters of its objects, before anything is done.
+fn books(alloc: Global, domain: &Arc<Domain>) -> Result<(Ledger, Vec<Params>), AllocError>
+    ensures domain { IfOk result (λ r. r.0.domain ≡ arc_value domain.now) }
+    ensures journal { IfOk result (λ r. r.0.journal ≡ []) }
+    ensures count { IfOk result (λ r. length r.1.items ≡ length (arc_value domain.now).objects) }
+    ensures each { IfOk result (λ r. (o : ℕ) → o < length (arc_value domain.now).objects →
+        own_at r.1.items o ≡ initial_params (arc_value domain.now) o) }
+{
+    let params = first_params(alloc, domain)?;
+    let ledger = Ledger::new(alloc, Arc::try_clone(domain)?)?;
+    Ok((ledger, params))
+}
+
+impl<M: Mail> Board<M> {
+    /// A board on which nothing was done, over a mail of which nothing was taken and to which nothing
+    /// was sent, that starts no more than so many requests. The cost is the square of the count of
+    /// objects.
+    pub fn new(
+        alloc: Global,
+        domain: Arc<Domain>,
+        mail: M,
+        most: usize,
+    ) -> Result<Board<M>, (AllocError, M)>
+        requires domain { M.domain mail ≡ arc_value domain }
+        requires serves { (a : ℕ) → a < length (arc_value domain).objects → M.serves mail (Object a) ≡ true }
+        requires taken { (o : ℕ) → M.taken mail o ≡ [] }
+        requires sent { (s : Sender) (o : ℕ) → M.serves mail s ≡ true → M.sent mail s o ≡ [] }
+        ensures domain { IfOk result (λ b. b.domain ≡ arc_value domain) }
+        ensures most { IfOk result (λ b. b.most ≡ most) }
+        ensures journal { IfOk result (λ b. b.journal ≡ []) }
+        ensures mail { IfOk result (λ b. b.mail ≡ mail) }
+        ensures back { IfErr result (λ e. e.1 ≡ mail) }
+    {
+        match books(alloc, &domain) {
+            Ok((ledger, params)) => Ok(Board {
+                domain,
+                ledger,
+                params,
+                mail,
+                most,
+                alloc,
+            }),
+            Err(error) => Err((error, mail)),
+        }
+    }
+
+    /// A law, whose function does nothing: the journal is legal, and is tied to the mail.
+    pub fn tells(&self)
+        ensures legal { IsLegal self.now.domain self.now.journal }
+        ensures taken { (o : ℕ) → M.taken self.now.mail o ≡ says.starts_at o self.now.journal }
+        ensures sent { (a o : ℕ) → a < length self.now.domain.objects →
+            M.sent self.now.mail (Object a) o ≡ says.posts_between a o self.now.journal }
+        ensures domain { M.domain self.now.mail ≡ self.now.domain }
+        ensures serves { (a : ℕ) → a < length self.now.domain.objects → M.serves self.now.mail (Object a) ≡ true }
+    {
+        let _board = &self.ledger;
+    }
+
+    /// A law, whose function does nothing: what was started of a sender that the mail serves begins
+    /// what that one sent.
+    pub fn in_order(&self, o: ObjId)
+        requires { o < length self.now.domain.objects }
+        ensures { (s : Sender) → M.serves self.now.mail s ≡ true →
+            IsPrefix (from_sender s (says.starts_at o self.now.journal)) (M.sent self.now.mail s o) }
+    {
+        self.mail.in_order(o);
+    }
+
+    /// The place of the kill of an object in the journal, or None where it is not killed.
+    pub fn dead_at(&self, o: ObjId) -> Option<u64>
+        requires { o < length self.now.domain.objects }
+        ensures { result ≡ says.killed_at o self.now.journal }
+    {
+        match self.ledger.killed(o) {
+            Some(place) => Some(place as u64),
+            None => None,
+        }
+    }
+
+    /// The state of an object.
+    pub fn state(&self, o: ObjId) -> StateId
+        requires { o < length self.now.domain.objects }
+        ensures { result ≡ says.state_of self.now.domain o self.now.journal }
+    {
+        self.ledger.state(o)
+    }
+
+    /// The parameters of an object, in the order of its class's list: those that the last ended action
+    /// left. An action that is open does not change them.
+    pub fn params(&self, o: ObjId) -> &[Value]
+        requires { o < length self.now.domain.objects }
+        ensures is { result.now ≡ own_at self.now.params o }
+        ensures after { ParamsAfter self.now.domain o self.now.journal result.now }
+    {
+        self.params[o.get()].values()
+    }
+
+    /// The journal.
+    pub fn journal(&self) -> &[Entry]
+        ensures is { result.now ≡ self.now.journal }
+        ensures legal { IsLegal self.now.domain result.now }
+    {
+        self.ledger.journal()
+    }
+}

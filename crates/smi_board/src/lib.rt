@@ -1,0 +1,9 @@
+//! The board: a domain under way, with its mail and its journal.
+#![tactic(auto)]
+
+pub mod board;
+mod closing;
+pub mod errors;
+mod params;
+mod request;
+pub mod starting;
