@@ -1,8 +1,9 @@
-//! The program `read_bench`: how fast texts of domains are read, checked and printed, and ledgers kept.
+//! The program `read_bench`: how fast texts of domains are read, checked and printed, ledgers kept and tasks run.
 #![tactic(auto)]
 
 mod ledgers;
 mod made_text;
+mod moves;
 mod task;
 mod timing;
 
@@ -23,13 +24,14 @@ usage: read_bench time ROUNDS         over made texts: one of 1 MiB, and sixteen
        read_bench time ROUNDS FILE    over the text of FILE
        read_bench write FILE CLASSES  writes a made text, for other readers
        read_bench ledgers             over ledgers with a thousand and with a million entries
+       read_bench moves               over tasks of small and of long actions
 
 The least time of so many rounds is printed, with the speed in MB/s (a million bytes a second, of the
 texts that were read): of reading into memory of Global and into an arena, of looking for a fault, of
 checking, which looks for a fault and makes the domain, and of printing. A made text is legal. It has
 4 KiB, and 20 KiB more for each class, and CLASSES is 3 to 51. Of ledgers the time of one call is
 printed, beside that of a push on a plain list of entries in the same run: the entries and look-ups
-of 64 objects, each after so many entries.";
+of 64 objects, each after so many entries. Of tasks the time of a move is printed, with its answer.";
 
 fn main(rt: HostRuntime) -> Result<()> {
     let words: Vec<String> = env::args(&rt)?.collect(rt.alloc())?;
@@ -54,6 +56,7 @@ fn drive<R: Files + Clock + Print + AllocGlobal>(rt: &R, words: &[&str]) -> Resu
         [_, "time", rounds] => time_made_texts(rt, rounds_of(rounds)?),
         [_, "time", rounds, file] => time_file(rt, rounds_of(rounds)?, file),
         [_, "ledgers"] => ledgers::report(rt),
+        [_, "moves"] => moves::report(rt),
         [_, "write", file, classes] => write_made_text(rt, file, classes),
         _ => bail!("see `read_bench --help` for what may be asked"),
     }
