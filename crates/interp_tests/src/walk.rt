@@ -294,3 +294,40 @@ pub fn is_walked(alloc: Global, walk: &Walk) -> bool {
     let all = task.turn().moves.len() == walk.steps.len().saturating_sub(1);
     recorded && all && are_values(&task.into_params(), walk.left)
 }
+
+// The task of the walk, asked for a second time where it was refused.
+fn begun_at_last(alloc: Global, walk: &Walk) -> Option<Task> {
+    for _ in 0..2u32 {
+        if let Some(domain) = domain_of(alloc, walk.text) {
+            if let Some(task) = begun(alloc, domain, walk) {
+                return Some(task);
+            }
+        }
+    }
+    None
+}
+
+// Whether the task makes the step, at the second time at the latest.
+fn makes_at_last(alloc: Global, task: &mut Task, step: Step) -> bool {
+    if !matches!(step, Step::Sets(_, _)) {
+        // What waits for an answer is asked for again below.
+        let _ = task.advance();
+    }
+    makes(alloc, task, step) || makes(alloc, task, step)
+}
+
+/// Whether the task of a walk makes its steps and records them, though memory is refused once.
+pub fn is_walked_at_last(alloc: Global, walk: &Walk) -> bool {
+    let Some(task) = begun_at_last(alloc, walk) else {
+        return false;
+    };
+    let mut task = task;
+    for step in walk.steps {
+        if !makes_at_last(alloc, &mut task, *step) {
+            return false;
+        }
+    }
+    let recorded = is_recorded(task.turn(), walk);
+    let all = task.turn().moves.len() == walk.steps.len().saturating_sub(1);
+    recorded && all && are_values(&task.into_params(), walk.left)
+}

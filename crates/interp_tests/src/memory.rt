@@ -1,0 +1,40 @@
+//! Memory that is refused: the task is as it was, and the same call then gives its contact.
+//!
+//! `tools/refused-memory` runs this again and again, and each time another allocation is refused.
+
+use crate::walk::{Plain, Step, Walk, is_walked_at_last};
+use smi_entry::entry::Verdict;
+use std::test::*;
+
+const SMALL: Walk = Walk {
+    text: b"class: SINK
+  state: READY
+    action: TAKE (int V)
+class: K
+  parameters: int N = 3
+  state: IDLE
+    action: PUT (int T)
+      set N = T
+      do TAKE (V = N) OUT
+      if ( OUT in_state READY ) then move_to IDLE endif
+object: OUT is_of_class SINK
+object: X is_of_class K
+",
+    object: 1,
+    params: &[Plain::Int(3)],
+    state: 1,
+    action: 1,
+    given: &[Plain::Int(5)],
+    steps: &[
+        Step::Sets(0, Plain::Int(5)),
+        Step::Sends(&[(0, 0, &[Plain::Int(5)])], &[Verdict::Accepted(0)]),
+        Step::Reads(&[0], &[0]),
+        Step::Ends(Some(1)),
+    ],
+    left: &[Plain::Int(5)],
+};
+
+#[test]
+fn goes_on_after_a_refusal(rt: HostRuntime) {
+    assert!(rt; is_walked_at_last(rt.alloc(), &SMALL));
+}
