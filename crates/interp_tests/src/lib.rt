@@ -1,12 +1,22 @@
-//! Tasks, walked by hand.
+//! Tasks, walked by hand, and boards, call by call.
 #![tactic(auto)]
 
 #[cfg(test)]
+mod boards;
+#[cfg(test)]
+mod counters;
+#[cfg(test)]
 mod domain_of;
+#[cfg(test)]
+mod lines;
 #[cfg(test)]
 mod long_blocks;
 #[cfg(test)]
 mod memory;
+#[cfg(test)]
+mod supplies;
+#[cfg(test)]
+mod tests_of_boards;
 #[cfg(test)]
 mod tests_of_walks;
 #[cfg(test)]

@@ -108,3 +108,14 @@ object: X is_of_class SENDER
 objectset: BOTH { R, L }
 objectset: NONE { }
 ";
+
+/// What is switched on and off without a device.
+pub const SWITCH: &[u8] = b"class: SWITCH
+  state: OFF /initial_state
+    action: TURN_ON
+      move_to ON
+  state: ON
+    action: TURN_OFF
+      move_to OFF
+object: X is_of_class SWITCH
+";

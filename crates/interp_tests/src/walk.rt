@@ -59,7 +59,8 @@ fn value_of(alloc: Global, plain: Plain) -> Option<Value> {
     }
 }
 
-fn values_of(alloc: Global, list: &[Plain]) -> Option<Vec<Value>> {
+/// The values that a row writes, in order.
+pub fn values_of(alloc: Global, list: &[Plain]) -> Option<Vec<Value>> {
     let mut values = Vec::new(alloc);
     for plain in list {
         values.push(value_of(alloc, *plain)?).ok()?;
@@ -75,7 +76,8 @@ fn is_value(value: &Value, plain: Plain) -> bool {
     }
 }
 
-fn are_values(values: &[Value], plain: &[Plain]) -> bool {
+/// Whether values are those that a row writes.
+pub fn are_values(values: &[Value], plain: &[Plain]) -> bool {
     values.len() == plain.len()
         && values
             .iter()
