@@ -1,8 +1,8 @@
-//! Boards of objects with arguments, with parameters, and with blocks of two states, call by call.
+//! Boards of a counter and its sink, call by call.
 
 use crate::boards::{Call, Opened, Run};
 use crate::lines::{Asked, Line};
-use crate::texts::{COUNTER, SWITCH};
+use crate::texts::COUNTER;
 use crate::walk::Plain;
 use smi_board::errors::{RequestRefusal, StartError};
 
@@ -89,39 +89,4 @@ pub const FULL_OF_ARGUMENTS: Run = Run {
         (C, Call::Request(PUTS, Ok(1))),
     ],
     journal: &[Line::Start(C, SHOWS, 0)],
-};
-
-const X: usize = 0;
-
-const OFF: usize = 0;
-
-const TURN_ON: Asked = Asked {
-    session: 8,
-    action: 0,
-    given: &[],
-};
-
-const TURN_OFF: Asked = Asked {
-    session: 8,
-    action: 1,
-    given: &[],
-};
-
-/// What the state of an object without a device does not declare is skipped too.
-pub const SKIPPED: Run = Run {
-    text: SWITCH,
-    capacity: 4,
-    most: 100,
-    calls: &[
-        (X, Call::Request(TURN_OFF, Ok(0))),
-        (X, Call::Request(TURN_ON, Ok(1))),
-        (X, Call::Start(Ok(Opened::Skipped))),
-        (X, Call::Start(Ok(Opened::Run(OFF, &[], TURN_ON, 1)))),
-        (X, Call::Start(Err(StartError::AlreadyOpen))),
-    ],
-    journal: &[
-        Line::Start(X, TURN_OFF, 0),
-        Line::Skip(X),
-        Line::Start(X, TURN_ON, 1),
-    ],
 };

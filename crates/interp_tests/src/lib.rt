@@ -16,6 +16,8 @@ mod memory;
 #[cfg(test)]
 mod supplies;
 #[cfg(test)]
+mod switches;
+#[cfg(test)]
 mod tests_of_boards;
 #[cfg(test)]
 mod tests_of_walks;

@@ -241,7 +241,32 @@ pub const ONE_WAITS: Run = Run {
     ],
 };
 
-/// A device fails. The other supply goes on.
+/// What is killed before anything else is done has the first place of the journal.
+pub const KILLED_FIRST: Run = Run {
+    text: SUPPLIES,
+    capacity: 4,
+    most: 100,
+    calls: &[
+        (HV2, Call::Kill(1, Ok(0))),
+        (HV2, Call::Look(DEAD, NONE, Some(0))),
+        (HV2, Call::Kill(1, Err(KillError::AlreadyDead(0)))),
+        (HV2, Call::Request(ON_BY_1, Err(RequestRefusal::Dead))),
+        (RUN, Call::Kill(2, Ok(1))),
+        (HV1, Call::Request(ON_BY_1, Ok(0))),
+        (HV1, SWITCHES_ON),
+        (HV1, Call::Answer(ON, Ok(()))),
+        (HV2, Call::Look(DEAD, NONE, Some(0))),
+        (HV1, IS_ON),
+    ],
+    journal: &[
+        Line::Kill(HV2, 1),
+        Line::Kill(RUN, 2),
+        Line::Start(HV1, ON_BY_1, 0),
+        Line::End(HV1, ON),
+    ],
+};
+
+/// A device fails. The other supply goes on, until its device fails too.
 pub const FAULTY: Run = Run {
     text: SUPPLIES,
     capacity: 4,
@@ -252,23 +277,29 @@ pub const FAULTY: Run = Run {
         (HV1, Call::Request(OFF_BY_1, Ok(1))),
         (HV1, Call::Fault(Err(AnswerError::NotOpen))),
         (HV2, Call::Request(ON_BY_2, Ok(0))),
-        (HV2, SWITCHES_ON),
+        (HV2, Call::Request(OFF_BY_2, Ok(1))),
         (HV1, SWITCHES_ON),
-        (HV1, Call::Fault(Ok(2))),
-        (HV1, Call::Look(DEAD, NONE, Some(2))),
+        (HV1, Call::Fault(Ok(1))),
+        (HV1, Call::Look(DEAD, NONE, Some(1))),
+        (HV2, SWITCHES_ON),
         (HV1, Call::Fault(Err(AnswerError::NotOpen))),
         (HV1, Call::Answer(ON, Err(AnswerError::NotOpen))),
         (HV1, IS_DEAD),
         (HV1, Call::Request(ON_BY_2, Err(RequestRefusal::Dead))),
-        (HV1, Call::Kill(1, Err(KillError::AlreadyDead(2)))),
+        (HV1, Call::Kill(1, Err(KillError::AlreadyDead(1)))),
         (HV2, Call::Answer(ON, Ok(()))),
         (HV2, IS_ON),
+        (HV2, SWITCHES_OFF),
+        (HV2, Call::Fault(Ok(5))),
+        (HV2, Call::Look(DEAD, NONE, Some(5))),
     ],
     journal: &[
-        Line::Start(HV2, ON_BY_2, 0),
         Line::Start(HV1, ON_BY_1, 0),
         Line::Fault(HV1),
+        Line::Start(HV2, ON_BY_2, 0),
         Line::End(HV2, ON),
+        Line::Start(HV2, OFF_BY_2, 1),
+        Line::Fault(HV2),
     ],
 };
 

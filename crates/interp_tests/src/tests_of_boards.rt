@@ -1,10 +1,12 @@
 //! Boards of known domains, call by call.
 
 use crate::boards::{Run, is_kept};
-use crate::counters::{FULL_OF_ARGUMENTS, GIVEN_ARGUMENTS, SKIPPED};
+use crate::counters::{FULL_OF_ARGUMENTS, GIVEN_ARGUMENTS};
 use crate::supplies::{
-    DEAD_BY_ANSWER, FAULTY, IN_ORDER, KILLED, NO_DEVICE, NO_START, ONE_START, ONE_WAITS, TWO_STARTS,
+    DEAD_BY_ANSWER, FAULTY, IN_ORDER, KILLED, KILLED_FIRST, NO_DEVICE, NO_START, ONE_START,
+    ONE_WAITS, TWO_STARTS,
 };
+use crate::switches::{OTHER_STATES, SKIPPED};
 use std::test::*;
 
 const SUPPLIED: &[Run] = &[
@@ -12,6 +14,7 @@ const SUPPLIED: &[Run] = &[
     NO_DEVICE,
     DEAD_BY_ANSWER,
     KILLED,
+    KILLED_FIRST,
     ONE_WAITS,
     FAULTY,
     ONE_START,
@@ -19,7 +22,9 @@ const SUPPLIED: &[Run] = &[
     NO_START,
 ];
 
-const COUNTED: &[Run] = &[GIVEN_ARGUMENTS, FULL_OF_ARGUMENTS, SKIPPED];
+const COUNTED: &[Run] = &[GIVEN_ARGUMENTS, FULL_OF_ARGUMENTS];
+
+const SWITCHED: &[Run] = &[SKIPPED, OTHER_STATES];
 
 #[test]
 fn boards_of_supplies(rt: HostRuntime) {
@@ -29,8 +34,15 @@ fn boards_of_supplies(rt: HostRuntime) {
 }
 
 #[test]
-fn boards_of_counters(rt: HostRuntime) {
+fn boards_of_a_counter(rt: HostRuntime) {
     for run in COUNTED {
+        assert!(rt; is_kept(rt.alloc(), *run));
+    }
+}
+
+#[test]
+fn boards_of_a_switch(rt: HostRuntime) {
+    for run in SWITCHED {
         assert!(rt; is_kept(rt.alloc(), *run));
     }
 }

@@ -109,7 +109,7 @@ objectset: BOTH { R, L }
 objectset: NONE { }
 ";
 
-/// What is switched on and off without a device.
+/// A switch without a device, and a lamp with one.
 pub const SWITCH: &[u8] = b"class: SWITCH
   state: OFF /initial_state
     action: TURN_ON
@@ -117,5 +117,10 @@ pub const SWITCH: &[u8] = b"class: SWITCH
   state: ON
     action: TURN_OFF
       move_to OFF
+class: LAMP /associated
+  state: DARK
+    action: LIGHT
+  state: LIT
 object: X is_of_class SWITCH
+object: L is_of_class LAMP
 ";
