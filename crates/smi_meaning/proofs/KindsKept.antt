@@ -92,7 +92,7 @@ pub record AreParams (params : List Param) : Type 0 where
   pub fit : All ParamFits params
   pub apart : AreDistinct (map name_of_param params)
 
-signature_params : (d : Domain) (a : ℕ) (c : Option Class) → IfSome c (ClassFits d) → IfSome (option_map params_of_action (option_and_then (signature_in a) c)) AreParams
+pub signature_params : (d : Domain) (a : ℕ) (c : Option Class) → IfSome c (ClassFits d) → IfSome (option_map params_of_action (option_and_then (signature_in a) c)) AreParams
 signature_params d a None h = tt
 signature_params d a (Some c) h = go (signature_in a c) (found (SignatureFits d) (is_signature a) c.signatures h.signatures)
   where

@@ -1,0 +1,11 @@
+mod Lists
+mod Going
+mod Books
+mod Free
+mod Sending
+mod Ranks
+mod Made
+mod Limits
+mod Told
+mod One
+mod Answered
