@@ -1,0 +1,238 @@
+//! Reading a line of a schedule.
+ghost use Rattle.std.specs.Prelude.{◌≡◌, ◌≤◌, ◌<◌, ◌^◌, ◌+◌, IfOk, List, OnErr, Option, Some, length, option_map};
+ghost use Rattle.std.specs.List.{list_all as all_of};
+ghost use Rattle.std.specs.Option.{option_and_then};
+ghost use Rattle.sml_text.specs.Bytes.{is_ascii as ascii, no_line_feed};
+ghost use Rattle.sml_text.specs.Stream.{tokens_from};
+ghost use Rattle.sml_text.specs.Views.{lexeme_of, IsLexeme};
+ghost use Rattle.sml_text.specs.declared.source.Source.TheVariants as source;
+ghost use Rattle.sml_domain.specs.Completing.{Passed as Given};
+ghost use Rattle.smi_world.specs.declared.step.Step.TheVariants as step;
+ghost use Rattle.smi_lines.specs.Line as spec;
+ghost use Rattle.smi_lines.specs.Line.{LineReads, lexemes};
+ghost use Rattle.smi_lines.specs.LineErrorText.{line_error_text};
+
+use crate::arguments::{name_in, passed_in};
+use smi_entry::session::SessionId;
+use smi_world::step::Step;
+use sml_text::laws::laws_of_tokens;
+use sml_text::source::Source;
+use sml_text::tokens::{Lexeme, first_bad, next_token};
+use sml_tree::name::Name;
+use std::alloc::{AllocError, Global};
+use std::error::Error;
+use std::fmt;
+
+/// Why a line is no step.
+#[derive(Clone, Copy, Debug, Eq, PartialEq)]
+pub enum LineError {
+    /// The line is of no form of a step.
+    BadLine,
+    /// Out of memory.
+    Memory,
+}
+
+impl fmt::Display for LineError {
+    ghost output = { λ e. Some (line_error_text e) };
+
+    fn fmt<W: fmt::Write>(&self, f: &mut fmt::Formatter<W>) -> fmt::Result {
+        f.write_str(match *self {
+            LineError::BadLine => "the line is no step",
+            LineError::Memory => "out of memory",
+        })
+    }
+}
+
+impl Error for LineError {}
+
+/// How many bytes a line may have.
+pub const LONGEST_LINE: usize = 8192;
+
+// Whether all bytes are ASCII.
+fn is_all_ascii(line: &[u8]) -> bool
+    ensures { result ≡ all_of ascii line.now }
+{
+    line.iter().all(|b| *b <= 127)
+}
+
+// Whether no byte is a line feed.
+fn is_one_line(line: &[u8]) -> bool
+    ensures { result ≡ all_of no_line_feed line.now }
+{
+    line.iter().all(|b| !(*b == b'\n'))
+}
+
+// Whether bytes are a line: not too many, all of them ASCII, and none a line feed.
+fn is_line(line: &[u8]) -> bool
+    ensures { result ≡ spec.is_line line.now }
+{
+    line.len() <= LONGEST_LINE && is_all_ascii(line) && is_one_line(line)
+}
+
+// The session that a token is.
+fn session_in(lexeme: &Lexeme) -> Option<SessionId>
+    requires { IsLexeme lexeme.now }
+    ensures { result ≡ spec.session_in (lexeme_of lexeme.now) }
+{
+    match lexeme {
+        Lexeme::Session(number) => SessionId::new(*number),
+        Lexeme::Word(_) | Lexeme::Int(_) | Lexeme::Str(_) | Lexeme::Sign(_) => None,
+    }
+}
+
+// The one name that stands in the rest of a line, whose first byte is at this place.
+fn sole_name(rest: &[u8], at: usize) -> Option<Name>
+    requires { at + length rest.now < 2 ^ 63 }
+    ensures { result ≡ spec.sole_name (lexemes (tokens_from source.Line at rest.now)) }
+{
+    let (object, rest, at) = next_token(Source::Line, rest, at)?;
+    if next_token(Source::Line, rest, at).is_some() {
+        return None;
+    }
+    name_in(&object.lexeme)
+}
+
+// What stands behind `answer`.
+fn answer_in(rest: &[u8], at: usize) -> Option<Step>
+    requires { at + length rest.now < 2 ^ 63 }
+    ensures { result ≡ spec.answer_in (lexemes (tokens_from source.Line at rest.now)) }
+{
+    let (object, rest, at) = next_token(Source::Line, rest, at)?;
+    let (state, rest, at) = next_token(Source::Line, rest, at)?;
+    if next_token(Source::Line, rest, at).is_some() {
+        return None;
+    }
+    Some(Step::Answer {
+        object: name_in(&object.lexeme)?,
+        state: name_in(&state.lexeme)?,
+    })
+}
+
+// What stands behind `kill`.
+fn kill_in(rest: &[u8], at: usize) -> Option<Step>
+    requires { at + length rest.now < 2 ^ 63 }
+    ensures { result ≡ spec.kill_in (lexemes (tokens_from source.Line at rest.now)) }
+{
+    let (object, rest, at) = next_token(Source::Line, rest, at)?;
+    let (session, rest, at) = next_token(Source::Line, rest, at)?;
+    if next_token(Source::Line, rest, at).is_some() {
+        return None;
+    }
+    Some(Step::Kill {
+        object: name_in(&object.lexeme)?,
+        session: session_in(&session.lexeme)?,
+    })
+}
+
+// Who asks, whom and for what, of the first tokens of a request.
+fn asker(session: &Lexeme, object: &Lexeme, action: &Lexeme) -> Option<(SessionId, Name, Name)>
+    requires session { IsLexeme session.now }
+    requires object { IsLexeme object.now }
+    requires action { IsLexeme action.now }
+    ensures { (passed : Option (List Given)) → option_and_then (λ x. option_map (step.Request x.0 x.1 x.2) passed) result ≡
+        spec.requested (spec.session_in (lexeme_of session.now)) (spec.name_in (lexeme_of object.now)) (spec.name_in (lexeme_of action.now)) passed }
+{
+    Some((session_in(session)?, name_in(object)?, name_in(action)?))
+}
+
+// What stands behind `request`.
+fn request_in(alloc: Global, rest: &[u8], at: usize) -> Result<Option<Step>, AllocError>
+    requires { at + length rest.now < 2 ^ 63 }
+    ensures asked { IfOk result (λ s. s ≡ spec.request_in (lexemes (tokens_from source.Line at rest.now))) }
+    ensures memory { OnErr result (4 ≤ length (lexemes (tokens_from source.Line at rest.now))) }
+{
+    let Some((session, rest, at)) = next_token(Source::Line, rest, at) else {
+        return Ok(None);
+    };
+    let Some((object, rest, at)) = next_token(Source::Line, rest, at) else {
+        return Ok(None);
+    };
+    let Some((action, rest, at)) = next_token(Source::Line, rest, at) else {
+        return Ok(None);
+    };
+    let Some((sender, object, action)) = asker(&session.lexeme, &object.lexeme, &action.lexeme)
+    else {
+        return Ok(None);
+    };
+    match passed_in(alloc, rest, at)? {
+        Some(args) => Ok(Some(Step::Request {
+            sender,
+            object,
+            action,
+            args,
+        })),
+        None => Ok(None),
+    }
+}
+
+// The step of an object's name.
+fn named_step(verb: &Name, rest: &[u8], at: usize) -> Option<Step>
+    requires { at + length rest.now < 2 ^ 63 }
+    ensures { result ≡ spec.named_in verb.now (lexemes (tokens_from source.Line at rest.now)) }
+{
+    if verb.as_bytes() == b"START".as_slice() {
+        Some(Step::Start(sole_name(rest, at)?))
+    } else if verb.as_bytes() == b"GO".as_slice() {
+        Some(Step::Go(sole_name(rest, at)?))
+    } else if verb.as_bytes() == b"ANSWER".as_slice() {
+        answer_in(rest, at)
+    } else if verb.as_bytes() == b"FAULT".as_slice() {
+        Some(Step::Fault(sole_name(rest, at)?))
+    } else if verb.as_bytes() == b"KILL".as_slice() {
+        kill_in(rest, at)
+    } else {
+        None
+    }
+}
+
+// What stands behind the first word of a line.
+fn step_in(alloc: Global, verb: &Lexeme, rest: &[u8], at: usize) -> Result<Option<Step>, AllocError>
+    requires verb { IsLexeme verb.now }
+    requires small { at + length rest.now < 2 ^ 63 }
+    ensures asked { IfOk result (λ s. s ≡ spec.step_in (spec.name_in (lexeme_of verb.now)) (lexemes (tokens_from source.Line at rest.now))) }
+    ensures memory { OnErr result (4 ≤ length (lexemes (tokens_from source.Line at rest.now))) }
+{
+    let Some(verb) = name_in(verb) else {
+        return Ok(None);
+    };
+    if verb.as_bytes() == b"REQUEST".as_slice() {
+        request_in(alloc, rest, at)
+    } else {
+        Ok(named_step(&verb, rest, at))
+    }
+}
+
+// What the tokens of a line ask.
+fn asked(alloc: Global, line: &[u8]) -> Result<Option<Step>, LineError>
+    requires { length line.now ≤ 8192 }
+    ensures { spec.Answers (lexemes (tokens_from source.Line 0 line.now)) result }
+{
+    match next_token(Source::Line, line, 0) {
+        None => Ok(None),
+        Some((verb, rest, at)) => match step_in(alloc, &verb.lexeme, rest, at) {
+            Ok(Some(step)) => Ok(Some(step)),
+            Ok(None) => Err(LineError::BadLine),
+            Err(_) => Err(LineError::Memory),
+        },
+    }
+}
+
+/// Reads one line of a schedule without its line feed: the step that it asks, or None where it has no
+/// token. (docs/FORMATS.md, "Schedules".) The cost is the length of the line.
+///
+/// # Errors
+///
+/// `BadLine` where it is of no form of a step, has more than 8,192 bytes, or a byte above 0x7F or a
+/// line feed; `Memory` where memory for its arguments is refused.
+pub fn read_step(alloc: Global, line: &[u8]) -> Result<Option<Step>, LineError>
+    ensures { LineReads line.now result }
+{
+    if !is_line(line) {
+        return Err(LineError::BadLine);
+    }
+    laws_of_tokens();
+    match first_bad(Source::Line, line) {
+        Some(_) => Err(LineError::BadLine),
+        None => asked(alloc, line),
+    }
+}
