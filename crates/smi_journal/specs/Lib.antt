@@ -1,0 +1,3 @@
+pub mod CallText
+pub mod EntryText
+pub mod JournalText

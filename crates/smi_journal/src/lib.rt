@@ -1,0 +1,13 @@
+//! The text of journals, entry by entry. What an entry consists of is re-exported from the crate that
+//! defines it.
+#![tactic(auto)]
+
+pub mod call_text;
+pub mod entry_text;
+pub mod journal_text;
+
+pub use smi_entry::args::{Args, Reading, Readings};
+pub use smi_entry::entry::{ActionEnd, Cause, Entry, Sender, Verdict};
+pub use smi_entry::envelope::Envelope;
+pub use smi_entry::journal::Journal;
+pub use smi_entry::session::SessionId;
