@@ -12,6 +12,8 @@ mod facts;
 #[cfg(test)]
 mod fits;
 #[cfg(test)]
+mod journal_texts;
+#[cfg(test)]
 mod look_ups;
 #[cfg(test)]
 mod mails;

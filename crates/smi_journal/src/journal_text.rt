@@ -5,7 +5,6 @@ ghost use Rattle.smi_journal.specs.JournalText as text;
 
 use crate::entry_text::tell_line;
 use smi_entry::entry::Entry;
-use smi_entry::journal::Journal;
 use sml_domain::domain::Domain;
 use sml_text::writing::{Sink, WriteFault, tell};
 
@@ -28,15 +27,15 @@ pub fn tell_lines<W: Sink>(writer: &mut W, failed: &mut bool, domain: &Domain, e
 /// memory is taken; the cost is the length of the text.
 pub fn write_journal<W: Sink>(
     domain: &Domain,
-    journal: &Journal,
+    journal: &[Entry],
     writer: &mut W,
 ) -> Result<(), WriteFault>
-    ensures ok { OnOk result (Wrote (W.contents writer.old) (W.contents writer.new) (text.journal_text domain.now journal.now.entries)) }
-    ensures err { OnErr result (WroteFront (W.contents writer.old) (W.contents writer.new) (text.journal_text domain.now journal.now.entries)) }
+    ensures ok { OnOk result (Wrote (W.contents writer.old) (W.contents writer.new) (text.journal_text domain.now journal.now)) }
+    ensures err { OnErr result (WroteFront (W.contents writer.old) (W.contents writer.new) (text.journal_text domain.now journal.now)) }
     ensures refused { OnErr result (W.has_refused writer.new) }
 {
     let mut failed = false;
     tell(writer, &mut failed, b"smi-journal 1\n");
-    tell_lines(writer, &mut failed, domain, journal.entries());
+    tell_lines(writer, &mut failed, domain, journal);
     if failed { Err(WriteFault) } else { Ok(()) }
 }

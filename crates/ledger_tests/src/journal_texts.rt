@@ -1,0 +1,125 @@
+//! The texts of journals.
+
+use crate::adding::adds;
+use crate::completing::{COUNTER, Plain};
+use crate::domain_of::domain_of;
+use crate::runs::{ARGUMENTS, By, KILLED_SUPPLY, KILLS, Line, Run, STANDARD, SUPPLIES};
+use smi_journal::journal_text::write_journal;
+use smi_ledger::ledger::Ledger;
+use std::alloc::Global;
+
+const STANDARD_TEXT: &[u8] = b"smi-journal 1
+start RUN @1 0 CONFIGURE
+post RUN HV1 0 SWITCH_ON
+post RUN HV2 0 SWITCH_ON
+wait RUN
+start HV1 RUN 0 SWITCH_ON
+end HV1 ON
+start HV2 RUN 0 SWITCH_ON
+end HV2 ON
+seen RUN HV1=ON HV2=ON
+end RUN READY
+start RUN @1 1 CONFIGURE
+end RUN skipped
+";
+
+const KILLS_TEXT: &[u8] = b"smi-journal 1
+start RUN @1 0 CONFIGURE
+start HV1 @2 0 SWITCH_ON
+kill HV2 @1
+post RUN HV1 refused full SWITCH_ON
+post RUN HV2 refused dead SWITCH_ON
+end HV1 ON
+start HV1 @2 1 SWITCH_OFF
+wait RUN
+kill HV1 fault
+seen RUN HV1=DEAD HV2=DEAD
+end RUN ERROR
+start RUN @1 1 CONFIGURE
+kill RUN @8
+";
+
+const KILLED_SUPPLY_TEXT: &[u8] = b"smi-journal 1
+start RUN @1 0 CONFIGURE
+post RUN HV1 0 SWITCH_ON
+post RUN HV2 0 SWITCH_ON
+wait RUN
+start HV1 RUN 0 SWITCH_ON
+end HV1 ON
+kill HV2 @1
+seen RUN HV1=ON HV2=DEAD
+end RUN ERROR
+";
+
+const ARGUMENTS_TEXT: &[u8] = b"smi-journal 1
+start C @1 0 PUT (T = 5, M = \"a\")
+post C OUT 0 TAKE (V = 5, W = \"a\")
+end C IDLE
+start OUT C 0 TAKE (V = 5, W = \"a\")
+end OUT READY
+";
+
+// A request with the least int and the empty string, and the greatest number that a request can have.
+const ENDS_OF_RANGES: Run = Run {
+    text: COUNTER,
+    lines: &[
+        Line::Start(
+            1,
+            By::Session(8),
+            u64::MAX,
+            1,
+            &[Plain::Int(i64::MIN), Plain::Str(b"")],
+        ),
+        Line::Seen(1, &[]),
+        Line::Kill(1, 1),
+    ],
+    facts: &[],
+};
+
+const ENDS_OF_RANGES_TEXT: &[u8] = b"smi-journal 1
+start C @8 18446744073709551615 PUT (T = -9223372036854775808, M = \"\")
+seen C
+kill C @1
+";
+
+const NO_ENTRIES: Run = Run {
+    text: SUPPLIES,
+    lines: &[],
+    facts: &[],
+};
+
+// The text of the journal of a run, or none where a line can't be added or memory is refused.
+fn text_of(alloc: Global, run: Run) -> Option<Vec<u8>> {
+    let mut ledger = Ledger::new(alloc, domain_of(alloc, run.text)?).ok()?;
+    for line in run.lines {
+        if !adds(alloc, &mut ledger, *line) {
+            return None;
+        }
+    }
+    let mut text = Vec::new(alloc);
+    write_journal(ledger.domain(), ledger.journal(), &mut text).ok()?;
+    Some(text)
+}
+
+fn is_written_as(alloc: Global, run: Run, expected: &[u8]) -> bool {
+    match text_of(alloc, run) {
+        Some(text) => text.as_slice() == expected,
+        None => false,
+    }
+}
+
+const TEXTS: &[(Run, &[u8])] = &[
+    (STANDARD, STANDARD_TEXT),
+    (KILLS, KILLS_TEXT),
+    (KILLED_SUPPLY, KILLED_SUPPLY_TEXT),
+    (ARGUMENTS, ARGUMENTS_TEXT),
+    (ENDS_OF_RANGES, ENDS_OF_RANGES_TEXT),
+    (NO_ENTRIES, b"smi-journal 1\n"),
+];
+
+#[test]
+fn journals_are_written(rt: HostRuntime) {
+    for (run, text) in TEXTS {
+        assert!(rt; is_written_as(rt.alloc(), *run, *text));
+    }
+}
