@@ -1,3 +1,6 @@
 pub mod CallText
 pub mod EntryText
 pub mod JournalText
+pub mod HasText
+pub mod Reading
+pub mod Laws

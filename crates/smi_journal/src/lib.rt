@@ -5,6 +5,7 @@
 pub mod call_text;
 pub mod entry_text;
 pub mod journal_text;
+pub mod laws;
 
 pub use smi_entry::args::{Args, Reading, Readings};
 pub use smi_entry::entry::{ActionEnd, Cause, Entry, Sender, Verdict};
