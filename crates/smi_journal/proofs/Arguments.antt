@@ -15,9 +15,9 @@ use Rattle.sml_domain.specs.Sound.{IsSound}
 use Rattle.sml_domain.proofs.Finds.{all_head, all_tail}
 use Rattle.sml_domain.proofs.Strings.{all_of_each}
 use Rattle.smi_journal.specs.CallText.{action_text, value_text, arg_text, more_args, args_text, params_of, call_text}
-use Rattle.smi_journal.specs.HasText.{IsNamed, HasNames, ValueIsHeld, is_call}
+use Rattle.smi_journal.specs.HasText.{IsNamed, HasNames, ValueIsHeld, is_action, is_call}
 use Rattle.smi_journal.specs.Reading.{before, behind, read_int, is_string, read_string, read_value, behind_value, behind_equals, read_values, read_args, read_action}
-use Rattle.smi_journal.proofs.Cutting.{both_true, apart, before_pass, behind_pass, before_word, before_all}
+use Rattle.smi_journal.proofs.Separators.{both_true, apart, before_pass, behind_pass, before_word, before_all}
 use Rattle.smi_journal.proofs.Numerals.{is_int_byte, int_again}
 use Rattle.smi_journal.proofs.Names.{is_name_byte, name_bytes, action_name, action_again}
 
@@ -117,7 +117,7 @@ module _ (d : Domain) (sound : IsSound d) (names : HasNames d) where
       → (read_action d (before 32 (call_text d o a vs)) ≡ a) × (read_args d o a (behind 32 (call_text d o a vs)) ≡ vs)
   call_again o a vs h small r =
       let ps = params_of d o a in
-      let e = both_true (nat_lt a (length d.actions)) (length vs == length ps) h in
+      let e = both_true (is_action d a) (length vs == length ps) h in
       let n = name_bytes (action_text d a) (action_name d sound names a small e.0) in
       (ap (read_action d) (before_word is_name_byte 32 (action_text d a) (args_text ps vs) refl n (args_start ps vs)) ∙ action_again d sound names a small e.0,
        ap (read_values (length ps)) (behind_pass is_name_byte 32 (action_text d a) (args_text ps vs) refl n)

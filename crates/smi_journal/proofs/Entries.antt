@@ -25,7 +25,7 @@ use Rattle.smi_journal.specs.CallText.{object_text, state_text, call_text}
 use Rattle.smi_journal.specs.EntryText.{session_text, sender_text, verdict_text, reading_text, end_text, cause_text, entry_text}
 use Rattle.smi_journal.specs.HasText.{HasNames, HasText, VerdictIsHeld, ReadingIsHeld, ResultIsHeld, is_session, is_object, is_state, is_sender, is_call, is_reading, is_result, is_cause, has_text}
 use Rattle.smi_journal.specs.Reading.{before, behind, first_byte, read_object, read_state, read_action, read_number, read_args, session_number, read_session, as_operator, as_killer, read_sender, read_post, read_answered, read_reading, read_readings, read_end, read_cause, read_entry}
-use Rattle.smi_journal.proofs.Cutting.{both_true, before_pass, behind_pass, before_word, before_all, behind_all, first_not}
+use Rattle.smi_journal.proofs.Separators.{both_true, before_pass, behind_pass, before_word, before_all, behind_all, first_not}
 use Rattle.smi_journal.proofs.Numerals.{numeral}
 use Rattle.smi_journal.proofs.Names.{is_name_byte, name_bytes, object_name, state_name, object_again, state_again}
 use Rattle.smi_journal.proofs.Arguments.{call_again}

@@ -1,8 +1,9 @@
 mod Tolds
-mod Cutting
+mod Separators
 mod Numerals
 mod Names
 mod Arguments
 mod Entries
 mod Lines
 mod Journals
+mod Loops

@@ -24,9 +24,9 @@ use Rattle.smi_entry.specs.declared.entry.Entry.{Entry}
 use Rattle.smi_entry.specs.declared.entry.Entry.TheVariants.{Start, Post, Wait, Seen, End, Kill}
 use Rattle.smi_journal.specs.CallText.{object_text, state_text, action_text, value_text, arg_text, more_args, args_text, params_of, call_text}
 use Rattle.smi_journal.specs.EntryText.{session_text, sender_text, verdict_text, reading_text, end_text, cause_text, entry_text, line_text}
-use Rattle.smi_journal.specs.HasText.{IsNamed, HasNames, HasText, ValueIsHeld, VerdictIsHeld, ReadingIsHeld, ResultIsHeld, is_object, is_state, is_sender, is_call, is_reading, is_result, is_cause}
+use Rattle.smi_journal.specs.HasText.{IsNamed, HasNames, HasText, ValueIsHeld, VerdictIsHeld, ReadingIsHeld, ResultIsHeld, is_object, is_state, is_action, is_sender, is_call, is_reading, is_result, is_cause}
 use Rattle.smi_journal.specs.Reading.{before, behind}
-use Rattle.smi_journal.proofs.Cutting.{both_true, apart, each_append, each_more, before_word, behind_pass}
+use Rattle.smi_journal.proofs.Separators.{both_true, apart, each_append, each_more, before_word, behind_pass}
 use Rattle.smi_journal.proofs.Numerals.{is_int_byte, numeral, int_again}
 use Rattle.smi_journal.proofs.Names.{is_name_byte, name_bytes, object_name, state_name, action_name}
 
@@ -97,7 +97,7 @@ module _ (d : Domain) (sound : IsSound d) (names : HasNames d) where
 
   call_line : (o a : ℕ) (vs : List Value) → is_call d o a vs ≡ true → a < 2 ^ 64 → All ValueIsHeld vs → Each no_line_feed (call_text d o a vs)
   call_line o a vs h small r =
-      let e = both_true (nat_lt a (length d.actions)) (length vs == length (params_of d o a)) h in
+      let e = both_true (is_action d a) (length vs == length (params_of d o a)) h in
       let n = name_line (action_text d a) (name_bytes (action_text d a) (action_name d sound names a small e.0)) in
       plus (action_text d a) (args_text (params_of d o a) vs) n (args_line (params_of d o a) vs (names.params o a) r)
 

@@ -13,9 +13,9 @@ use Rattle.sml_domain.specs.Lookups.{name_of_object, object_named, state_named, 
 use Rattle.sml_domain.specs.Sound.{IsSound}
 use Rattle.sml_domain.proofs.Domains.{object_has_name, state_has_name, action_has_name}
 use Rattle.smi_journal.specs.CallText.{name_or_nothing, object_text, state_text, action_text}
-use Rattle.smi_journal.specs.HasText.{IsName, HasNames, is_object, is_state}
+use Rattle.smi_journal.specs.HasText.{IsName, HasNames, is_object, is_state, is_action}
 use Rattle.smi_journal.specs.Reading.{or_zero, read_name, read_object, read_state, read_action}
-use Rattle.smi_journal.proofs.Cutting.{both_true}
+use Rattle.smi_journal.proofs.Separators.{both_true}
 
 -- a byte of a word in upper case
 abbrev pub is_name_byte : ℕ → Bool
@@ -59,13 +59,13 @@ found_again named x k n law =
 
 module _ (d : Domain) (sound : IsSound d) (names : HasNames d) where
   pub object_name : (o : ℕ) → is_object d o ≡ true → IsName (object_text d o)
-  object_name o h = names.objects o (grind (arith, nat_tests))
+  object_name o h = names.objects o h
 
   pub state_name : (s : ℕ) → s < 2 ^ 64 → is_state d s ≡ true → IsName (state_text d s)
-  state_name s small h = names.states s small (grind (arith, nat_tests))
+  state_name s small h = names.states s small h
 
-  pub action_name : (a : ℕ) → a < 2 ^ 64 → nat_lt a (length d.actions) ≡ true → IsName (action_text d a)
-  action_name a small h = names.actions a small (grind (arith, nat_tests))
+  pub action_name : (a : ℕ) → a < 2 ^ 64 → is_action d a ≡ true → IsName (action_text d a)
+  action_name a small h = names.actions a small h
 
   pub object_again : (o : ℕ) → is_object d o ≡ true → read_object d (object_text d o) ≡ o
   object_again o h =
@@ -76,6 +76,6 @@ module _ (d : Domain) (sound : IsSound d) (names : HasNames d) where
   state_again s small h =
       found_again (state_named d) (slice_get d.states s) s (state_name s small h) (λ is. (state_has_name d s (state_text d s) sound).0 is)
 
-  pub action_again : (a : ℕ) → a < 2 ^ 64 → nat_lt a (length d.actions) ≡ true → read_action d (action_text d a) ≡ a
+  pub action_again : (a : ℕ) → a < 2 ^ 64 → is_action d a ≡ true → read_action d (action_text d a) ≡ a
   action_again a small h =
       found_again (action_named d) (slice_get d.actions a) a (action_name a small h) (λ is. (action_has_name d a (action_text d a) sound).0 is)

@@ -8,7 +8,7 @@ use Rattle.sml_text.specs.Bytes.{is_digit}
 use Rattle.sml_text.specs.Tokens.{Each, IsLong}
 use Rattle.sml_text.specs.Decimal.{decimal_text, int_text}
 use Rattle.smi_journal.specs.Reading.{next_value, read_number, read_int, plus, minus}
-use Rattle.smi_journal.proofs.Cutting.{each_append, each_more, first_not}
+use Rattle.smi_journal.proofs.Separators.{each_append, each_more, first_not}
 
 -- digits that are read as the number
 abbrev pub Numeral : ℕ → List ℕ → Type 0

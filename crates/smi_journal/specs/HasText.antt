@@ -1,5 +1,5 @@
 -- Which entries have a text.
-use Rattle.std.specs.Prelude.{◌≡◌, ◌<◌, ◌^◌, ℕ, ◌==◌, ◌&&◌, nat_le, nat_lt, Bool, true, List, [], ◌∷◌, All, IsTrue, length}
+use Rattle.std.specs.Prelude.{◌≡◌, ◌<◌, ◌^◌, ℕ, ◌==◌, ◌&&◌, nat_le, nat_lt, Bool, true, List, [], ◌∷◌, All, IsTrue, length, is_some, slice_get}
 use Rattle.std.specs.List.{list_all}
 use Rattle.sml_text.specs.Tokens.{IsLong}
 use Rattle.sml_tree.specs.Word.{is_word, upper}
@@ -29,13 +29,6 @@ pub record IsName (w : List ℕ) : Type 0 where
 abbrev pub IsNamed : Param → Type 0
 IsNamed p = IsName p.name
 
--- all that a domain names has a name
-pub record HasNames (d : Domain) : Type 0 where
-  pub objects : (o : ℕ) → o < length d.objects → IsName (object_text d o)
-  pub states : (s : ℕ) → s < 2 ^ 64 → s < length d.states → IsName (state_text d s)
-  pub actions : (a : ℕ) → a < 2 ^ 64 → a < length d.actions → IsName (action_text d a)
-  pub params : (o a : ℕ) → All IsNamed (params_of d o a)
-
 -- whether there is a session of the number
 abbrev pub is_session : ℕ → Bool
 is_session k = nat_le 1 k && nat_le k 8
@@ -46,7 +39,18 @@ is_object d o = nat_lt o (length d.objects)
 
 -- whether a state has the number
 abbrev pub is_state : Domain → ℕ → Bool
-is_state d s = nat_lt s (length d.states)
+is_state d s = is_some (slice_get d.states s)
+
+-- whether an action has the number
+abbrev pub is_action : Domain → ℕ → Bool
+is_action d a = is_some (slice_get d.actions a)
+
+-- all that a domain names has a name
+pub record HasNames (d : Domain) : Type 0 where
+  pub objects : (o : ℕ) → is_object d o ≡ true → IsName (object_text d o)
+  pub states : (s : ℕ) → s < 2 ^ 64 → is_state d s ≡ true → IsName (state_text d s)
+  pub actions : (a : ℕ) → a < 2 ^ 64 → is_action d a ≡ true → IsName (action_text d a)
+  pub params : (o a : ℕ) → All IsNamed (params_of d o a)
 
 -- whether it is a session, or an object of the domain
 abbrev pub is_sender : Domain → Sender → Bool
@@ -55,7 +59,7 @@ is_sender d (Object o) = is_object d o
 
 -- whether an action has the number, and there are as many arguments as it has parameters at the object
 abbrev pub is_call : Domain → ℕ → ℕ → List Value → Bool
-is_call d o a args = nat_lt a (length d.actions) && (length args == length (params_of d o a))
+is_call d o a args = is_action d a && (length args == length (params_of d o a))
 
 -- whether an object and a state have the numbers
 abbrev pub is_reading : Domain → Reading → Bool

@@ -3,9 +3,13 @@
 #![tactic(auto)]
 
 pub mod call_text;
+mod cutting;
 pub mod entry_text;
+mod having;
 pub mod journal_text;
 pub mod laws;
+pub mod read;
+mod reading;
 
 pub use smi_entry::args::{Args, Reading, Readings};
 pub use smi_entry::entry::{ActionEnd, Cause, Entry, Sender, Verdict};
