@@ -113,12 +113,12 @@ args_start (p ∷ ps) (v ∷ vs) = refl
 
 module _ (d : Domain) (sound : IsSound d) (names : HasNames d) where
   -- an action and its arguments
-  pub call_again : (o a : ℕ) (vs : List Value) → is_call d o a vs ≡ true → a < 2 ^ 64 → All ValueIsHeld vs
+  pub call_again : (o a : ℕ) (vs : List Value) → is_call d o a vs ≡ true → All ValueIsHeld vs
       → (read_action d (before 32 (call_text d o a vs)) ≡ a) × (read_args d o a (behind 32 (call_text d o a vs)) ≡ vs)
-  call_again o a vs h small r =
+  call_again o a vs h r =
       let ps = params_of d o a in
       let e = both_true (is_action d a) (length vs == length ps) h in
-      let n = name_bytes (action_text d a) (action_name d sound names a small e.0) in
-      (ap (read_action d) (before_word is_name_byte 32 (action_text d a) (args_text ps vs) refl n (args_start ps vs)) ∙ action_again d sound names a small e.0,
+      let n = name_bytes (action_text d a) (action_name d sound names a e.0) in
+      (ap (read_action d) (before_word is_name_byte 32 (action_text d a) (args_text ps vs) refl n (args_start ps vs)) ∙ action_again d sound names a e.0,
        ap (read_values (length ps)) (behind_pass is_name_byte 32 (action_text d a) (args_text ps vs) refl n)
            ∙ args_again ps vs (eqb-true (length vs) (length ps) e.1) (names.params o a) r)

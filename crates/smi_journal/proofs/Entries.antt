@@ -23,7 +23,7 @@ use Rattle.smi_entry.specs.declared.entry.Entry.{Entry}
 use Rattle.smi_entry.specs.declared.entry.Entry.TheVariants.{Start, Post, Wait, Seen, End, Kill}
 use Rattle.smi_journal.specs.CallText.{object_text, state_text, call_text}
 use Rattle.smi_journal.specs.EntryText.{session_text, sender_text, verdict_text, reading_text, end_text, cause_text, entry_text}
-use Rattle.smi_journal.specs.HasText.{HasNames, HasText, VerdictIsHeld, ReadingIsHeld, ResultIsHeld, is_session, is_object, is_state, is_sender, is_call, is_reading, is_result, is_cause, has_text}
+use Rattle.smi_journal.specs.HasText.{HasNames, HasText, VerdictIsHeld, is_session, is_object, is_state, is_sender, is_call, is_reading, is_result, is_cause, has_text}
 use Rattle.smi_journal.specs.Reading.{before, behind, first_byte, read_object, read_state, read_action, read_number, read_args, session_number, read_session, as_operator, as_killer, read_sender, read_post, read_answered, read_reading, read_readings, read_end, read_cause, read_entry}
 use Rattle.smi_journal.proofs.Separators.{both_true, before_pass, behind_pass, before_word, before_all, behind_all, first_not}
 use Rattle.smi_journal.proofs.Numerals.{numeral}
@@ -52,8 +52,8 @@ module _ (d : Domain) (sound : IsSound d) (names : HasNames d) where
   object_bytes : (o : ℕ) → is_object d o ≡ true → Each is_name_byte (object_text d o)
   object_bytes o h = name_bytes (object_text d o) (object_name d sound names o h)
 
-  state_bytes : (s : ℕ) → s < 2 ^ 64 → is_state d s ≡ true → Each is_name_byte (state_text d s)
-  state_bytes s small h = name_bytes (state_text d s) (state_name d sound names s small h)
+  state_bytes : (s : ℕ) → is_state d s ≡ true → Each is_name_byte (state_text d s)
+  state_bytes s h = name_bytes (state_text d s) (state_name d sound names s h)
 
   -- a sender and a blank behind it
   sender_before : (s : Sender) (t : List ℕ) → is_sender d s ≡ true → before 32 (sender_text d s ++ (32 ∷ t)) ≡ sender_text d s
@@ -73,12 +73,12 @@ module _ (d : Domain) (sound : IsSound d) (names : HasNames d) where
           (first_not is_name_byte 64 w refl refl (object_bytes o h))
       ∙ ap (λ n. Object n) (object_again d sound names o h)
 
-  result_again : (r : ActionEnd) → is_result d r ≡ true → ResultIsHeld r → read_end d (end_text d r) ≡ r
-  result_again (State s) h small =
+  result_again : (r : ActionEnd) → is_result d r ≡ true → read_end d (end_text d r) ≡ r
+  result_again (State s) h =
       let w = state_text d s in
-      ap (λ b. cond b Skipped (State (read_state d w))) (first_not is_name_byte 115 w refl refl (state_bytes s small h))
-      ∙ ap (λ n. State n) (state_again d sound names s small h)
-  result_again Skipped h small = refl
+      ap (λ b. cond b Skipped (State (read_state d w))) (first_not is_name_byte 115 w refl refl (state_bytes s h))
+      ∙ ap (λ n. State n) (state_again d sound names s h)
+  result_again Skipped h = refl
 
   -- the verdict, and what stands behind it
   answered_again : (o t : List ℕ) (v : Verdict) (c : List ℕ) → VerdictIsHeld v
@@ -97,13 +97,13 @@ module _ (d : Domain) (sound : IsSound d) (names : HasNames d) where
   abbrev pub one_text : Reading → List ℕ
   one_text r = object_text d r.object ++ (61 ∷ state_text d r.state)
 
-  reading_again : (r : Reading) → is_object d r.object ≡ true → is_state d r.state ≡ true → r.state < 2 ^ 64 → read_reading d (one_text r) ≡ r
-  reading_again r h g small =
+  reading_again : (r : Reading) → is_object d r.object ≡ true → is_state d r.state ≡ true → read_reading d (one_text r) ≡ r
+  reading_again r h g =
       let p = object_bytes r.object h in
       let a = before_word is_name_byte 61 (object_text d r.object) (61 ∷ state_text d r.state) refl p refl in
       let b = behind_pass is_name_byte 61 (object_text d r.object) (61 ∷ state_text d r.state) refl p in
       let e = ap (read_object d) a ∙ object_again d sound names r.object h in
-      let f = ap (read_state d) b ∙ state_again d sound names r.state small g in
+      let f = ap (read_state d) b ∙ state_again d sound names r.state g in
       λ i. record { object = e i; state = f i }
 
   -- a blank, or nothing
@@ -111,21 +111,21 @@ module _ (d : Domain) (sound : IsSound d) (names : HasNames d) where
   readings_start [] = refl
   readings_start (r ∷ rs) = refl
 
-  one_before : (r : Reading) (t : List ℕ) → is_object d r.object ≡ true → is_state d r.state ≡ true → r.state < 2 ^ 64 → before 32 t ≡ []
+  one_before : (r : Reading) (t : List ℕ) → is_object d r.object ≡ true → is_state d r.state ≡ true → before 32 t ≡ []
       → before 32 (one_text r ++ t) ≡ one_text r
-  one_before r t h g small e =
+  one_before r t h g e =
       let a = object_text d r.object in
       let b = state_text d r.state in
       ap (before 32) (append_assoc a (61 ∷ b) t) ∙ before_pass is_name_byte 32 a (61 ∷ (b ++ t)) refl (object_bytes r.object h)
-      ∙ ap (λ l. a ++ (61 ∷ l)) (before_word is_name_byte 32 b t refl (state_bytes r.state small g) e)
+      ∙ ap (λ l. a ++ (61 ∷ l)) (before_word is_name_byte 32 b t refl (state_bytes r.state g) e)
 
-  one_behind : (r : Reading) (t : List ℕ) → is_object d r.object ≡ true → is_state d r.state ≡ true → r.state < 2 ^ 64
+  one_behind : (r : Reading) (t : List ℕ) → is_object d r.object ≡ true → is_state d r.state ≡ true
       → behind 32 (one_text r ++ t) ≡ behind 32 t
-  one_behind r t h g small =
+  one_behind r t h g =
       let a = object_text d r.object in
       let b = state_text d r.state in
       ap (behind 32) (append_assoc a (61 ∷ b) t) ∙ behind_pass is_name_byte 32 a (61 ∷ (b ++ t)) refl (object_bytes r.object h)
-      ∙ behind_pass is_name_byte 32 b t refl (state_bytes r.state small g)
+      ∙ behind_pass is_name_byte 32 b t refl (state_bytes r.state g)
 
   some_bytes : (a b t : List ℕ) → length t < length ((a ++ (61 ∷ b)) ++ t)
   some_bytes a b t = omega (arith, length-append (a ++ (61 ∷ b)) t, length-append a (61 ∷ b))
@@ -138,20 +138,19 @@ module _ (d : Domain) (sound : IsSound d) (names : HasNames d) where
   readings_cons k [] h = absurd (omega (arith, h))
   readings_cons k (b ∷ bs) h = refl
 
-  readings_again : (rs : List Reading) (k : ℕ) → length rs ≤ k → list_all (is_reading d) rs ≡ true → All ReadingIsHeld rs
+  readings_again : (rs : List Reading) (k : ℕ) → length rs ≤ k → list_all (is_reading d) rs ≡ true
       → read_readings d k (behind 32 (flat_map (reading_text d) rs)) ≡ rs
-  readings_again [] k l h r = readings_nil k
-  readings_again (x ∷ rs) zero l h r = absurd (omega (arith, l))
-  readings_again (x ∷ rs) (suc k) l h r =
+  readings_again [] k l h = readings_nil k
+  readings_again (x ∷ rs) zero l h = absurd (omega (arith, l))
+  readings_again (x ∷ rs) (suc k) l h =
       let e = both_true (is_reading d x) (list_all (is_reading d) rs) h in
       let f = both_true (is_object d x.object) (is_state d x.state) e.0 in
-      let small = all_head ReadingIsHeld x rs r in
       let t = flat_map (reading_text d) rs in
       let less : length rs ≤ k = omega (arith, l) in
       let some : 0 < length (one_text x ++ t) = omega (arith, some_bytes (object_text d x.object) (state_text d x.state) t) in
       readings_cons k (one_text x ++ t) some
-      ∙ (λ i. read_reading d (one_before x t f.0 f.1 small (readings_start rs) i) ∷ read_readings d k (one_behind x t f.0 f.1 small i))
-      ∙ (λ i. reading_again x f.0 f.1 small i ∷ readings_again rs k less e.1 (all_tail ReadingIsHeld x rs r) i)
+      ∙ (λ i. read_reading d (one_before x t f.0 f.1 (readings_start rs) i) ∷ read_readings d k (one_behind x t f.0 f.1 i))
+      ∙ (λ i. reading_again x f.0 f.1 i ∷ readings_again rs k less e.1 i)
 
   texts_long : (rs : List Reading) → length rs ≤ length (flat_map (reading_text d) rs)
   texts_long [] = omega arith
@@ -186,7 +185,7 @@ module _ (d : Domain) (sound : IsSound d) (names : HasNames d) where
       let s_is = ap (λ l. read_sender d (before 32 l)) yb ∙ ap (read_sender d) (sender_before s z f.0) ∙ sender_again s f.0 in
       let n_is = ap (λ l. read_number (before 32 l)) zb ∙ ap read_number (word_before is_digit (decimal_text n) C refl number.0) ∙ number.1 in
       let c_is = ap (behind 32) zb ∙ word_behind is_digit (decimal_text n) C refl number.0 in
-      let k = call_again d sound names o a args f.1 h.held.1 h.held.2 in
+      let k = call_again d sound names o a args f.1 h.held.1 in
       let a_is = ap (λ l. read_action d (before 32 l)) c_is ∙ k.0 in
       (λ i. Start (o_is i) (s_is i) (n_is i) (a_is i) (read_args d (o_is i) (a_is i) (behind 32 (c_is i)))) ∙ ap (λ vs. Start o s n a vs) k.1
   entry_again (Post o t v a args) h =
@@ -205,7 +204,7 @@ module _ (d : Domain) (sound : IsSound d) (names : HasNames d) where
       let xf = ap (before 32) yb ∙ word_before is_name_byte x z refl q in
       let o_is = object_again d sound names o e.0 in
       let t_is = object_again d sound names t f.0 in
-      let k = call_again d sound names t a args f.1 h.held.1 h.held.2 in
+      let k = call_again d sound names t a args f.1 h.held.1 in
       (λ i. read_answered d (wf i) (xf i) (before 32 (zb i)) (behind 32 (zb i))) ∙ answered_again w x v C h.held.0
       ∙ (λ i. Post (o_is i) (t_is i) v (k.0 i) (read_args d (t_is i) (k.0 i) (behind 32 C))) ∙ ap (λ vs. Post o t v a vs) k.1
   entry_again (Wait o) h =
@@ -218,13 +217,13 @@ module _ (d : Domain) (sound : IsSound d) (names : HasNames d) where
       let p = object_bytes o e.0 in
       let o_is = ap (read_object d) (before_word is_name_byte 32 w t refl p (readings_start rs)) ∙ object_again d sound names o e.0 in
       let b = behind_pass is_name_byte 32 w t refl p in
-      (λ i. Seen (o_is i) (read_readings d (length (b i)) (b i))) ∙ ap (λ l. Seen o l) (readings_again rs (length (behind 32 t)) (behind_long rs) e.1 h.held)
+      (λ i. Seen (o_is i) (read_readings d (length (b i)) (b i))) ∙ ap (λ l. Seen o l) (readings_again rs (length (behind 32 t)) (behind_long rs) e.1)
   entry_again (End o r) h =
       let e = both_true (is_object d o) (is_result d r) h.is in
       let w = object_text d o in
       let p = object_bytes o e.0 in
       let o_is = ap (read_object d) (word_before is_name_byte w (end_text d r) refl p) ∙ object_again d sound names o e.0 in
-      let r_is = ap (read_end d) (word_behind is_name_byte w (end_text d r) refl p) ∙ result_again r e.1 h.held in
+      let r_is = ap (read_end d) (word_behind is_name_byte w (end_text d r) refl p) ∙ result_again r e.1 in
       λ i. End (o_is i) (r_is i)
   entry_again (Kill o c) h =
       let e = both_true (is_object d o) (is_cause c) h.is in

@@ -7,3 +7,5 @@ mod Entries
 mod Lines
 mod Journals
 mod Loops
+mod Held
+mod Judged

@@ -24,7 +24,7 @@ use Rattle.smi_entry.specs.declared.entry.Entry.{Entry}
 use Rattle.smi_entry.specs.declared.entry.Entry.TheVariants.{Start, Post, Wait, Seen, End, Kill}
 use Rattle.smi_journal.specs.CallText.{object_text, state_text, action_text, value_text, arg_text, more_args, args_text, params_of, call_text}
 use Rattle.smi_journal.specs.EntryText.{session_text, sender_text, verdict_text, reading_text, end_text, cause_text, entry_text, line_text}
-use Rattle.smi_journal.specs.HasText.{IsNamed, HasNames, HasText, ValueIsHeld, VerdictIsHeld, ReadingIsHeld, ResultIsHeld, is_object, is_state, is_action, is_sender, is_call, is_reading, is_result, is_cause}
+use Rattle.smi_journal.specs.HasText.{IsNamed, HasNames, HasText, ValueIsHeld, VerdictIsHeld, is_object, is_state, is_action, is_sender, is_call, is_reading, is_result, is_cause}
 use Rattle.smi_journal.specs.Reading.{before, behind}
 use Rattle.smi_journal.proofs.Separators.{both_true, apart, each_append, each_more, before_word, behind_pass}
 use Rattle.smi_journal.proofs.Numerals.{is_int_byte, numeral, int_again}
@@ -84,38 +84,38 @@ module _ (d : Domain) (sound : IsSound d) (names : HasNames d) where
   object_line : (o : ℕ) → is_object d o ≡ true → Each no_line_feed (object_text d o)
   object_line o h = name_line (object_text d o) (name_bytes (object_text d o) (object_name d sound names o h))
 
-  state_line : (s : ℕ) → s < 2 ^ 64 → is_state d s ≡ true → Each no_line_feed (state_text d s)
-  state_line s small h = name_line (state_text d s) (name_bytes (state_text d s) (state_name d sound names s small h))
+  state_line : (s : ℕ) → is_state d s ≡ true → Each no_line_feed (state_text d s)
+  state_line s h = name_line (state_text d s) (name_bytes (state_text d s) (state_name d sound names s h))
 
   sender_line : (s : Sender) → is_sender d s ≡ true → Each no_line_feed (sender_text d s)
   sender_line (Operator k) h = session_line k
   sender_line (Object o) h = object_line o h
 
-  result_line : (r : ActionEnd) → is_result d r ≡ true → ResultIsHeld r → Each no_line_feed (end_text d r)
-  result_line (State s) h small = state_line s small h
-  result_line Skipped h small = (refl, (refl, (refl, (refl, (refl, (refl, (refl, tt)))))))
+  result_line : (r : ActionEnd) → is_result d r ≡ true → Each no_line_feed (end_text d r)
+  result_line (State s) h = state_line s h
+  result_line Skipped h = (refl, (refl, (refl, (refl, (refl, (refl, (refl, tt)))))))
 
-  call_line : (o a : ℕ) (vs : List Value) → is_call d o a vs ≡ true → a < 2 ^ 64 → All ValueIsHeld vs → Each no_line_feed (call_text d o a vs)
-  call_line o a vs h small r =
+  call_line : (o a : ℕ) (vs : List Value) → is_call d o a vs ≡ true → All ValueIsHeld vs → Each no_line_feed (call_text d o a vs)
+  call_line o a vs h r =
       let e = both_true (is_action d a) (length vs == length (params_of d o a)) h in
-      let n = name_line (action_text d a) (name_bytes (action_text d a) (action_name d sound names a small e.0)) in
+      let n = name_line (action_text d a) (name_bytes (action_text d a) (action_name d sound names a e.0)) in
       plus (action_text d a) (args_text (params_of d o a) vs) n (args_line (params_of d o a) vs (names.params o a) r)
 
-  readings_line : (rs : List Reading) → list_all (is_reading d) rs ≡ true → All ReadingIsHeld rs → Each no_line_feed (flat_map (reading_text d) rs)
-  readings_line [] h r = tt
-  readings_line (x ∷ rs) h r =
+  readings_line : (rs : List Reading) → list_all (is_reading d) rs ≡ true → Each no_line_feed (flat_map (reading_text d) rs)
+  readings_line [] h = tt
+  readings_line (x ∷ rs) h =
       let e = both_true (is_reading d x) (list_all (is_reading d) rs) h in
       let f = both_true (is_object d x.object) (is_state d x.state) e.0 in
-      let state = state_line x.state (all_head ReadingIsHeld x rs r) f.1 in
+      let state = state_line x.state f.1 in
       let one = plus (object_text d x.object) (61 ∷ state_text d x.state) (object_line x.object f.0) (refl, state) in
-      (refl, plus (object_text d x.object ++ (61 ∷ state_text d x.state)) (flat_map (reading_text d) rs) one (readings_line rs e.1 (all_tail ReadingIsHeld x rs r)))
+      (refl, plus (object_text d x.object ++ (61 ∷ state_text d x.state)) (flat_map (reading_text d) rs) one (readings_line rs e.1))
 
   pub entry_line : (e : Entry) → HasText d e → Each no_line_feed (entry_text d e)
   entry_line (Start o s n a args) h =
       let e = both_true (is_object d o) (is_sender d s && is_call d o a args) h.is in
       let f = both_true (is_sender d s) (is_call d o a args) e.1 in
       let C = call_text d o a args in
-      let call = spaced_line C (call_line o a args f.1 h.held.1 h.held.2) in
+      let call = spaced_line C (call_line o a args f.1 h.held.1) in
       let number = weaken is_digit (decimal_text n) refl (numeral n h.held.0).0 in
       let z = spaced_line (decimal_text n ++ (32 ∷ C)) (plus (decimal_text n) (32 ∷ C) number call) in
       let y = spaced_line (sender_text d s ++ (32 ∷ (decimal_text n ++ (32 ∷ C)))) (plus (sender_text d s) (32 ∷ (decimal_text n ++ (32 ∷ C))) (sender_line s f.0) z) in
@@ -125,7 +125,7 @@ module _ (d : Domain) (sound : IsSound d) (names : HasNames d) where
       let e = both_true (is_object d o) (is_object d t && is_call d t a args) h.is in
       let f = both_true (is_object d t) (is_call d t a args) e.1 in
       let C = call_text d t a args in
-      let call = spaced_line C (call_line t a args f.1 h.held.1 h.held.2) in
+      let call = spaced_line C (call_line t a args f.1 h.held.1) in
       let z = spaced_line (verdict_text v ++ (32 ∷ C)) (plus (verdict_text v) (32 ∷ C) (verdict_line v h.held.0) call) in
       let y = spaced_line (object_text d t ++ (32 ∷ (verdict_text v ++ (32 ∷ C)))) (plus (object_text d t) (32 ∷ (verdict_text v ++ (32 ∷ C))) (object_line t f.0) z) in
       let x = plus (object_text d o) (32 ∷ (object_text d t ++ (32 ∷ (verdict_text v ++ (32 ∷ C))))) (object_line o e.0) y in
@@ -133,11 +133,11 @@ module _ (d : Domain) (sound : IsSound d) (names : HasNames d) where
   entry_line (Wait o) h = (refl, (refl, (refl, (refl, (refl, object_line o h.is)))))
   entry_line (Seen o rs) h =
       let e = both_true (is_object d o) (list_all (is_reading d) rs) h.is in
-      let x = plus (object_text d o) (flat_map (reading_text d) rs) (object_line o e.0) (readings_line rs e.1 h.held) in
+      let x = plus (object_text d o) (flat_map (reading_text d) rs) (object_line o e.0) (readings_line rs e.1) in
       (refl, (refl, (refl, (refl, (refl, x)))))
   entry_line (End o r) h =
       let e = both_true (is_object d o) (is_result d r) h.is in
-      let x = plus (object_text d o) (32 ∷ end_text d r) (object_line o e.0) (refl, result_line r e.1 h.held) in
+      let x = plus (object_text d o) (32 ∷ end_text d r) (object_line o e.0) (refl, result_line r e.1) in
       (refl, (refl, (refl, (refl, x))))
   entry_line (Kill o c) h =
       let e = both_true (is_object d o) (is_cause c) h.is in

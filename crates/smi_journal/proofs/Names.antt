@@ -61,21 +61,21 @@ module _ (d : Domain) (sound : IsSound d) (names : HasNames d) where
   pub object_name : (o : ℕ) → is_object d o ≡ true → IsName (object_text d o)
   object_name o h = names.objects o h
 
-  pub state_name : (s : ℕ) → s < 2 ^ 64 → is_state d s ≡ true → IsName (state_text d s)
-  state_name s small h = names.states s small h
+  pub state_name : (s : ℕ) → is_state d s ≡ true → IsName (state_text d s)
+  state_name s h = names.states s h
 
-  pub action_name : (a : ℕ) → a < 2 ^ 64 → is_action d a ≡ true → IsName (action_text d a)
-  action_name a small h = names.actions a small h
+  pub action_name : (a : ℕ) → is_action d a ≡ true → IsName (action_text d a)
+  action_name a h = names.actions a h
 
   pub object_again : (o : ℕ) → is_object d o ≡ true → read_object d (object_text d o) ≡ o
   object_again o h =
       found_again (object_named d) (option_map name_of_object (slice_get d.objects o)) o (object_name o h)
       (λ is. (object_has_name d o (object_text d o) sound).0 is)
 
-  pub state_again : (s : ℕ) → s < 2 ^ 64 → is_state d s ≡ true → read_state d (state_text d s) ≡ s
-  state_again s small h =
-      found_again (state_named d) (slice_get d.states s) s (state_name s small h) (λ is. (state_has_name d s (state_text d s) sound).0 is)
+  pub state_again : (s : ℕ) → is_state d s ≡ true → read_state d (state_text d s) ≡ s
+  state_again s h =
+      found_again (state_named d) (slice_get d.states s) s (state_name s h) (λ is. (state_has_name d s (state_text d s) sound).0 is)
 
-  pub action_again : (a : ℕ) → a < 2 ^ 64 → is_action d a ≡ true → read_action d (action_text d a) ≡ a
-  action_again a small h =
-      found_again (action_named d) (slice_get d.actions a) a (action_name a small h) (λ is. (action_has_name d a (action_text d a) sound).0 is)
+  pub action_again : (a : ℕ) → is_action d a ≡ true → read_action d (action_text d a) ≡ a
+  action_again a h =
+      found_again (action_named d) (slice_get d.actions a) a (action_name a h) (λ is. (action_has_name d a (action_text d a) sound).0 is)

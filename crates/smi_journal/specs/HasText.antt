@@ -37,19 +37,19 @@ is_session k = nat_le 1 k && nat_le k 8
 abbrev pub is_object : Domain → ℕ → Bool
 is_object d o = nat_lt o (length d.objects)
 
--- whether a state has the number
+-- whether a state has the number, which is one of 64 bits
 abbrev pub is_state : Domain → ℕ → Bool
-is_state d s = is_some (slice_get d.states s)
+is_state d s = nat_lt s (2 ^ 64) && is_some (slice_get d.states s)
 
--- whether an action has the number
+-- whether an action has the number, which is one of 64 bits
 abbrev pub is_action : Domain → ℕ → Bool
-is_action d a = is_some (slice_get d.actions a)
+is_action d a = nat_lt a (2 ^ 64) && is_some (slice_get d.actions a)
 
 -- all that a domain names has a name
 pub record HasNames (d : Domain) : Type 0 where
   pub objects : (o : ℕ) → is_object d o ≡ true → IsName (object_text d o)
-  pub states : (s : ℕ) → s < 2 ^ 64 → is_state d s ≡ true → IsName (state_text d s)
-  pub actions : (a : ℕ) → a < 2 ^ 64 → is_action d a ≡ true → IsName (action_text d a)
+  pub states : (s : ℕ) → is_state d s ≡ true → IsName (state_text d s)
+  pub actions : (a : ℕ) → is_action d a ≡ true → IsName (action_text d a)
   pub params : (o a : ℕ) → All IsNamed (params_of d o a)
 
 -- whether it is a session, or an object of the domain
@@ -95,22 +95,13 @@ VerdictIsHeld (Accepted n) = n < 2 ^ 64
 VerdictIsHeld Full = Unit {0}
 VerdictIsHeld Dead = Unit {0}
 
--- the number of a state has 64 bits
-abbrev pub ReadingIsHeld : Reading → Type 0
-ReadingIsHeld r = r.state < 2 ^ 64
-
--- the number of the state has 64 bits, if there is one
-abbrev pub ResultIsHeld : ActionEnd → Type 0
-ResultIsHeld (State s) = s < 2 ^ 64
-ResultIsHeld Skipped = Unit {0}
-
 -- what an entry of the program holds: numbers of 64 bits, and strings
 abbrev pub IsHeld : Entry → Type 0
-IsHeld (Start o s n a args) = (n < 2 ^ 64) × (a < 2 ^ 64) × All ValueIsHeld args
-IsHeld (Post o t v a args) = VerdictIsHeld v × (a < 2 ^ 64) × All ValueIsHeld args
+IsHeld (Start o s n a args) = (n < 2 ^ 64) × All ValueIsHeld args
+IsHeld (Post o t v a args) = VerdictIsHeld v × All ValueIsHeld args
 IsHeld (Wait o) = Unit {0}
-IsHeld (Seen o rs) = All ReadingIsHeld rs
-IsHeld (End o r) = ResultIsHeld r
+IsHeld (Seen o rs) = Unit {0}
+IsHeld (End o r) = Unit {0}
 IsHeld (Kill o c) = Unit {0}
 
 -- an entry has a text, and is one that the program can hold

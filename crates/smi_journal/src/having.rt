@@ -29,13 +29,19 @@ fn is_object(domain: &Domain, o: ObjId) -> bool
 fn is_state(domain: &Domain, s: StateId) -> bool
     ensures { result ≡ says.is_state domain.now s }
 {
-    domain.state_name(s).is_some()
+    s.get() <= usize::MAX && domain.state_name(s).is_some()
+}
+
+fn is_action(domain: &Domain, a: ActionId) -> bool
+    ensures { result ≡ says.is_action domain.now a }
+{
+    a.get() <= usize::MAX && domain.action_name(a).is_some()
 }
 
 fn is_call(domain: &Domain, o: ObjId, a: ActionId, values: &[Value]) -> bool
     ensures { result ≡ says.is_call domain.now o a values.now }
 {
-    domain.action_name(a).is_some() && values.len() == parameters(domain, o, a)
+    is_action(domain, a) && values.len() == parameters(domain, o, a)
 }
 
 // A session is one of 1 to 8 by its type.
