@@ -1,5 +1,6 @@
 //! The lines of schedules: the steps that they ask.
 #![tactic(auto)]
 
+pub mod answer;
 mod arguments;
 pub mod line;
