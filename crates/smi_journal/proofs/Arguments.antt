@@ -1,8 +1,8 @@
 -- Arguments that are spelled are read again.
-use Rattle.std.proofs.Common.{◌≡◌, ◌∙◌, sym, ap, refl, ℕ, ℤ, pos, ◌+◌, ◌^◌, ◌<◌, ◌==◌, ◌&&◌, suc, zero, Bool, true, false, cond, All, List, [], ◌∷◌, ◌++◌, append_assoc, append-nil, get_or, drop, arith, length}
-use Rattle.std.proofs.lemmas.Bool.{eqb-true, eq-eqb}
+use Rattle.std.proofs.Common.{◌≡◌, ◌∙◌, ap, refl, ℕ, pos, ◌==◌, ◌&&◌, Bool, true, false, cond, All, List, [], ◌∷◌, ◌++◌, append_assoc, get_or, drop, arith, length}
+use Rattle.std.proofs.lemmas.Bool.{eqb-true}
 use Rattle.std.proofs.lemmas.Bool.Decides.{nat_tests}
-use Rattle.std.specs.Prelude.{codes, nat_lt, nat_le}
+use Rattle.std.specs.Prelude.{codes, nat_le}
 use Rattle.std.specs.List.{list_all}
 use Rattle.sml_text.specs.Bytes.{is_string_byte}
 use Rattle.sml_text.specs.Tokens.{Each}
@@ -19,7 +19,7 @@ use Rattle.smi_journal.specs.HasText.{IsNamed, HasNames, ValueIsHeld, is_action,
 use Rattle.smi_journal.specs.Reading.{before, behind, read_int, is_string, read_string, read_value, behind_value, behind_equals, read_values, read_args, read_action}
 use Rattle.smi_journal.proofs.Separators.{both_true, apart, before_pass, behind_pass, before_word, before_all}
 use Rattle.smi_journal.proofs.Numerals.{is_int_byte, int_again}
-use Rattle.smi_journal.proofs.Names.{is_name_byte, name_bytes, action_name, action_again}
+use Rattle.smi_journal.proofs.NameBytes.{is_name_byte, name_bytes, action_name, action_again}
 
 -- what follows a value in brackets: a comma or a bracket, and more
 abbrev pub tail : Bool → List ℕ → List ℕ
@@ -57,15 +57,17 @@ pub value_again : (v : Value) (t : List ℕ) → ValueIsHeld v → Follows t
 value_again (Int z) t h f =
     let n = int_again z h in
     let q = first_before (int_text z) t n.0 f in
-    let w = int_text z ++ t in
-    (ap (λ c. cond c (read_string (before 34 (drop 1 w))) (Int (read_int (before 44 (before 41 w))))) q
-        ∙ ap (λ l. Int (read_int l)) (digits_before (int_text z) t n.0 f) ∙ ap (λ k. Int k) n.1,
-     ap (λ c. behind 61 (cond c (behind 34 (drop 1 w)) w)) q ∙ behind_pass is_int_byte 61 (int_text z) t refl n.0)
+    let w = int_text z ++ t in (
+      ap (λ c. cond c (read_string (before 34 (drop 1 w))) (Int (read_int (before 44 (before 41 w))))) q
+          ∙ ap (λ l. Int (read_int l)) (digits_before (int_text z) t n.0 f) ∙ ap (λ k. Int k) n.1,
+      ap (λ c. behind 61 (cond c (behind 34 (drop 1 w)) w)) q ∙ behind_pass is_int_byte 61 (int_text z) t refl n.0,
+    )
 value_again (Text w) t h f =
-    let e : (w ++ (34 ∷ [])) ++ t ≡ w ++ (34 ∷ t) = append_assoc w (34 ∷ []) t in
-    (ap (λ l. read_string (before 34 l)) e ∙ ap read_string (before_word is_string_byte 34 w (34 ∷ t) refl h.fits refl)
-        ∙ ap (λ c. cond c (Text w) (Int (pos 0))) (string_is w h),
-     ap (λ l. behind 61 (behind 34 l)) e ∙ ap (behind 61) (behind_pass is_string_byte 34 w (34 ∷ t) refl h.fits))
+    let e : (w ++ (34 ∷ [])) ++ t ≡ w ++ (34 ∷ t) = append_assoc w (34 ∷ []) t in (
+      ap (λ l. read_string (before 34 l)) e ∙ ap read_string (before_word is_string_byte 34 w (34 ∷ t) refl h.fits refl)
+          ∙ ap (λ c. cond c (Text w) (Int (pos 0))) (string_is w h),
+      ap (λ l. behind 61 (behind 34 l)) e ∙ ap (behind 61) (behind_pass is_string_byte 34 w (34 ∷ t) refl h.fits),
+    )
 
 -- what follows an argument is a comma or the bracket
 more_follows : (ps : List Param) (vs : List Value) → Follows (more_args ps vs ++ codes ")")
@@ -88,7 +90,7 @@ more_again (p ∷ ps) (v ∷ vs) bs l n r e =
     let t = more_args ps vs ++ codes ")" in
     let less : length vs ≡ length ps = omega (arith, l) in
     let here : behind_equals bs ≡ value_text v ++ t =
-        ap (drop 1) e ∙ ap behind_equals (append_assoc (arg_text p v) (more_args ps vs) (codes ")")) ∙ arg_again p v t (all_head IsNamed p ps n) in
+    ap (drop 1) e ∙ ap behind_equals (append_assoc (arg_text p v) (more_args ps vs) (codes ")")) ∙ arg_again p v t (all_head IsNamed p ps n) in
     let a = value_again v t (all_head ValueIsHeld v vs r) (more_follows ps vs) in
     (λ i. read_value (here i) ∷ read_values (length ps) (behind_value (here i)))
     ∙ (λ i. a.0 i ∷ more_again ps vs (behind_value (value_text v ++ t)) less (all_tail IsNamed p ps n) (all_tail ValueIsHeld v vs r) a.1 i)
@@ -118,7 +120,8 @@ module _ (d : Domain) (sound : IsSound d) (names : HasNames d) where
   call_again o a vs h r =
       let ps = params_of d o a in
       let e = both_true (is_action d a) (length vs == length ps) h in
-      let n = name_bytes (action_text d a) (action_name d sound names a e.0) in
-      (ap (read_action d) (before_word is_name_byte 32 (action_text d a) (args_text ps vs) refl n (args_start ps vs)) ∙ action_again d sound names a e.0,
-       ap (read_values (length ps)) (behind_pass is_name_byte 32 (action_text d a) (args_text ps vs) refl n)
-           ∙ args_again ps vs (eqb-true (length vs) (length ps) e.1) (names.params o a) r)
+      let n = name_bytes (action_text d a) (action_name d sound names a e.0) in (
+        ap (read_action d) (before_word is_name_byte 32 (action_text d a) (args_text ps vs) refl n (args_start ps vs)) ∙ action_again d sound names a e.0,
+        ap (read_values (length ps)) (behind_pass is_name_byte 32 (action_text d a) (args_text ps vs) refl n)
+            ∙ args_again ps vs (eqb-true (length vs) (length ps) e.1) (names.params o a) r,
+      )

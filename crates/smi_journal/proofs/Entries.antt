@@ -1,16 +1,14 @@
 -- An entry that is spelled is read again.
-use Rattle.std.proofs.Common.{◌≡◌, ◌≢◌, ◌∙◌, sym, ap, refl, ℕ, ◌+◌, ◌-◌, ◌^◌, ◌<◌, ◌≤◌, ◌==◌, ◌&&◌, suc, zero, Bool, true, false, cond, All, List, [], ◌∷◌, ◌++◌, Option, Some, None, append_assoc, get_or, arith, length, length-append}
+use Rattle.std.proofs.Common.{◌≡◌, ◌∙◌, ap, refl, ℕ, ◌+◌, ◌<◌, ◌≤◌, ◌==◌, ◌&&◌, suc, zero, Bool, true, false, cond, List, [], ◌∷◌, ◌++◌, Some, None, append_assoc, arith, length, length-append}
 use Rattle.std.proofs.lemmas.Bool.Decides.{nat_tests}
-use Rattle.std.specs.Prelude.{codes, nat_lt, nat_le, if◌then◌else◌, flat_map}
+use Rattle.std.specs.Prelude.{if◌then◌else◌, flat_map}
 use Rattle.std.specs.List.{list_all}
 use Rattle.sml_text.specs.Bytes.{is_digit}
 use Rattle.sml_text.specs.Tokens.{Each}
 use Rattle.sml_text.specs.Decimal.{decimal_text}
-use Rattle.sml_domain.specs.declared.value.Value.{Value}
 use Rattle.sml_domain.specs.Domain.{Domain}
 use Rattle.sml_domain.specs.Truth.{Reading}
 use Rattle.sml_domain.specs.Sound.{IsSound}
-use Rattle.sml_domain.proofs.Finds.{all_head, all_tail}
 use Rattle.smi_entry.specs.declared.entry.Sender.{Sender}
 use Rattle.smi_entry.specs.declared.entry.Sender.TheVariants.{Operator, Object}
 use Rattle.smi_entry.specs.declared.entry.Verdict.{Verdict}
@@ -23,11 +21,11 @@ use Rattle.smi_entry.specs.declared.entry.Entry.{Entry}
 use Rattle.smi_entry.specs.declared.entry.Entry.TheVariants.{Start, Post, Wait, Seen, End, Kill}
 use Rattle.smi_journal.specs.CallText.{object_text, state_text, call_text}
 use Rattle.smi_journal.specs.EntryText.{session_text, sender_text, verdict_text, reading_text, end_text, cause_text, entry_text}
-use Rattle.smi_journal.specs.HasText.{HasNames, HasText, VerdictIsHeld, is_session, is_object, is_state, is_sender, is_call, is_reading, is_result, is_cause, has_text}
+use Rattle.smi_journal.specs.HasText.{HasNames, HasText, VerdictIsHeld, is_session, is_object, is_state, is_sender, is_call, is_reading, is_result, is_cause}
 use Rattle.smi_journal.specs.Reading.{before, behind, first_byte, read_object, read_state, read_action, read_number, read_args, session_number, read_session, as_operator, as_killer, read_sender, read_post, read_answered, read_reading, read_readings, read_end, read_cause, read_entry}
-use Rattle.smi_journal.proofs.Separators.{both_true, before_pass, behind_pass, before_word, before_all, behind_all, first_not}
+use Rattle.smi_journal.proofs.Separators.{both_true, before_pass, behind_pass, before_word, before_all, first_not}
 use Rattle.smi_journal.proofs.Numerals.{numeral}
-use Rattle.smi_journal.proofs.Names.{is_name_byte, name_bytes, object_name, state_name, object_again, state_again}
+use Rattle.smi_journal.proofs.NameBytes.{is_name_byte, name_bytes, object_name, state_name, object_again, state_again}
 use Rattle.smi_journal.proofs.Arguments.{call_again}
 
 -- a word and a blank behind it
@@ -70,7 +68,7 @@ module _ (d : Domain) (sound : IsSound d) (names : HasNames d) where
   sender_again (Object o) h =
       let w = object_text d o in
       ap (λ b. cond b (as_operator (read_session w)) (Object (read_object d w)))
-          (first_not is_name_byte 64 w refl refl (object_bytes o h))
+      (first_not is_name_byte 64 w refl refl (object_bytes o h))
       ∙ ap (λ n. Object n) (object_again d sound names o h)
 
   result_again : (r : ActionEnd) → is_result d r ≡ true → read_end d (end_text d r) ≡ r
@@ -88,7 +86,7 @@ module _ (d : Domain) (sound : IsSound d) (names : HasNames d) where
       let p = (numeral n h).0 in
       (λ i. read_answered d o t (word_before is_digit w c refl p i) (word_behind is_digit w c refl p i))
       ∙ ap (λ b. cond b (read_post d o t (if first_byte c == 102 then Full else Dead) (behind 32 c)) (read_post d o t (Accepted (read_number w)) c))
-          (first_not is_digit 114 w refl refl p)
+      (first_not is_digit 114 w refl refl p)
       ∙ ap (λ m. read_post d o t (Accepted m) c) (numeral n h).1
   answered_again o t Full c h = refl
   answered_again o t Dead c h = refl

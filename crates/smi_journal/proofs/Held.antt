@@ -1,5 +1,5 @@
 -- What is read holds numbers of 64 bits, and strings.
-use Rattle.std.proofs.Common.{◌≡◌, ◌∙◌, sym, ap, refl, ℕ, ℤ, pos, negsuc, ◌+◌, ◌-◌, ◌*◌, ◌^◌, ◌<◌, ◌≤◌, ◌==◌, ◌&&◌, suc, zero, Bool, true, false, cond, All, List, [], ◌∷◌, arith, length, drop, get_or}
+use Rattle.std.proofs.Common.{◌≡◌, refl, ℕ, pos, negsuc, ◌+◌, ◌-◌, ◌*◌, ◌^◌, ◌<◌, ◌==◌, suc, zero, Bool, true, false, cond, All, List, [], ◌∷◌, arith, length, drop, get_or}
 use Rattle.std.proofs.lemmas.Bool.Decides.{nat_tests}
 use Rattle.std.specs.Prelude.{nat_lt, nat_le, fold}
 use Rattle.std.specs.List.{list_all}
@@ -14,9 +14,9 @@ use Rattle.sml_domain.proofs.Strings.{each_of_all}
 use Rattle.smi_entry.specs.declared.entry.Verdict.{Verdict}
 use Rattle.smi_entry.specs.declared.entry.Verdict.TheVariants.{Accepted, Full, Dead}
 use Rattle.smi_entry.specs.declared.entry.Entry.{Entry}
-use Rattle.smi_entry.specs.declared.entry.Entry.TheVariants.{Start, Post, Wait, Seen, End, Kill}
+use Rattle.smi_entry.specs.declared.entry.Entry.TheVariants.{Wait, Seen, End, Kill}
 use Rattle.smi_journal.specs.HasText.{ValueIsHeld, VerdictIsHeld, IsHeld}
-use Rattle.smi_journal.specs.Reading.{before, behind, first_byte, next_value, read_number, minus, plus, read_int, is_string, read_string, read_value, behind_value, behind_equals, read_values, read_args, read_start, read_post, read_answered, read_object, read_readings, read_end, read_cause, read_entry}
+use Rattle.smi_journal.specs.Reading.{before, behind, first_byte, next_value, read_number, minus, plus, read_int, is_string, read_string, read_value, behind_value, behind_equals, read_values, read_start, read_post, read_answered, read_object, read_readings, read_end, read_cause, read_entry}
 use Rattle.smi_journal.proofs.Separators.{both_true}
 
 -- a fact of both branches
@@ -89,8 +89,8 @@ answered_held : (d : Domain) (o t w c : List ℕ) → IsHeld (read_answered d o 
 answered_held d o t w c =
     let refused = cond (first_byte c == 102) Full Dead in
     either IsHeld (first_byte w == 114) (read_post d o t refused (behind 32 c)) (read_post d o t (Accepted (read_number w)) c)
-        (post_held d o t refused (behind 32 c) (either VerdictIsHeld (first_byte c == 102) Full Dead tt tt))
-        (post_held d o t (Accepted (read_number w)) c (number_small w))
+    (post_held d o t refused (behind 32 c) (either VerdictIsHeld (first_byte c == 102) Full Dead tt tt))
+    (post_held d o t (Accepted (read_number w)) c (number_small w))
 
 start_held : (d : Domain) (o s n c : List ℕ) → IsHeld (read_start d o s n c)
 start_held d o s n c = (number_small n, values_held _ (behind 32 c))

@@ -1,5 +1,5 @@
 -- Journals that have one text are one.
-use Rattle.std.proofs.Common.{◌≡◌, ◌∙◌, sym, ap, refl, ℕ, ◌+◌, ◌<◌, All, List, [], ◌∷◌, ◌++◌, drop, arith, length, length-append}
+use Rattle.std.proofs.Common.{◌≡◌, ◌∙◌, sym, ap, refl, ℕ, ◌<◌, All, List, [], ◌∷◌, ◌++◌, drop, arith, length, length-append}
 use Rattle.sml_domain.specs.Domain.{Domain}
 use Rattle.sml_domain.specs.Sound.{IsSound}
 use Rattle.sml_domain.proofs.Finds.{all_head, all_tail}
@@ -7,7 +7,7 @@ use Rattle.smi_entry.specs.declared.entry.Entry.{Entry}
 use Rattle.smi_journal.specs.EntryText.{entry_text, line_text}
 use Rattle.smi_journal.specs.JournalText.{lines_text}
 use Rattle.smi_journal.specs.HasText.{HasNames, HasText}
-use Rattle.smi_journal.specs.Reading.{before, behind, read_entry}
+use Rattle.smi_journal.specs.Reading.{read_entry}
 use Rattle.smi_journal.specs.Laws.{OneEntry, OneJournal}
 use Rattle.smi_journal.proofs.Entries.{entry_again}
 use Rattle.smi_journal.proofs.Lines.{first_line, other_lines}

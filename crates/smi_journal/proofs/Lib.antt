@@ -1,11 +1,13 @@
 mod Tolds
 mod Separators
 mod Numerals
-mod Names
+mod NameBytes
 mod Arguments
 mod Entries
 mod Lines
 mod Journals
 mod Loops
 mod Held
+mod Walked
 mod Judged
+mod Fronts

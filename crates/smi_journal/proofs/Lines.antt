@@ -1,7 +1,7 @@
 -- No entry's text has a line feed, so that a line ends where its text does.
-use Rattle.std.proofs.Common.{◌≡◌, ◌≢◌, ◌∙◌, sym, ap, refl, ℕ, ◌+◌, ◌^◌, ◌<◌, ◌==◌, ◌&&◌, not, Bool, true, false, All, List, [], ◌∷◌, ◌++◌, append_assoc, arith, length, length-append}
+use Rattle.std.proofs.Common.{◌≡◌, ◌∙◌, ap, refl, ℕ, ◌+◌, ◌==◌, ◌&&◌, not, Bool, true, false, All, List, [], ◌∷◌, ◌++◌, append_assoc, arith, length}
 use Rattle.std.proofs.lemmas.Bool.Decides.{nat_tests}
-use Rattle.std.specs.Prelude.{codes, nat_lt, flat_map}
+use Rattle.std.specs.Prelude.{codes, flat_map}
 use Rattle.std.specs.List.{list_all}
 use Rattle.sml_text.specs.Bytes.{is_digit, is_string_byte, no_line_feed}
 use Rattle.sml_text.specs.Tokens.{Each}
@@ -28,7 +28,7 @@ use Rattle.smi_journal.specs.HasText.{IsNamed, HasNames, HasText, ValueIsHeld, V
 use Rattle.smi_journal.specs.Reading.{before, behind}
 use Rattle.smi_journal.proofs.Separators.{both_true, apart, each_append, each_more, before_word, behind_pass}
 use Rattle.smi_journal.proofs.Numerals.{is_int_byte, numeral, int_again}
-use Rattle.smi_journal.proofs.Names.{is_name_byte, name_bytes, object_name, state_name, action_name}
+use Rattle.smi_journal.proofs.NameBytes.{is_name_byte, name_bytes, object_name, state_name, action_name}
 
 weaken : (P : ℕ → Bool) (w : List ℕ) → P 10 ≡ false → Each P w → Each no_line_feed w
 weaken P w n h = each_more P no_line_feed w (λ c p. ap not (apart P c 10 p n)) h

@@ -1,5 +1,5 @@
 -- Which entries have a text.
-use Rattle.std.specs.Prelude.{◌≡◌, ◌<◌, ◌^◌, ℕ, ◌==◌, ◌&&◌, nat_le, nat_lt, Bool, true, List, [], ◌∷◌, All, IsTrue, length, is_some, slice_get}
+use Rattle.std.specs.Prelude.{◌≡◌, ◌<◌, ◌^◌, ℕ, ◌==◌, ◌&&◌, nat_le, nat_lt, Bool, true, List, All, IsTrue, length, is_some, slice_get}
 use Rattle.std.specs.List.{list_all}
 use Rattle.sml_text.specs.Tokens.{IsLong}
 use Rattle.sml_tree.specs.Word.{is_word, upper}

@@ -12,10 +12,19 @@ use Rattle.smi_journal.specs.HasText.{HasText}
 abbrev pub NoHeader : List ℕ → Type 0
 NoHeader bytes = (more : List ℕ) → bytes ≢ header ++ more
 
+-- the bytes begin with the line of an entry
+pub record BeginsWith (d : Domain) (bytes : List ℕ) (e : Entry) (more : List ℕ) : Type 0 where
+  pub text : HasText d e
+  pub split : bytes ≡ line_text d e ++ more
+
+-- they do not begin with the line of any
+abbrev pub BeginsWithNone : Domain → List ℕ → Type 0
+BeginsWithNone d bytes = (e : Entry) (more : List ℕ) → HasText d e → bytes ≢ line_text d e ++ more
+
 -- something is left, and it does not begin with the line of an entry
 pub record IsBad (d : Domain) (rest : List ℕ) : Type 0 where
   pub some : rest ≢ []
-  pub none : (e : Entry) (more : List ℕ) → HasText d e → rest ≢ line_text d e ++ more
+  pub none : BeginsWithNone d rest
 
 -- the lines before a line are those of entries, and it is not
 pub record FirstBad (d : Domain) (bytes : List ℕ) (line : ℕ) : Type 0 where

@@ -81,7 +81,11 @@ fn below_zero(size: u64) -> i64
 fn above_zero(size: u64) -> i64
     ensures { result ≡ says.plus size }
 {
-    if size > i64::MAX as u64 { 0 } else { size as i64 }
+    if size > i64::MAX as u64 {
+        0
+    } else {
+        size as i64
+    }
 }
 
 /// The int that digits spell, behind a minus or behind none.

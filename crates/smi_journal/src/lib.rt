@@ -8,6 +8,7 @@ pub mod entry_text;
 mod having;
 pub mod journal_text;
 pub mod laws;
+pub mod names;
 pub mod read;
 mod reading;
 

@@ -1,13 +1,17 @@
 //! Journals, read from their text.
-ghost use Rattle.std.specs.Prelude.{◌≡◌, IfOk, OnOk};
+ghost use Rattle.std.specs.Prelude.{◌≡◌, ◌∷◌, ◌++◌, [], ◌+◌, ◌<◌, ◌^◌, All, IfErr, IfOk, MatchOption, OnOk, length, option_map};
 ghost use Rattle.smi_journal.specs.EntryText.{entry_text};
-ghost use Rattle.smi_journal.specs.HasText.{HasNames};
-ghost use Rattle.smi_journal.specs.ReadJournal.{Judged};
+ghost use Rattle.smi_journal.specs.HasText.{HasNames, HasText};
+ghost use Rattle.smi_journal.specs.JournalText.{header, journal_text, lines_text};
+ghost use Rattle.smi_journal.specs.ReadJournal.{BeginsWith, BeginsWithNone, IsRefused, Judged, Stripped};
 
+use crate::cutting::cut;
 use crate::entry_text::tell_entry;
 use crate::having::has_text;
+use crate::names::tell_names;
 use crate::reading::entry;
 use smi_entry::entry::Entry;
+use smi_entry::journal::Journal;
 use sml_domain::domain::Domain;
 use std::alloc::{AllocError, Global};
 
@@ -52,5 +56,106 @@ fn judged(
         Ok(Some(found))
     } else {
         Ok(None)
+    }
+}
+
+// The entry whose line stands in front, and what stands behind the line. None where no entry's does.
+fn next_entry<'a>(
+    alloc: Global,
+    domain: &Domain,
+    text: &mut Vec<u8>,
+    rest: &'a [u8],
+) -> Result<Option<(Entry, &'a [u8])>, AllocError>
+    requires { HasNames domain.now }
+    ensures { IfOk result (λ r. MatchOption r (BeginsWithNone domain.now rest.now) (λ x. BeginsWith domain.now rest.now x.0 x.1.now)) }
+{
+    domain.objects();
+    let (line, more) = cut(b'\n', rest);
+    if line.len() == rest.len() {
+        return Ok(None);
+    }
+    match judged(alloc, domain, text, line)? {
+        Some(entry) => Ok(Some((entry, more))),
+        None => Ok(None),
+    }
+}
+
+// Adds an entry.
+fn add(journal: &mut Journal, entry: Entry) -> Result<(), AllocError>
+    ensures { OnOk result (journal.new.entries ≡ journal.old.entries ++ entry ∷ []) }
+{
+    journal.hold(1)?;
+    journal.add_held(entry);
+    Ok(())
+}
+
+// What stands behind the first line, where that is the one of journals.
+fn behind_header(bytes: &[u8]) -> Option<&[u8]>
+    ensures { Stripped bytes.now (option_map (λ r. r.now) result) }
+{
+    let (first, rest) = cut(b'\n', bytes);
+    if first.len() == bytes.len() {
+        return None;
+    }
+    if first == b"smi-journal 1".as_slice() {
+        Some(rest)
+    } else {
+        None
+    }
+}
+
+// The entries whose lines these are.
+fn read_lines(alloc: Global, domain: &Domain, bytes: &[u8]) -> Result<Journal, JournalError>
+    requires names { HasNames domain.now }
+    requires short { length bytes.now + 2 < 2 ^ 64 }
+    ensures texts { IfOk result (λ J. All (HasText domain.now) J.entries) }
+    ensures whole { IfOk result (λ J. bytes.now ≡ lines_text domain.now J.entries) }
+    ensures err { IfErr result (λ e. IsRefused domain.now (header ++ bytes.now) e) }
+{
+    let mut journal = Journal::new(alloc);
+    let mut text = Vec::new(alloc);
+    let mut rest = bytes;
+    let mut number: u64 = 2;
+    while rest.len() > 0 {
+        let Ok(next) = next_entry(alloc, domain, &mut text, rest) else {
+            return Err(JournalError::Memory);
+        };
+        let (entry, more) = match next {
+            None => return Err(JournalError::BadLine(number)),
+            Some(found) => found,
+        };
+        let Ok(()) = add(&mut journal, entry) else {
+            return Err(JournalError::Memory);
+        };
+        rest = more;
+        number += 1;
+    }
+    Ok(journal)
+}
+
+/// Reads the text of a journal of a domain. (docs/FORMATS.md, "Journal".) Bytes of which a journal
+/// has the text are read as that journal.
+///
+/// The time grows with the length of the text, and a look-up for each name; a journal's objects are
+/// looked up one by one. Beside the journal one line is held, and the names of the domain are looked
+/// through once.
+///
+/// # Errors
+///
+/// `BadHeader` where the text does not begin with the first line of journals, `BadLine` with the first
+/// line that is no entry's, and `Memory` for want of memory, in place of any other but `BadHeader`.
+pub fn read_journal(alloc: Global, domain: &Domain, bytes: &[u8]) -> Result<Journal, JournalError>
+    ensures texts { IfOk result (λ J. All (HasText domain.now) J.entries) }
+    ensures whole { IfOk result (λ J. bytes.now ≡ journal_text domain.now J.entries) }
+    ensures err { IfErr result (λ e. IsRefused domain.now bytes.now e) }
+{
+    let Some(rest) = behind_header(bytes) else {
+        return Err(JournalError::BadHeader);
+    };
+    tell_names(domain);
+    let _length = bytes.len();
+    match read_lines(alloc, domain, rest) {
+        Ok(journal) => Ok(journal),
+        Err(e) => Err(e),
     }
 }

@@ -213,7 +213,14 @@ fn answered(
     ensures { IfOk result (λ e. e ≡ says.read_answered domain.now word.now to.now answer.now rest.now) }
 {
     if byte_at(answer, 0) != b'r' {
-        return post(alloc, domain, word, to, Verdict::Accepted(number(answer)), rest);
+        return post(
+            alloc,
+            domain,
+            word,
+            to,
+            Verdict::Accepted(number(answer)),
+            rest,
+        );
     }
     let (_, call) = cut(b' ', rest);
     if byte_at(rest, 0) == b'f' {

@@ -1,4 +1,4 @@
-use Rattle.std.proofs.Common.{rules, ◌≢◌, ◌≡◌, ◌∙◌, sym, true, false, Bool}
+use Rattle.std.proofs.Common.{rules, ◌≢◌, ◌≡◌, ◌∙◌, sym, true, false}
 use Rattle.smi_journal.specs.EntryText.{entry_text}
 use Rattle.smi_journal.specs.HasText.{has_text}
 use Rattle.smi_journal.proofs.Judged.{read_has_text, no_text, other_text, differ, alike}
@@ -11,12 +11,13 @@ returns-then-not-has_text c =
 
 pub returns-then-eq : goal.returns-then-eq
 returns-then-eq c =
-    let some : has_text c.args.domain.now c.in_ok-found.found ≡ true = search rules in
-    (read_has_text c.args.domain.now c.args.line.now c.in_ok-found.found c.in_ok-found.ensures some,
-     sym (sym (c.as_slice.ensures.value ∙ c.in_ok-spell.ensures) ∙ alike _ _ (sym c.if-eq.true ∙ c.eq.ensures)))
+    let some : has_text c.args.domain.now c.in_ok-found.found ≡ true = search rules in (
+      read_has_text c.args.domain.now c.args.line.now c.in_ok-found.found c.in_ok-found.ensures some,
+      sym (sym (c.as_slice.ensures.value ∙ c.in_ok-spell.ensures) ∙ alike _ _ (sym c.if-eq.true ∙ c.eq.ensures)),
+    )
 
 pub returns-else-eq : goal.returns-else-eq
 returns-else-eq c =
     let other : entry_text c.args.domain.now c.in_ok-found.found ≢ c.args.line.now =
-        λ e. differ _ _ (sym c.if-eq.false ∙ c.eq.ensures) (c.as_slice.ensures.value ∙ c.in_ok-spell.ensures ∙ e) in
+    λ e. differ _ _ (sym c.if-eq.false ∙ c.eq.ensures) (c.as_slice.ensures.value ∙ c.in_ok-spell.ensures ∙ e) in
     other_text c.args.domain.now c.args.line.now c.in_ok-found.found c.objects.ensures.sound c.requires c.in_ok-found.ensures other
