@@ -1,14 +1,14 @@
 //! Journals, read from their text.
-ghost use Rattle.std.specs.Prelude.{◌≡◌, ◌∷◌, ◌++◌, [], ◌+◌, ◌<◌, ◌^◌, All, IfErr, IfOk, MatchOption, OnOk, length, option_map};
+ghost use Rattle.std.specs.Prelude.{◌≡◌, ◌∷◌, ◌++◌, [], ◌+◌, ◌<◌, ◌^◌, All, Err, IfErr, IfOk, MatchOption, OnOk, length, option_map};
 ghost use Rattle.smi_journal.specs.EntryText.{entry_text};
 ghost use Rattle.smi_journal.specs.HasText.{HasNames, HasText};
 ghost use Rattle.smi_journal.specs.JournalText.{header, journal_text, lines_text};
-ghost use Rattle.smi_journal.specs.ReadJournal.{BeginsWith, BeginsWithNone, IsRefused, Judged, Stripped};
+ghost use Rattle.smi_journal.specs.ReadJournal.{BeginsWith, BeginsWithNone, IsRefused, Judged, NoHeader, Stripped};
 
 use crate::cutting::cut;
 use crate::entry_text::tell_entry;
 use crate::having::has_text;
-use crate::names::tell_names;
+use crate::names::laws_of_names;
 use crate::reading::entry;
 use smi_entry::entry::Entry;
 use smi_entry::journal::Journal;
@@ -82,7 +82,8 @@ fn next_entry<'a>(
 
 // Adds an entry.
 fn add(journal: &mut Journal, entry: Entry) -> Result<(), AllocError>
-    ensures { OnOk result (journal.new.entries ≡ journal.old.entries ++ entry ∷ []) }
+    ensures added { OnOk result (journal.new.entries ≡ journal.old.entries ++ entry ∷ []) }
+    ensures held { OnOk result (journal.new.held ≡ journal.old.held) }
 {
     journal.hold(1)?;
     journal.add_held(entry);
@@ -110,6 +111,7 @@ fn read_lines(alloc: Global, domain: &Domain, bytes: &[u8]) -> Result<Journal, J
     requires short { length bytes.now + 2 < 2 ^ 64 }
     ensures texts { IfOk result (λ J. All (HasText domain.now) J.entries) }
     ensures whole { IfOk result (λ J. bytes.now ≡ lines_text domain.now J.entries) }
+    ensures held { IfOk result (λ J. J.held ≡ 0) }
     ensures err { IfErr result (λ e. IsRefused domain.now (header ++ bytes.now) e) }
 {
     let mut journal = Journal::new(alloc);
@@ -147,12 +149,15 @@ fn read_lines(alloc: Global, domain: &Domain, bytes: &[u8]) -> Result<Journal, J
 pub fn read_journal(alloc: Global, domain: &Domain, bytes: &[u8]) -> Result<Journal, JournalError>
     ensures texts { IfOk result (λ J. All (HasText domain.now) J.entries) }
     ensures whole { IfOk result (λ J. bytes.now ≡ journal_text domain.now J.entries) }
+    ensures held { IfOk result (λ J. J.held ≡ 0) }
     ensures err { IfErr result (λ e. IsRefused domain.now bytes.now e) }
+    // This is found without memory.
+    ensures header { NoHeader bytes.now → result ≡ Err JournalError.BadHeader }
 {
     let Some(rest) = behind_header(bytes) else {
         return Err(JournalError::BadHeader);
     };
-    tell_names(domain);
+    laws_of_names(domain);
     let _length = bytes.len();
     match read_lines(alloc, domain, rest) {
         Ok(journal) => Ok(journal),

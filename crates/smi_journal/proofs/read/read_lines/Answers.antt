@@ -31,6 +31,7 @@ loop-rest-preserved c =
     record {
       texts = subst (All (HasText d)) (sym items) (All-push (HasText d) es e c.loop-rest.invariant.texts begins.text);
       split = lines_more d es e c.args.bytes.now c.loop-rest.rest.now more c.loop-rest.invariant.split begins ∙ ap (λ K. lines_text d K ++ more) (sym items);
+      held = search rules;
       number = omega (arith, count, c.loop-rest.invariant.number);
       room = omega (arith, less, c.loop-rest.invariant.room);
     }

@@ -12,6 +12,7 @@ abbrev pub invariant-loop-rest : goal.invariant-loop-rest
 invariant-loop-rest l = record {
   texts : All (HasText l.domain) l.journal.entries;
   split : l.bytes ≡ lines_text l.domain l.journal.entries ++ l.rest;
+  held : l.journal.held ≡ 0;
   number : l.number ≡ length l.journal.entries + 2;
   room : l.number + length l.rest ≤ length l.bytes + 2;
 }
