@@ -8,7 +8,8 @@ use smi_journal::journal_text::write_journal;
 use smi_ledger::ledger::Ledger;
 use std::alloc::Global;
 
-const STANDARD_TEXT: &[u8] = b"smi-journal 1
+/// The text of a journal.
+pub const STANDARD_TEXT: &[u8] = b"smi-journal 1
 start RUN @1 0 CONFIGURE
 post RUN HV1 0 SWITCH_ON
 post RUN HV2 0 SWITCH_ON
@@ -23,7 +24,8 @@ start RUN @1 1 CONFIGURE
 end RUN skipped
 ";
 
-const KILLS_TEXT: &[u8] = b"smi-journal 1
+/// The text of a journal.
+pub const KILLS_TEXT: &[u8] = b"smi-journal 1
 start RUN @1 0 CONFIGURE
 start HV1 @2 0 SWITCH_ON
 kill HV2 @1
@@ -39,7 +41,8 @@ start RUN @1 1 CONFIGURE
 kill RUN @8
 ";
 
-const KILLED_SUPPLY_TEXT: &[u8] = b"smi-journal 1
+/// The text of a journal.
+pub const KILLED_SUPPLY_TEXT: &[u8] = b"smi-journal 1
 start RUN @1 0 CONFIGURE
 post RUN HV1 0 SWITCH_ON
 post RUN HV2 0 SWITCH_ON
@@ -51,7 +54,8 @@ seen RUN HV1=ON HV2=DEAD
 end RUN ERROR
 ";
 
-const ARGUMENTS_TEXT: &[u8] = b"smi-journal 1
+/// The text of a journal.
+pub const ARGUMENTS_TEXT: &[u8] = b"smi-journal 1
 start C @1 0 PUT (T = 5, M = \"a\")
 post C OUT 0 TAKE (V = 5, W = \"a\")
 end C IDLE
@@ -76,7 +80,8 @@ const ENDS_OF_RANGES: Run = Run {
     facts: &[],
 };
 
-const ENDS_OF_RANGES_TEXT: &[u8] = b"smi-journal 1
+/// The text of a journal.
+pub const ENDS_OF_RANGES_TEXT: &[u8] = b"smi-journal 1
 start C @8 18446744073709551615 PUT (T = -9223372036854775808, M = \"\")
 seen C
 kill C @1

@@ -14,6 +14,8 @@ mod fits;
 #[cfg(test)]
 mod journal_texts;
 #[cfg(test)]
+mod journals_read;
+#[cfg(test)]
 mod look_ups;
 #[cfg(test)]
 mod mails;

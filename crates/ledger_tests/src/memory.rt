@@ -7,7 +7,10 @@ use crate::completing::{Plain, completes_at_last};
 use crate::domain_of::domain_of;
 use crate::look_ups::is_as_walked;
 use crate::runs::{By, Line};
-use smi_entry::entry::Verdict;
+use smi_entry::entry::{Entry, Verdict};
+use smi_entry::journal::Journal;
+use smi_journal::journal_text::write_journal;
+use smi_journal::read::{JournalError, read_journal};
 use smi_ledger::ledger::Ledger;
 use sml_domain::domain::Domain;
 use sml_domain::ids::ObjId;
@@ -32,6 +35,16 @@ const LINES: &[Line] = &[
     Line::End(0, 0),
     Line::Kill(0, 1),
 ];
+
+// The text of these entries.
+const TEXT: &[u8] = b"smi-journal 1
+start OUT @1 0 TAKE (V = 5, W = \"a\")
+post OUT OUT 0 TAKE (V = 5, W = \"a\")
+wait OUT
+seen OUT OUT=READY
+end OUT READY
+kill OUT @1
+";
 
 // The domain, asked for a second time where it was refused.
 fn domain_at_last(alloc: Global) -> Option<Arc<Domain>> {
@@ -66,11 +79,49 @@ fn adds_all_at_last(alloc: Global, ledger: &mut Ledger) -> bool {
     ledger.journal().len() == LINES.len() && is_as_walked(ledger)
 }
 
+// The journal of the text, asked for a second time where memory was refused.
+fn journal_at_last(alloc: Global, domain: &Domain) -> Option<Journal> {
+    match read_journal(alloc, domain, TEXT) {
+        Ok(journal) => Some(journal),
+        Err(JournalError::Memory) => read_journal(alloc, domain, TEXT).ok(),
+        Err(_) => None,
+    }
+}
+
+fn text_of(alloc: Global, domain: &Domain, entries: &[Entry]) -> Option<Vec<u8>> {
+    let mut text = Vec::new(alloc);
+    write_journal(domain, entries, &mut text).ok()?;
+    Some(text)
+}
+
+// Whether entries are written as the text, at the second time at the latest.
+fn writes_at_last(alloc: Global, domain: &Domain, entries: &[Entry]) -> bool {
+    let text = match text_of(alloc, domain, entries) {
+        Some(text) => Some(text),
+        None => text_of(alloc, domain, entries),
+    };
+    match text {
+        Some(text) => text.as_slice() == TEXT,
+        None => false,
+    }
+}
+
+// Whether the text is read as a journal that is written as the text.
+fn reads_at_last(alloc: Global, domain: &Domain) -> bool {
+    match journal_at_last(alloc, domain) {
+        Some(journal) => writes_at_last(alloc, domain, journal.entries()),
+        None => false,
+    }
+}
+
 fn goes_on(alloc: Global) -> bool {
     match ledger_at_last(alloc) {
         Some(ledger) => {
             let mut ledger = ledger;
-            completes_at_last(alloc, ledger.domain()) && adds_all_at_last(alloc, &mut ledger)
+            completes_at_last(alloc, ledger.domain())
+                && adds_all_at_last(alloc, &mut ledger)
+                && writes_at_last(alloc, ledger.domain(), ledger.journal())
+                && reads_at_last(alloc, ledger.domain())
         }
         None => false,
     }
