@@ -16,6 +16,8 @@ mod journal_texts;
 #[cfg(test)]
 mod journals_read;
 #[cfg(test)]
+mod lines;
+#[cfg(test)]
 mod look_ups;
 #[cfg(test)]
 mod mails;
