@@ -169,6 +169,10 @@ impl Task {
     pub fn pending(&self) -> Option<&Contact>
         ensures is { option_map (λ c. c.now) result ≡ self.now.pending }
         ensures waits { IfSome self.now.pending Waits }
+        // What waits is what comes next.
+        ensures next { IfSome self.now.pending (IsNext self.now) }
+        ensures left { IfSome self.now.pending (LeftAsks self.now) }
+        ensures whole { IfSome self.now.pending (EndsWhole self.now) }
     {
         self.run.pending.as_ref()
     }

@@ -5,6 +5,7 @@ pub mod Showing
 pub mod Asking
 pub mod Arguments
 pub mod KindsKept
+pub mod LeftKept
 pub mod Parameters
 pub mod Journals
 pub mod StatesKnown

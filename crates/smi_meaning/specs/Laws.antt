@@ -187,3 +187,8 @@ MeaningsKeepKinds = (d : Domain) (members : ℕ → List ℕ) (c : Class) (given
 abbrev pub MeaningsEndInStates : Type 0
 MeaningsEndInStates = (d : Domain) (members : ℕ → List ℕ) (c : Class) (given : List Param) (b : Program) (env : Env) (moves : List Move) (env2 : Env) (s : ℕ)
     → ProgramFits d c given b → Means d members b env moves env2 (To s) → has_state s c ≡ true
+
+-- what is left of a block that fits, fits, in an environment that does
+abbrev pub LeftFits : Type 0
+LeftFits = (d : Domain) (members : ℕ → List ℕ) (c : Class) (given : List Param) (b : Program) (env : Env) (made : List Move) (left : Program) (env1 : Env)
+    → ProgramFits d c given b → EnvFits c.params given env → Leads d members b env made left env1 → ProgramFits d c given left × EnvFits c.params given env1

@@ -1,5 +1,5 @@
 //! What holds of every meaning, as contracts of functions that do nothing.
-ghost use Rattle.smi_meaning.specs.Laws.{OneEnd, SomeMeaning, SomeGoesOn, WholeEnds, LeadsIn, LeadsOut, LeadsMore, FrontsLead, LeadsOnce, ShownSettles, NextIsShown, RepliesSettle, ShownAsksOne, ShownEndsOrAsks, NamedOnce, NamedAreThose, NamedInOrder, NamedAreRead, ArgumentsAreWhole, ArgumentsHaveKinds, OperandsHaveKinds, WantedFit, FitIsTested, ArgumentsAreTested, MeaningsKeepKinds, MeaningsEndInStates};
+ghost use Rattle.smi_meaning.specs.Laws.{OneEnd, SomeMeaning, SomeGoesOn, WholeEnds, LeadsIn, LeadsOut, LeadsMore, FrontsLead, LeadsOnce, ShownSettles, NextIsShown, RepliesSettle, ShownAsksOne, ShownEndsOrAsks, NamedOnce, NamedAreThose, NamedInOrder, NamedAreRead, ArgumentsAreWhole, ArgumentsHaveKinds, OperandsHaveKinds, WantedFit, FitIsTested, ArgumentsAreTested, MeaningsKeepKinds, MeaningsEndInStates, LeftFits};
 
 use sml_domain::laws::laws_of_completing;
 
@@ -54,9 +54,10 @@ pub fn laws_of_fitting()
     ensures arguments { ArgumentsAreTested }
 {}
 
-/// Environments keep the kinds of parameters.
+/// Environments keep the kinds of parameters, and what is left of a block that fits, fits.
 pub fn laws_of_environments()
     ensures operands { OperandsHaveKinds }
     ensures kept { MeaningsKeepKinds }
     ensures states { MeaningsEndInStates }
+    ensures left { LeftFits }
 {}
