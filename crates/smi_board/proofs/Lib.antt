@@ -1,1 +1,2 @@
-pub mod Ties
+mod Others
+mod Ties

@@ -1,6 +1,6 @@
 -- The journal grows with the mail.
-use Rattle.std.proofs.Common.{◌≡◌, ◌<◌, ◌==◌, ℕ, Bool, true, false, cond, List, [], ◌∷◌, ◌++◌, length, Option, Some, None, slice_get, refl, sym, ap, ◌∙◌, subst, arith, ⊎_elim, append-nil, append_assoc}
-use Rattle.std.specs.Prelude.{is_some, option_map, MatchBool, nat_lt, IfSome, if◌then◌else◌}
+use Rattle.std.proofs.Common.{◌≡◌, ◌<◌, ◌==◌, ℕ, Bool, true, false, cond, List, [], ◌∷◌, ◌++◌, length, Option, Some, None, slice_get, refl, sym, ap, ◌∙◌, subst, arith, ⊎_elim, inl, inr, append-nil, append_assoc}
+use Rattle.std.specs.Prelude.{◌⊎◌, is_some, option_map, MatchBool, nat_lt, IfSome, if◌then◌else◌, slice_set}
 use Rattle.std.specs.Option.{option_and_then}
 use mathlib.Core.List.{IsPrefix}
 use Rattle.std.proofs.lemmas.Bool.{cases_eq, cases_Bool, eq-eqb, ne_eqb, eqb-true, true≢false}
@@ -8,6 +8,7 @@ use Rattle.std.proofs.lemmas.Bool.Decides.{nat_tests}
 use Rattle.std.proofs.lemmas.List.Elements.{filter-append}
 use Rattle.sml_domain.specs.declared.value.Value.{Value}
 use Rattle.sml_domain.specs.Domain.{Domain}
+use Rattle.sml_domain.specs.Program.{Program}
 use Rattle.sml_domain.specs.Lookups.{associated_at, block_at, is_state_of, program_at, tree_of_block}
 use Rattle.smi_entry.specs.declared.entry.Sender.{Sender}
 use Rattle.smi_entry.specs.declared.entry.Sender.TheVariants.{Operator, Object}
@@ -19,40 +20,24 @@ use Rattle.smi_entry.specs.declared.entry.Entry.{Entry}
 use Rattle.smi_entry.specs.declared.entry.Entry.TheVariants.{End, Kill}
 use Rattle.smi_entry.specs.Fits.{letter_fits}
 use Rattle.smi_entry.specs.Requests.{Request, request_of, from_sender, same_sender}
-use Rattle.smi_entry.specs.Words.{object_of, start_of, starts_at, start_in, posts_between, post_in, open_at, is_open, state_of, initial_of, dead_of, is_killed, killed_at}
-use Rattle.smi_entry.proofs.OneMore.{starts_more, posts_more, open_more, state_more}
-use Rattle.smi_meaning.specs.Params.{Running, run_with, running_at, initial_params, ParamsAfter}
-use Rattle.smi_interp.specs.Task.{ReadyView, begun}
+use Rattle.smi_entry.specs.Words.{object_of, start_of, starts_at, start_in, posts_between, post_in, open_at, is_open, state_of, initial_of, dead_of, is_killed, killed_at, shown_of}
+use Rattle.smi_entry.proofs.OneMore.{starts_more, posts_more, open_more, shown_more, state_more}
+use Rattle.smi_meaning.specs.Params.{Running, run_with, running_at, env_of, initial_params, ParamsAfter}
+use Rattle.smi_interp.specs.Task.{ReadyView, TaskView, begun}
 use Rattle.smi_meaning.specs.Legal.{IsLegal, IsLegalAt, WasSent, DeviceEnds, BlockEnds, MayKill}
 use Rattle.smi_meaning.proofs.Journals.{legal_more}
 use Rattle.smi_meaning.proofs.Parameters.{params_more}
 use Rattle.smi_meaning.proofs.Leaving.{others_change_nothing, skips_change_nothing, kills_keep_params, devices_give_states, killed_are_dead}
 use Rattle.smi_meaning.proofs.Tested.{arguments_are_tested}
 use Rattle.smi_mail.specs.Mails.{Grows, Same, is_sender}
-use Rattle.smi_board.specs.Boards.{IsTied, EachRuns, own_at}
+use Rattle.smi_board.specs.Boards.{IsTied, IsLed, EachRuns, own_at, kept_at}
+use Rattle.smi_board.specs.Turns.{IsOf, EachKept}
+use Rattle.smi_board.proofs.Others.{runs_in, KeepsBut, KeepsAll, and_one, but_cleared, but_more, but_one}
 use Rattle.smi_board.specs.declared.starting.Started.{Started}
 use Rattle.smi_board.specs.declared.starting.Started.TheVariants.{Run, Perform, Skipped}
 use Rattle.smi_board.specs.Starts.{is_declared, ready_for, started_of, entries_of}
 
 -- ---- what runs
-
--- what runs, by what is open and in which state
-abbrev runs_in : Domain → ℕ → ℕ → Option Letter → Option Running
-runs_in d o s opened = option_and_then (λ (l : Letter). option_map (run_with l.args) (program_at d o s l.action)) opened
-
--- an entry of another object leaves what runs as it is
-runs_elsewhere : (d : Domain) (J : List Entry) (e : Entry) (x : ℕ) → (x == object_of e) ≡ false → (is_open x (J ++ e ∷ []) ≡ is_open x J) × (running_at d x (J ++ e ∷ []) ≡ running_at d x J)
-runs_elsewhere d J e x apart =
-    let opened : open_at x (J ++ e ∷ []) ≡ open_at x J = open_more x J e ∙ rw apart refl in
-    let state : state_of d x (J ++ e ∷ []) ≡ state_of d x J = state_more x (initial_of d x) (dead_of d x) J e ∙ rw apart refl in
-    (ap is_some opened, ap (λ s. runs_in d x s (open_at x (J ++ e ∷ []))) state ∙ ap (runs_in d x (state_of d x J)) opened)
-
--- an entry of an object, which closes what is open there or opens what runs
-pub runs_on : (d : Domain) (J : List Entry) (e : Entry) → EachRuns d J → (is_open (object_of e) (J ++ e ∷ []) ≡ true → is_some (running_at d (object_of e) (J ++ e ∷ [])) ≡ true) → EachRuns d (J ++ e ∷ [])
-runs_on d J e runs here x is = ⊎_elim
-    (λ (at : (x == object_of e) ≡ true). subst (λ y. is_some (running_at d y (J ++ e ∷ [])) ≡ true) (sym (eqb-true x (object_of e) at)) (here (subst (λ y. is_open y (J ++ e ∷ []) ≡ true) (eqb-true x (object_of e) at) is)))
-    (λ (apart : (x == object_of e) ≡ false). let same = runs_elsewhere d J e x apart in ap is_some same.1 ∙ runs x (sym same.0 ∙ is))
-    (cases_Bool (x == object_of e))
 
 -- an end or a kill closes its object
 closed_end : (J : List Entry) (o : ℕ) (r : ActionEnd) → is_open o (J ++ End o r ∷ []) ≡ false
@@ -61,11 +46,11 @@ closed_end J o r = ap is_some (open_more o J (End o r) ∙ ap (λ b. cond b None
 closed_kill : (J : List Entry) (o : ℕ) (c : Cause) → is_open o (J ++ Kill o c ∷ []) ≡ false
 closed_kill J o c = ap is_some (open_more o J (Kill o c) ∙ ap (λ b. cond b None (open_at o J)) (eq-eqb o o refl))
 
-pub runs_end : (d : Domain) (J : List Entry) (o : ℕ) (r : ActionEnd) → EachRuns d J → EachRuns d (J ++ End o r ∷ [])
-runs_end d J o r runs = runs_on d J (End o r) runs (λ is. absurd (true≢false (sym is ∙ closed_end J o r)))
+pub after_end : (o : ℕ) (d : Domain) (J : List Entry) (r : ActionEnd) (params : List (List Value)) (kept : List (Option TaskView)) → KeepsBut o d J params kept → KeepsAll d (J ++ End o r ∷ []) params kept
+after_end o d J r params kept h = and_one o d (J ++ End o r ∷ []) params kept (but_more o d J (End o r) params kept refl h) (λ is. absurd (true≢false (sym is ∙ closed_end J o r)))
 
-pub runs_kill : (d : Domain) (J : List Entry) (o : ℕ) (c : Cause) → EachRuns d J → EachRuns d (J ++ Kill o c ∷ [])
-runs_kill d J o c runs = runs_on d J (Kill o c) runs (λ is. absurd (true≢false (sym is ∙ closed_kill J o c)))
+pub after_kill : (o : ℕ) (d : Domain) (J : List Entry) (c : Cause) (params : List (List Value)) (kept : List (Option TaskView)) → KeepsBut o d J params kept → KeepsAll d (J ++ Kill o c ∷ []) params kept
+after_kill o d J c params kept h = and_one o d (J ++ Kill o c ∷ []) params kept (but_more o d J (Kill o c) params kept refl h) (λ is. absurd (true≢false (sym is ∙ closed_kill J o c)))
 
 -- what a start opens, in the state that was
 opened_start : (J : List Entry) (o : ℕ) (l : Letter) → open_at o (J ++ start_of o l ∷ []) ≡ Some l
@@ -78,16 +63,45 @@ either_way false s = refl
 state_start : (d : Domain) (J : List Entry) (o : ℕ) (l : Letter) → state_of d o (J ++ start_of o l ∷ []) ≡ state_of d o J
 state_start d J o l = state_more o (initial_of d o) (dead_of d o) J (start_of o l) ∙ either_way (o == o) (state_of d o J)
 
-some_mapped : {A B : Type 0} (f : A → B) (x : Option A) → is_some (option_map f x) ≡ is_some x
-some_mapped f None = refl
-some_mapped f (Some x) = refl
+-- what is declared is there
+declared_there : (x : Option ℕ) (f : ℕ → Program) (args : List Value) → is_some x ≡ true → (run : Running) × (option_map (run_with args) (option_map f x) ≡ Some run)
+declared_there None f args e = absurd (true≢false (sym e))
+declared_there (Some b) f args e = (run_with args (f b), refl)
 
-pub runs_start : (d : Domain) (J : List Entry) (o : ℕ) (l : Letter) → is_declared d o J l.action ≡ true → EachRuns d J → EachRuns d (J ++ start_of o l ∷ [])
-runs_start d J o l declared runs = runs_on d J (start_of o l) runs (λ is.
-    ap is_some (ap (λ s. runs_in d o s (open_at o (J ++ start_of o l ∷ []))) (state_start d J o l) ∙ ap (runs_in d o (state_of d o J)) (opened_start J o l))
-    ∙ some_mapped (run_with l.args) (program_at d o (state_of d o J) l.action)
-    ∙ some_mapped (tree_of_block d) (block_at d o (state_of d o J) l.action)
-    ∙ declared)
+shown_start : (J : List Entry) (o : ℕ) (l : Letter) → shown_of o (J ++ start_of o l ∷ []) ≡ []
+shown_start J o l = shown_more o J (start_of o l) ∙ ap (λ b. cond b [] (shown_of o J)) (eq-eqb o o refl)
+
+-- a declared action that was started made no move
+led_start : (d : Domain) (J : List Entry) (own : List Value) (o : ℕ) (l : Letter) → is_declared d o J l.action ≡ true → IsLed d (J ++ start_of o l ∷ []) own o
+led_start d J own o l declared =
+    let there = declared_there (block_at d o (state_of d o J) l.action) (tree_of_block d) l.args declared in
+    record {
+      run = there.0;
+      runs = ap (λ s. runs_in d o s (open_at o (J ++ start_of o l ∷ []))) (state_start d J o l) ∙ ap (runs_in d o (state_of d o J)) (opened_start J o l) ∙ there.1;
+      made = [];
+      left = there.0.program;
+      env = env_of own there.0;
+      leads = (refl, refl);
+      shown = shown_start J o l;
+    }
+
+pub after_start : (o : ℕ) (d : Domain) (J : List Entry) (l : Letter) (params : List (List Value)) (kept : List (Option TaskView)) → is_declared d o J l.action ≡ true → KeepsBut o d J params kept → KeepsAll d (J ++ start_of o l ∷ []) params kept
+after_start o d J l params kept declared h =
+    and_one o d (J ++ start_of o l ∷ []) params kept (but_more o d J (start_of o l) params kept refl h) (λ is. led_start d J (own_at params o) o l declared)
+
+-- ---- the tasks that are kept
+
+-- no task is kept of an object of which none is open, or which a device stands behind
+none_kept : (d : Domain) (J : List Entry) (params : List (List Value)) (kept : List (Option TaskView)) (o : ℕ) → EachKept d J params kept → (open_at o J ≡ None) ⊎ (associated_at d o ≡ true) → kept_at kept o ≡ None
+none_kept d J params kept o h why = go (kept_at kept o) (h.each o)
+  where
+    cannot : (t : TaskView) → IsOf d J (own_at params o) o t → (open_at o J ≡ None) ⊎ (associated_at d o ≡ true) → ⊥
+    cannot t is (inl none) = absurd (true≢false (sym (ap is_some (sym (ap (λ y. open_at y J) is.object) ∙ is.turn.opened)) ∙ ap is_some none))
+    cannot t is (inr device) = absurd (true≢false (sym device ∙ sym (ap (associated_at d) is.object) ∙ is.turn.logical))
+
+    go : (t : Option TaskView) → IfSome t (IsOf d J (own_at params o) o) → t ≡ None
+    go None is = refl
+    go (Some t) is = absurd (cannot t is why)
 
 -- ---- the journal with one more entry that neither starts nor posts
 
@@ -129,18 +143,18 @@ device_keeps d J o s is x own after = ⊎_elim
     (cases_Bool (x == o))
 
 pub tied_answer : (d : Domain) (J : List Entry) (params : List (List Value)) (serves : Sender → Bool) (taken : ℕ → List Request) (sent : Sender → ℕ → List Request) (o s : ℕ)
-    → IsTied d J params serves taken sent → EachRuns d J → associated_at d o ≡ true → is_open o J ≡ true → is_state_of d o s ≡ true → IsTied d (J ++ End o (State s) ∷ []) params serves taken sent
+    → IsTied d J params serves taken sent → EachRuns d J params → associated_at d o ≡ true → is_open o J ≡ true → is_state_of d o s ≡ true → IsTied d (J ++ End o (State s) ∷ []) params serves taken sent
 tied_answer d J params serves taken sent o s h runs is opened state =
     tied_quiet d J params serves taken sent (End o (State s)) h (by_case (associated_at d o) is) (λ x. none_of (x == o)) (λ a x. none_of (a == o)) (device_keeps d J o s is)
   where
     by_case : (b : Bool) → b ≡ true → MatchBool b (DeviceEnds d J o s) (BlockEnds d J o s)
-    by_case true e = record { runs = runs o opened; state = state }
+    by_case true e = record { runs = ap is_some (runs o opened).runs; state = state }
     by_case false e = absurd (true≢false (sym e))
 
 -- what a board keeps
-pub record Keeps (d : Domain) (J : List Entry) (params : List (List Value)) (serves : Sender → Bool) (taken : ℕ → List Request) (sent : Sender → ℕ → List Request) : Type 0 where
+pub record Keeps (d : Domain) (J : List Entry) (params : List (List Value)) (kept : List (Option TaskView)) (serves : Sender → Bool) (taken : ℕ → List Request) (sent : Sender → ℕ → List Request) : Type 0 where
   pub tied : IsTied d J params serves taken sent
-  pub runs : EachRuns d J
+  pub all : KeepsAll d J params kept
 
 -- ---- starts
 
@@ -234,40 +248,35 @@ may_skip d J o l undeclared = record {
     none_found (Some x) e = absurd (true≢false e)
 
 -- however a start goes on, the journal stays tied to the mail
-pub keeps_start : (d : Domain) (J J2 : List Entry) (params : List (List Value)) (serves serves2 : Sender → Bool) (taken taken2 : ℕ → List Request) (sent sent2 : Sender → ℕ → List Request) (o : ℕ) (l : Letter) (own : List Value) (r : Started)
-    → IsTied d J params serves taken sent → EachRuns d J → Took d o l serves serves2 taken taken2 sent sent2 → is_killed o J ≡ false → open_at o J ≡ None → r ≡ started_of d o J own l → J2 ≡ J ++ entries_of o l r
-    → Keeps d J2 params serves2 taken2 sent2
-keeps_start d J J2 params serves serves2 taken taken2 sent sent2 o l own r h runs t alive closed is longer =
-    subst (λ K. Keeps d K params serves2 taken2 sent2) (sym longer) (subst (λ x. Keeps d (J ++ entries_of o l x) params serves2 taken2 sent2) (sym is) (by_case (is_declared d o J l.action) refl (associated_at d o)))
+pub keeps_start : (d : Domain) (J J2 : List Entry) (params : List (List Value)) (kept : List (Option TaskView)) (serves serves2 : Sender → Bool) (taken taken2 : ℕ → List Request) (sent sent2 : Sender → ℕ → List Request) (o : ℕ) (l : Letter) (own : List Value) (r : Started)
+    → IsTied d J params serves taken sent → EachRuns d J params → EachKept d J params kept → Took d o l serves serves2 taken taken2 sent sent2 → is_killed o J ≡ false → open_at o J ≡ None → r ≡ started_of d o J own l → J2 ≡ J ++ entries_of o l r
+    → Keeps d J2 params kept serves2 taken2 sent2
+keeps_start d J J2 params kept serves serves2 taken taken2 sent sent2 o l own r h runs tasks t alive closed is longer =
+    subst (λ K. Keeps d K params kept serves2 taken2 sent2) (sym longer) (subst (λ x. Keeps d (J ++ entries_of o l x) params kept serves2 taken2 sent2) (sym is) (by_case (is_declared d o J l.action) refl (associated_at d o)))
   where
     tied : IsTied d (J ++ start_of o l ∷ []) params serves2 taken2 sent2
     tied = tied_start d J params serves serves2 taken taken2 sent sent2 o l h t alive closed
 
-    skip_runs : EachRuns d J → EachRuns d ((J ++ start_of o l ∷ []) ++ End o Skip ∷ [])
-    skip_runs runs x is = ⊎_elim
-        (λ (at : (x == o) ≡ true). absurd (true≢false (sym is ∙ ap (λ y. is_open y ((J ++ start_of o l ∷ []) ++ End o Skip ∷ [])) (eqb-true x o at) ∙ closed_end (J ++ start_of o l ∷ []) o Skip)))
-        (λ (apart : (x == o) ≡ false).
-        let one = runs_elsewhere d J (start_of o l) x apart in
-        let two = runs_elsewhere d (J ++ start_of o l ∷ []) (End o Skip) x apart in
-        ap is_some (two.1 ∙ one.1) ∙ runs x (sym (two.0 ∙ one.0) ∙ is))
-        (cases_Bool (x == o))
+    but : KeepsBut o d J params kept
+    but = but_one o d J params kept runs tasks (none_kept d J params kept o tasks (inl closed))
 
     by_case : (b : Bool) → is_declared d o J l.action ≡ b → (c : Bool)
-        → Keeps d (J ++ entries_of o l (if b then (if c then Perform l.action l.args else Run (begun d o (state_of d o J) l own)) else Skipped)) params serves2 taken2 sent2
-    by_case true e true = record { tied = tied; runs = runs_start d J o l e runs }
-    by_case true e false = record { tied = tied; runs = runs_start d J o l e runs }
-    by_case false e c = subst (λ K. Keeps d K params serves2 taken2 sent2) (append_assoc J (start_of o l ∷ []) (End o Skip ∷ [])) (record {
+        → Keeps d (J ++ entries_of o l (if b then (if c then Perform l.action l.args else Run (begun d o (state_of d o J) l own)) else Skipped)) params kept serves2 taken2 sent2
+    by_case true e true = record { tied = tied; all = after_start o d J l params kept e but }
+    by_case true e false = record { tied = tied; all = after_start o d J l params kept e but }
+    by_case false e c = subst (λ K. Keeps d K params kept serves2 taken2 sent2) (append_assoc J (start_of o l ∷ []) (End o Skip ∷ [])) (record {
       tied = tied_skip d (J ++ start_of o l ∷ []) params serves2 taken2 sent2 o tied (may_skip d J o l e);
-      runs = skip_runs runs;
+      all = after_end o d (J ++ start_of o l ∷ []) Skip params kept (but_more o d J (start_of o l) params kept refl but);
     })
 
 -- ---- a board on which nothing was done
 
-pub keeps_first : (d : Domain) (J : List Entry) (params : List (List Value)) (serves : Sender → Bool) (taken : ℕ → List Request) (sent : Sender → ℕ → List Request)
+pub keeps_first : (d : Domain) (J : List Entry) (params : List (List Value)) (kept : List (Option TaskView)) (serves : Sender → Bool) (taken : ℕ → List Request) (sent : Sender → ℕ → List Request)
     → J ≡ [] → length params ≡ length d.objects → ((o : ℕ) → o < length d.objects → own_at params o ≡ initial_params d o)
+    → length kept ≡ length d.objects → ((o : ℕ) → kept_at kept o ≡ None)
     → ((a : ℕ) → a < length d.objects → serves (Object a) ≡ true) → ((o : ℕ) → taken o ≡ []) → ((s : Sender) (o : ℕ) → serves s ≡ true → sent s o ≡ [])
-    → Keeps d J params serves taken sent
-keeps_first d J params serves taken sent is count own served none unsent = subst (λ K. Keeps d K params serves taken sent) (sym is) (record {
+    → Keeps d J params kept serves taken sent
+keeps_first d J params kept serves taken sent is count own tasks empty served none unsent = subst (λ K. Keeps d K params kept serves taken sent) (sym is) (record {
   tied = record {
     legal = tt;
     taken_is = none;
@@ -276,7 +285,10 @@ keeps_first d J params serves taken sent is count own served none unsent = subst
     count = count;
     own = own;
   };
-  runs = λ o e. absurd (true≢false (sym e));
+  all = record {
+    runs = λ o e. absurd (true≢false (sym e));
+    tasks = record { count = tasks; each = λ o. subst (λ t. IfSome t (IsOf d [] (own_at params o) o)) (sym (empty o)) tt };
+  };
 })
 
 -- ---- kills
@@ -289,20 +301,32 @@ open_is_alive d J o legal opened = by_case (killed_at o J) refl
     by_case None e = refl
     by_case (Some p) e = absurd (true≢false (sym opened ∙ ap is_some (killed_are_dead d J o legal (ap is_some e)).0))
 
-pub keeps_kill : (d : Domain) (J J2 : List Entry) (params : List (List Value)) (serves : Sender → Bool) (taken : ℕ → List Request) (sent : Sender → ℕ → List Request) (o : ℕ) (c : Cause)
-    → IsTied d J params serves taken sent → EachRuns d J → killed_at o J ≡ None → MayKill d J o c → J2 ≡ J ++ Kill o c ∷ [] → Keeps d J2 params serves taken sent
-keeps_kill d J J2 params serves taken sent o c h runs alive may longer = subst (λ K. Keeps d K params serves taken sent) (sym longer) (record {
+pub keeps_kill : (d : Domain) (J J2 : List Entry) (params : List (List Value)) (kept kept2 : List (Option TaskView)) (serves : Sender → Bool) (taken : ℕ → List Request) (sent : Sender → ℕ → List Request) (o : ℕ) (c : Cause)
+    → IsTied d J params serves taken sent → EachRuns d J params → EachKept d J params kept → o < length d.objects → killed_at o J ≡ None → MayKill d J o c → J2 ≡ J ++ Kill o c ∷ [] → kept2 ≡ slice_set kept o None
+    → Keeps d J2 params kept2 serves taken sent
+keeps_kill d J J2 params kept kept2 serves taken sent o c h runs tasks lt alive may longer cleared =
+    subst (λ K. Keeps d K params kept2 serves taken sent) (sym longer) (subst (λ k. Keeps d (J ++ Kill o c ∷ []) params k serves taken sent) (sym cleared) (record {
+      tied = tied_kill d J params serves taken sent o c h (ap is_some alive, may);
+      all = after_kill o d J c params (slice_set kept o None) (but_cleared o d J params kept lt runs tasks);
+    }))
+
+-- the fault of a device, of which no task is kept
+pub keeps_fault : (d : Domain) (J J2 : List Entry) (params : List (List Value)) (kept : List (Option TaskView)) (serves : Sender → Bool) (taken : ℕ → List Request) (sent : Sender → ℕ → List Request) (o : ℕ) (c : Cause)
+    → IsTied d J params serves taken sent → EachRuns d J params → EachKept d J params kept → associated_at d o ≡ true → killed_at o J ≡ None → MayKill d J o c → J2 ≡ J ++ Kill o c ∷ []
+    → Keeps d J2 params kept serves taken sent
+keeps_fault d J J2 params kept serves taken sent o c h runs tasks device alive may longer = subst (λ K. Keeps d K params kept serves taken sent) (sym longer) (record {
   tied = tied_kill d J params serves taken sent o c h (ap is_some alive, may);
-  runs = runs_kill d J o c runs;
+  all = after_kill o d J c params kept (but_one o d J params kept runs tasks (none_kept d J params kept o tasks (inr device)));
 })
 
 -- ---- answers of devices
 
-pub keeps_answer : (d : Domain) (J J2 : List Entry) (params : List (List Value)) (serves : Sender → Bool) (taken : ℕ → List Request) (sent : Sender → ℕ → List Request) (o s : ℕ)
-    → IsTied d J params serves taken sent → EachRuns d J → associated_at d o ≡ true → is_open o J ≡ true → is_state_of d o s ≡ true → J2 ≡ J ++ End o (State s) ∷ [] → Keeps d J2 params serves taken sent
-keeps_answer d J J2 params serves taken sent o s h runs is opened state longer = subst (λ K. Keeps d K params serves taken sent) (sym longer) (record {
-  tied = tied_answer d J params serves taken sent o s h runs is opened state;
-  runs = runs_end d J o (State s) runs;
+pub keeps_answer : (d : Domain) (J J2 : List Entry) (params : List (List Value)) (kept : List (Option TaskView)) (serves : Sender → Bool) (taken : ℕ → List Request) (sent : Sender → ℕ → List Request) (o s : ℕ)
+    → IsTied d J params serves taken sent → EachRuns d J params → EachKept d J params kept → associated_at d o ≡ true → is_open o J ≡ true → is_state_of d o s ≡ true → J2 ≡ J ++ End o (State s) ∷ []
+    → Keeps d J2 params kept serves taken sent
+keeps_answer d J J2 params kept serves taken sent o s h runs tasks device opened state longer = subst (λ K. Keeps d K params kept serves taken sent) (sym longer) (record {
+  tied = tied_answer d J params serves taken sent o s h runs device opened state;
+  all = after_end o d J (State s) params kept (but_one o d J params kept runs tasks (none_kept d J params kept o tasks (inr device)));
 })
 
 -- ---- what is ready

@@ -1,3 +1,4 @@
 pub mod Boards
 pub mod Refusals
 pub mod Starts
+pub mod Turns

@@ -28,7 +28,8 @@ abbrev pub opened_by : Option ReadyView → ℕ → Letter → Started
 opened_by None s l = Perform l.action l.args
 opened_by (Some r) s l = Run (begun r.domain r.object s l r.params)
 
--- what the start of a letter gives: it is skipped exactly where the state does not declare its action; a device performs it, and else a task runs it, which made no move
+-- what the start of a letter gives: it is skipped exactly where the state does not declare its action; a device performs
+-- it, and else a task runs it, which made no move
 abbrev pub started_of : Domain → ℕ → List Entry → List Value → Letter → Started
 started_of d o J own l =
     if is_declared d o J l.action
@@ -42,7 +43,8 @@ entries_of o l (Perform a args) = start_of o l ∷ []
 entries_of o l Skipped = start_of o l ∷ End o ends.Skipped ∷ []
 
 -- a letter was started: its entries and no others, and what comes back of it. Of requests that wait it was the first
-pub record Starts (d : Domain) (o : ℕ) (own : List Value) (J J2 : List Entry) (waits waits2 : Option (List Request)) (r : Started) : Type 0 where
+pub record Starts (d : Domain) (o : ℕ) (own : List Value) (J J2 : List Entry) (waits waits2 : Option (List Request))
+    (r : Started) : Type 0 where
   pub letter : Letter
   pub entries : J2 ≡ J ++ entries_of o letter r
   pub gives : r ≡ started_of d o J own letter

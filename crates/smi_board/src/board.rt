@@ -1,5 +1,5 @@
 //! The board: what is asked of a domain under way, and what it answers.
-ghost use Rattle.std.specs.Prelude.{◌≡◌, ◌<◌, ℕ, [], IfOk, IfErr, length, option_map, true};
+ghost use Rattle.std.specs.Prelude.{◌≡◌, ◌<◌, ℕ, [], IfOk, IfErr, length, None, option_map, true};
 ghost use Rattle.std.specs.Arc.{arc_value};
 ghost use mathlib.Core.List.{IsPrefix};
 ghost use Rattle.smi_entry.specs.declared.entry.Sender.{Sender};
@@ -8,10 +8,12 @@ ghost use Rattle.smi_entry.specs.Requests.{from_sender};
 ghost use Rattle.smi_entry.specs.Words as says;
 ghost use Rattle.smi_meaning.specs.Params.{initial_params, ParamsAfter};
 ghost use Rattle.smi_meaning.specs.Legal.{IsLegal};
-ghost use Rattle.smi_board.specs.Boards.{own_at};
+ghost use Rattle.smi_board.specs.Boards.{kept_at, own_at};
 
+use crate::kept::no_tasks;
 use crate::params::{Params, first_params};
 use smi_entry::entry::Entry;
+use smi_interp::task::Task;
 use smi_ledger::ledger::Ledger;
 use smi_mail::mail::Mail;
 use sml_domain::domain::Domain;
@@ -30,6 +32,8 @@ pub struct Board<M: Mail> {
     pub(crate) domain: Arc<Domain>,
     pub(crate) ledger: Ledger,
     pub(crate) params: Vec<Params>,
+    /// The task that is kept of each object.
+    pub(crate) kept: Vec<Option<Task>>,
     pub(crate) mail: M,
     pub(crate) most: usize,
     pub(crate) alloc: Global,
@@ -41,6 +45,7 @@ impl<M: Mail> Model for Board<M> {
     ghost use Rattle.std.specs.Coded.{codes};
     ghost use Rattle.sml_domain.specs.Codes.{formula_code};
     ghost use Rattle.smi_board.specs.Boards.{BoardView, EachRuns, IsTied};
+    ghost use Rattle.smi_board.specs.Turns.{EachKept};
 
     ghost Value = { BoardView M };
 
@@ -51,27 +56,43 @@ impl<M: Mail> Model for Board<M> {
       most = b.most;
       journal = b.ledger.journal;
       params = b.params.items;
+      kept = b.kept.items;
       mail = b.mail;
     } };
 
     ghost invariant = { λ b.
         IsTied (arc_value b.domain) b.ledger.journal b.params.items (M.serves b.mail) (M.taken b.mail) (M.sent b.mail)
-        × EachRuns (arc_value b.domain) b.ledger.journal
+        × EachRuns (arc_value b.domain) b.ledger.journal b.params.items
+        × EachKept (arc_value b.domain) b.ledger.journal b.params.items b.kept.items
         × (b.ledger.domain ≡ arc_value b.domain)
         × (M.domain b.mail ≡ arc_value b.domain) };
 }
 
-// The ledger of a domain, and the parameters of its objects, before anything is done.
-fn books(alloc: Global, domain: &Arc<Domain>) -> Result<(Ledger, Vec<Params>), AllocError>
-    ensures domain { IfOk result (λ r. r.0.domain ≡ arc_value domain.now) }
-    ensures journal { IfOk result (λ r. r.0.journal ≡ []) }
-    ensures count { IfOk result (λ r. length r.1.items ≡ length (arc_value domain.now).objects) }
-    ensures each { IfOk result (λ r. (o : ℕ) → o < length (arc_value domain.now).objects →
-        own_at r.1.items o ≡ initial_params (arc_value domain.now) o) }
+// What is kept of a domain before anything is done: its ledger, the parameters of its objects, and no task.
+#[derive(Drop)]
+struct Books {
+    ledger: Ledger,
+    params: Vec<Params>,
+    kept: Vec<Option<Task>>,
+}
+
+fn first_books(alloc: Global, domain: &Arc<Domain>) -> Result<Books, AllocError>
+    ensures domain { IfOk result (λ b. b.ledger.domain ≡ arc_value domain.now) }
+    ensures journal { IfOk result (λ b. b.ledger.journal ≡ []) }
+    ensures count { IfOk result (λ b. length b.params.items ≡ length (arc_value domain.now).objects) }
+    ensures each { IfOk result (λ b. (o : ℕ) → o < length (arc_value domain.now).objects →
+        own_at b.params.items o ≡ initial_params (arc_value domain.now) o) }
+    ensures tasks { IfOk result (λ b. length b.kept.items ≡ length (arc_value domain.now).objects) }
+    ensures none { IfOk result (λ b. (o : ℕ) → kept_at b.kept.items o ≡ None) }
 {
     let params = first_params(alloc, domain)?;
+    let kept = no_tasks(alloc, domain.objects())?;
     let ledger = Ledger::new(alloc, Arc::try_clone(domain)?)?;
-    Ok((ledger, params))
+    Ok(Books {
+        ledger,
+        params,
+        kept,
+    })
 }
 
 impl<M: Mail> Board<M> {
@@ -91,14 +112,16 @@ impl<M: Mail> Board<M> {
         ensures domain { IfOk result (λ b. b.domain ≡ arc_value domain) }
         ensures most { IfOk result (λ b. b.most ≡ most) }
         ensures journal { IfOk result (λ b. b.journal ≡ []) }
+        ensures kept { IfOk result (λ b. (o : ℕ) → kept_at b.kept o ≡ None) }
         ensures mail { IfOk result (λ b. b.mail ≡ mail) }
         ensures back { IfErr result (λ e. e.1 ≡ mail) }
     {
-        match books(alloc, &domain) {
-            Ok((ledger, params)) => Ok(Board {
+        match first_books(alloc, &domain) {
+            Ok(books) => Ok(Board {
                 domain,
-                ledger,
-                params,
+                ledger: books.ledger,
+                params: books.params,
+                kept: books.kept,
                 mail,
                 most,
                 alloc,

@@ -1,5 +1,5 @@
 //! What closes an action from outside: the answer of a device, its fault, and a kill.
-ghost use Rattle.std.specs.Prelude.{◌≡◌, ◌<◌, ◌≤◌, ◌+◌, ◌++◌, ◌∷◌, [], IfErr, IfOk, Err, None, OnErr, OnOk, false, length};
+ghost use Rattle.std.specs.Prelude.{◌≡◌, ◌<◌, ◌≤◌, ◌+◌, ◌++◌, ◌∷◌, [], IfErr, IfOk, Err, None, OnErr, OnOk, false, length, slice_set};
 ghost use Rattle.smi_entry.specs.declared.entry.ActionEnd.TheVariants as ends;
 ghost use Rattle.smi_entry.specs.declared.entry.Cause.TheVariants as cause;
 ghost use Rattle.smi_entry.specs.declared.entry.Entry.TheVariants as entry;
@@ -9,6 +9,7 @@ ghost use Rattle.smi_board.specs.Refusals.{IsKillError, answer_refusal, fault_re
 
 use crate::board::Board;
 use crate::errors::{AnswerError, KillError};
+use crate::kept::keep;
 use smi_entry::entry::{ActionEnd, Cause};
 use smi_entry::session::SessionId;
 use smi_ledger::ledger::Ledger;
@@ -75,14 +76,15 @@ impl<M: Mail> Board<M> {
         Ok(place as u64)
     }
 
-    /// Kills an object, and tells the place of the kill. An open action is cut. Where one is open it
-    /// takes no memory.
+    /// Kills an object, and tells the place of the kill. An open action is cut, and a task of it that is
+    /// kept is let go. Where one is open it takes no memory.
     pub fn kill(&mut self, o: ObjId, session: SessionId) -> Result<u64, KillError>
         requires { o < length self.old.domain.objects }
         ensures free { OnOk result (kill_refusal self.old.journal o ≡ None) }
         ensures place { IfOk result (λ place. place ≡ length self.old.journal) }
         ensures killed { OnOk result (self.new ≡ record self.old {
           journal = self.old.journal ++ entry.Kill o (cause.By session) ∷ [];
+          kept = slice_set self.old.kept o None;
         }) }
         ensures refused { IfErr result (IsKillError (kill_refusal self.old.journal o)) }
         ensures memory { result ≡ Err KillError.Memory → says.is_open o self.old.journal ≡ false }
@@ -96,6 +98,7 @@ impl<M: Mail> Board<M> {
             return Err(KillError::Memory);
         };
         let place = self.ledger.journal().len();
+        keep(&mut self.kept, o, None);
         self.ledger.add_kill(o, Cause::By(session));
         Ok(place as u64)
     }

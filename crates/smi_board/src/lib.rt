@@ -4,6 +4,7 @@
 pub mod board;
 mod closing;
 pub mod errors;
+mod kept;
 mod params;
 mod request;
 pub mod starting;

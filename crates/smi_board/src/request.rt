@@ -26,14 +26,19 @@ impl Board<PlainMail> {
         requires within { o < length self.old.domain.objects }
         requires operator { is_operator envelope.sender ≡ true }
         requires fits { letter_fits self.old.domain o envelope ≡ true }
-        ensures free { OnOk result (request_refusal self.old.journal o (length (waiting_at self.old.mail o)) self.old.mail.capacity ≡ None) }
+        ensures free { OnOk result (request_refusal self.old.journal o
+            (length (waiting_at self.old.mail o)) self.old.mail.capacity ≡ None) }
         ensures number { IfOk result (λ n. n ≡ length (sent_at self.old.mail envelope.sender o)) }
-        ensures accepted { OnOk result (Grows (sent_at self.old.mail envelope.sender) o (request_of envelope) (sent_at self.new.mail envelope.sender)) }
-        ensures last { OnOk result (waiting_at self.new.mail o ≡ waiting_at self.old.mail o ++ request_of envelope ∷ []) }
+        ensures accepted { OnOk result (Grows (sent_at self.old.mail envelope.sender) o
+            (request_of envelope) (sent_at self.new.mail envelope.sender)) }
+        ensures last { OnOk result
+            (waiting_at self.new.mail o ≡ waiting_at self.old.mail o ++ request_of envelope ∷ []) }
         ensures others { (x : ℕ) → x ≢ o → waiting_at self.new.mail x ≡ waiting_at self.old.mail x }
-        ensures senders { (s : Sender) → s ≢ envelope.sender → Same (sent_at self.old.mail s) (sent_at self.new.mail s) }
+        ensures senders { (s : Sender) → s ≢ envelope.sender →
+            Same (sent_at self.old.mail s) (sent_at self.new.mail s) }
         ensures taken { Same (taken_at self.old.mail) (taken_at self.new.mail) }
-        ensures refused { IfErr result (λ e. IsRequestError (says.is_killed o self.old.journal) (request_refusal self.old.journal o (length (waiting_at self.old.mail o)) self.old.mail.capacity) e.0) }
+        ensures refused { IfErr result (λ e. IsRequestError (says.is_killed o self.old.journal)
+            (request_refusal self.old.journal o (length (waiting_at self.old.mail o)) self.old.mail.capacity) e.0) }
         ensures back { IfErr result (λ e. e.1 ≡ envelope) }
         ensures unsent { OnErr result ((s : Sender) → Same (sent_at self.old.mail s) (sent_at self.new.mail s)) }
         ensures waits { OnErr result (waiting_at self.new.mail o ≡ waiting_at self.old.mail o) }
@@ -41,6 +46,7 @@ impl Board<PlainMail> {
         ensures most { self.new.most ≡ self.old.most }
         ensures journal { self.new.journal ≡ self.old.journal }
         ensures params { self.new.params ≡ self.old.params }
+        ensures kept { self.new.kept ≡ self.old.kept }
         ensures capacity { self.new.mail.capacity ≡ self.old.mail.capacity }
     {
         if self.ledger.killed(o).is_some() {

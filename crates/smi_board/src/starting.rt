@@ -101,7 +101,8 @@ impl<M: Mail> Board<M> {
     pub fn start(&mut self, o: ObjId) -> Result<Started, StartError>
         requires { o < length self.old.domain.objects }
         ensures free { OnOk result (start_refusal self.old.most self.old.journal o ≡ None) }
-        ensures started { IfOk result (Starts self.old.domain o (own_at self.old.params o) self.old.journal self.new.journal (M.waiting self.old.mail o) (M.waiting self.new.mail o)) }
+        ensures started { IfOk result (Starts self.old.domain o (own_at self.old.params o)
+            self.old.journal self.new.journal (M.waiting self.old.mail o) (M.waiting self.new.mail o)) }
         ensures refused { IfErr result (IsStartError (start_refusal self.old.most self.old.journal o)) }
         ensures same { OnErr result (self.new ≡ self.old) }
         // Nothing waits: all was started of whom the mail serves.
@@ -113,6 +114,7 @@ impl<M: Mail> Board<M> {
         ensures domain { self.new.domain ≡ self.old.domain }
         ensures most { self.new.most ≡ self.old.most }
         ensures params { self.new.params ≡ self.old.params }
+        ensures kept { self.new.kept ≡ self.old.kept }
         ensures serves { M.serves self.new.mail ≡ M.serves self.old.mail }
         ensures capacity { M.capacity self.new.mail ≡ M.capacity self.old.mail }
     {

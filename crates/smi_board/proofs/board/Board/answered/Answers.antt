@@ -14,5 +14,5 @@ invariant_of-self g c =
     let device : associated_at d c.args.o ≡ true = search rules in
     let opened : is_open c.args.o i.ledger.journal ≡ true = search rules in
     let state : is_state_of d c.args.o c.args.state ≡ true = search rules in
-    let kept = keeps_answer d i.ledger.journal c.add_end.new.self.journal i.params.items _ _ _ c.args.o c.args.state c.self.invariant.0 c.self.invariant.1 device opened state (ap (λ (l : LedgerView). l.journal) c.add_end.ensures) in
-    (kept.tied, kept.runs, ap (λ (l : LedgerView). l.domain) c.add_end.ensures ∙ c.self.invariant.2, c.self.invariant.3)
+    let keeps = keeps_answer d i.ledger.journal c.add_end.new.self.journal i.params.items i.kept.items _ _ _ c.args.o c.args.state c.self.invariant.0 c.self.invariant.1 c.self.invariant.2 device opened state (ap (λ (l : LedgerView). l.journal) c.add_end.ensures) in
+    (keeps.tied, keeps.all.runs, keeps.all.tasks, ap (λ (l : LedgerView). l.domain) c.add_end.ensures ∙ c.self.invariant.3, c.self.invariant.4)

@@ -5,7 +5,7 @@ use Rattle.sml_domain.specs.Lookups.{associated_at}
 use Rattle.smi_entry.specs.declared.entry.Cause.TheVariants.{Fault}
 use Rattle.smi_entry.specs.Words.{is_open}
 use Rattle.smi_ledger.specs.Views.{LedgerView}
-use Rattle.smi_board.proofs.Ties.{keeps_kill, open_is_alive}
+use Rattle.smi_board.proofs.Ties.{keeps_fault, open_is_alive}
 use Rattle.smi_board.proofs.board.Board.fault.Goals as goal
 
 pub add_kill-requires-clause-alive : goal.add_kill-requires-clause-alive
@@ -21,5 +21,5 @@ invariant_of-self g c =
     let device : associated_at d c.args.o ≡ true = search rules in
     let opened : is_open c.args.o i.ledger.journal ≡ true = search rules in
     let alive = open_is_alive d i.ledger.journal c.args.o c.self.invariant.0.legal opened in
-    let kept = keeps_kill d i.ledger.journal c.add_kill.new.self.journal i.params.items _ _ _ c.args.o Fault c.self.invariant.0 c.self.invariant.1 alive (device, opened) (ap (λ (l : LedgerView). l.journal) c.add_kill.ensures) in
-    (kept.tied, kept.runs, ap (λ (l : LedgerView). l.domain) c.add_kill.ensures ∙ c.self.invariant.2, c.self.invariant.3)
+    let keeps = keeps_fault d i.ledger.journal c.add_kill.new.self.journal i.params.items i.kept.items _ _ _ c.args.o Fault c.self.invariant.0 c.self.invariant.1 c.self.invariant.2 device alive (device, opened) (ap (λ (l : LedgerView). l.journal) c.add_kill.ensures) in
+    (keeps.tied, keeps.all.runs, keeps.all.tasks, ap (λ (l : LedgerView). l.domain) c.add_kill.ensures ∙ c.self.invariant.3, c.self.invariant.4)

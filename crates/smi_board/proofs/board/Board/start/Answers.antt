@@ -17,7 +17,7 @@ open-requires-clause-ready g c =
     let i = c.self.inside in
     let d = arc_value i.domain in
     let own = c.values-own.result.now in
-    let hd : c.hold.new.self.domain ≡ d = ap (λ (v : LedgerView). v.domain) c.in-Ok-hold.ensures.ok.1 ∙ c.self.invariant.2 in
+    let hd : c.hold.new.self.domain ≡ d = ap (λ (v : LedgerView). v.domain) c.in-Ok-hold.ensures.ok.1 ∙ c.self.invariant.3 in
     let ready : c.in-Ok.ready ≡ ready_for d c.args.o own = search rules in
     ready_is d _ _ own c.in-Ok.ready ready hd
 
@@ -28,17 +28,17 @@ invariant_of-self-2 g c =
     let o = c.args.o in
     let l = c.in-Some.envelope in
     let own = c.values-own.result.now in
-    let hd : c.hold.new.self.domain ≡ d = ap (λ (v : LedgerView). v.domain) c.in-Ok-hold.ensures.ok.1 ∙ c.self.invariant.2 in
+    let hd : c.hold.new.self.domain ≡ d = ap (λ (v : LedgerView). v.domain) c.in-Ok-hold.ensures.ok.1 ∙ c.self.invariant.3 in
     let hj : c.hold.new.self.journal ≡ i.ledger.journal = ap (λ (v : LedgerView). v.journal) c.in-Ok-hold.ensures.ok.1 in
     let ready : c.in-Ok.ready ≡ ready_for d o own = search rules in
     let gives : c.open.result ≡ started_of d o i.ledger.journal own l =
     c.open.ensures.gives own (ready ∙ ap (λ x. ready_for x o own) (sym hd)) ∙ ap (λ x. started_of x o c.hold.new.self.journal own l) hd ∙ ap (λ K. started_of d o K own l) hj in
     let longer : c.open.new.ledger.journal ≡ i.ledger.journal ++ entries_of o l c.open.result = c.open.ensures.entries ∙ ap (λ K. K ++ entries_of o l c.open.result) hj in
-    let fits : letter_fits d o l ≡ true = ap (λ x. letter_fits x o l) (sym c.self.invariant.3) ∙ c.in-Some.ensures.fits in
+    let fits : letter_fits d o l ≡ true = ap (λ x. letter_fits x o l) (sym c.self.invariant.4) ∙ c.in-Some.ensures.fits in
     let took : Took d o l (g.M.Mail.serves i.mail) (g.M.Mail.serves c.take.new.self) (g.M.Mail.taken i.mail) (g.M.Mail.taken c.take.new.self) (g.M.Mail.sent i.mail) (g.M.Mail.sent c.take.new.self) = record {
       grows = c.in-Some.ensures.some;
       fits = fits;
-      sender = ap (λ x. is_sender x l.sender) (sym c.self.invariant.3) ∙ c.in-Some.ensures.sender;
+      sender = ap (λ x. is_sender x l.sender) (sym c.self.invariant.4) ∙ c.in-Some.ensures.sender;
       number = c.in-Some.ensures.number;
       same = c.in-Some.ensures.sent;
       alike = c.in-Some.ensures.serves;
@@ -47,8 +47,8 @@ invariant_of-self-2 g c =
     let alive : is_killed o i.ledger.journal ≡ false = search rules in
     let shut : is_open o i.ledger.journal ≡ false = search rules in
     let closed = none_open o i.ledger.journal shut in
-    let kept = keeps_start d i.ledger.journal c.open.new.ledger.journal i.params.items _ _ _ _ _ _ o l own c.open.result c.self.invariant.0 c.self.invariant.1 took alive closed gives longer in
-    (kept.tied, kept.runs, c.open.ensures.domain ∙ hd, c.in-Some.ensures.domain ∙ c.self.invariant.3)
+    let keeps = keeps_start d i.ledger.journal c.open.new.ledger.journal i.params.items i.kept.items _ _ _ _ _ _ o l own c.open.result c.self.invariant.0 c.self.invariant.1 c.self.invariant.2 took alive closed gives longer in
+    (keeps.tied, keeps.all.runs, keeps.all.tasks, c.open.ensures.domain ∙ hd, c.in-Some.ensures.domain ∙ c.self.invariant.4)
 
 pub returns-clause-started : goal.returns-clause-started
 returns-clause-started g c =
@@ -57,13 +57,13 @@ returns-clause-started g c =
     let o = c.args.o in
     let l = c.in-Some.envelope in
     let own = c.values-own.result.now in
-    let hd : c.hold.new.self.domain ≡ d = ap (λ (v : LedgerView). v.domain) c.in-Ok-hold.ensures.ok.1 ∙ c.self.invariant.2 in
+    let hd : c.hold.new.self.domain ≡ d = ap (λ (v : LedgerView). v.domain) c.in-Ok-hold.ensures.ok.1 ∙ c.self.invariant.3 in
     let hj : c.hold.new.self.journal ≡ i.ledger.journal = ap (λ (v : LedgerView). v.journal) c.in-Ok-hold.ensures.ok.1 in
     let ready : c.in-Ok.ready ≡ ready_for d o own = search rules in
     let gives : c.open.result ≡ started_of d o i.ledger.journal own l =
     c.open.ensures.gives own (ready ∙ ap (λ x. ready_for x o own) (sym hd)) ∙ ap (λ x. started_of x o c.hold.new.self.journal own l) hd ∙ ap (λ K. started_of d o K own l) hj in
     let longer : c.open.new.ledger.journal ≡ i.ledger.journal ++ entries_of o l c.open.result = c.open.ensures.entries ∙ ap (λ K. K ++ entries_of o l c.open.result) hj in
-    let fits : letter_fits d o l ≡ true = ap (λ x. letter_fits x o l) (sym c.self.invariant.3) ∙ c.in-Some.ensures.fits in
+    let fits : letter_fits d o l ≡ true = ap (λ x. letter_fits x o l) (sym c.self.invariant.4) ∙ c.in-Some.ensures.fits in
     let own_is : own_at i.params.items o ≡ own = grind (arith, common_steps) in
     subst (λ (b : BoardView _). Starts b.domain o (own_at b.params o) b.journal c.open.new.ledger.journal (g.M.Mail.waiting b.mail o) (g.M.Mail.waiting c.take.new.self o) c.open.result) c.self.view_is (record {
       letter = l;
