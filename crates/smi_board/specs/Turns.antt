@@ -1,11 +1,13 @@
 -- The tasks of a board: those that are out, and those that it keeps.
-use Rattle.std.specs.Prelude.{◌≡◌, ℕ, Bool, true, false, List, Option, Some, None, IfSome, length}
+use Rattle.std.specs.Prelude.{◌≡◌, ◌++◌, ℕ, Bool, true, false, List, Option, Some, None, IfSome, length, map}
 use Rattle.sml_domain.specs.declared.value.Value.{Value}
 use Rattle.sml_domain.specs.Domain.{Domain}
 use Rattle.sml_domain.specs.Lookups.{associated_at}
 use Rattle.smi_entry.specs.declared.entry.Entry.{Entry}
-use Rattle.smi_entry.specs.Words.{answers_of, open_at, state_of}
-use Rattle.smi_meaning.specs.Shown.{replies_to}
+use Rattle.smi_entry.specs.declared.entry.Answer.{Answer}
+use Rattle.smi_entry.specs.Words.{answer_of, answers_of, open_at, state_of}
+use Rattle.smi_meaning.specs.Meaning.{Move}
+use Rattle.smi_meaning.specs.Shown.{items_of, replies_to}
 use Rattle.smi_interp.specs.Turn.{TurnView}
 use Rattle.smi_interp.specs.Task.{TaskView}
 use Rattle.smi_board.specs.Boards.{own_at, kept_at}
@@ -18,6 +20,15 @@ pub record IsItsTurn (d : Domain) (J : List Entry) (own : List Value) (t : TurnV
   pub state : t.state ≡ state_of d t.object J
   pub params : t.start ≡ own
   pub answers : replies_to t.moves ≡ answers_of t.object J
+
+-- the answers of a move
+abbrev pub answers_in : Move → List Answer
+answers_in m = map answer_of (items_of m)
+
+-- what stands behind a front of answers, where they begin with it
+abbrev pub IsBehind : List Answer → List Answer → Option (List Answer) → Type 0
+IsBehind front answers (Some rest) = answers ≡ front ++ rest
+IsBehind front answers None = (rest : List Answer) → ¬ (answers ≡ front ++ rest)
 
 -- a task is out: its record is that of its object's open action, and the board keeps none of this object
 pub record IsOut (d : Domain) (J : List Entry) (params : List (List Value)) (kept : List (Option TaskView)) (t : TurnView) : Type 0 where

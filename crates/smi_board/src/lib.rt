@@ -8,3 +8,4 @@ mod kept;
 mod params;
 mod request;
 pub mod starting;
+mod turns;
