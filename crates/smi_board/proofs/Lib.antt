@@ -1,3 +1,4 @@
 mod Answered
 mod Others
 mod Ties
+mod Out

@@ -105,23 +105,30 @@ none_kept d J params kept o h why = go (kept_at kept o) (h.each o)
 
 -- ---- the journal with one more entry that neither starts nor posts
 
-pub tied_quiet : (d : Domain) (J : List Entry) (params : List (List Value)) (serves : Sender → Bool) (taken : ℕ → List Request) (sent : Sender → ℕ → List Request) (e : Entry)
+pub tied_next : (d : Domain) (J : List Entry) (params params2 : List (List Value)) (serves : Sender → Bool) (taken : ℕ → List Request) (sent : Sender → ℕ → List Request) (e : Entry)
     → IsTied d J params serves taken sent → IsLegalAt d J e → ((o : ℕ) → start_in o e ≡ []) → ((a o : ℕ) → post_in a o e ≡ [])
-    → ((o : ℕ) (own : List Value) → ParamsAfter d o J own → ParamsAfter d o (J ++ e ∷ []) own)
-    → IsTied d (J ++ e ∷ []) params serves taken sent
-tied_quiet d J params serves taken sent e h legal starts posts keeps = record {
+    → length params2 ≡ length params → ((o : ℕ) → ParamsAfter d o J (own_at params o) → ParamsAfter d o (J ++ e ∷ []) (own_at params2 o))
+    → IsTied d (J ++ e ∷ []) params2 serves taken sent
+tied_next d J params params2 serves taken sent e h legal starts posts long keeps = record {
   legal = legal_more d J e h.legal legal;
   taken_is = λ o. h.taken_is o ∙ sym (starts_more o J e ∙ ap (λ rs. starts_at o J ++ rs) (starts o) ∙ append-nil (starts_at o J));
   sent_is = λ a o lt. h.sent_is a o lt ∙ sym (posts_more a o J e ∙ ap (λ rs. posts_between a o J ++ rs) (posts a o) ∙ append-nil (posts_between a o J));
   served = h.served;
-  count = h.count;
-  own = λ o lt. keeps o (own_at params o) (h.own o lt);
+  count = long ∙ h.count;
+  own = λ o lt. keeps o (h.own o lt);
 }
 
-abbrev no_requests : List Request
+pub tied_quiet : (d : Domain) (J : List Entry) (params : List (List Value)) (serves : Sender → Bool) (taken : ℕ → List Request) (sent : Sender → ℕ → List Request) (e : Entry)
+    → IsTied d J params serves taken sent → IsLegalAt d J e → ((o : ℕ) → start_in o e ≡ []) → ((a o : ℕ) → post_in a o e ≡ [])
+    → ((o : ℕ) (own : List Value) → ParamsAfter d o J own → ParamsAfter d o (J ++ e ∷ []) own)
+    → IsTied d (J ++ e ∷ []) params serves taken sent
+tied_quiet d J params serves taken sent e h legal starts posts keeps =
+    tied_next d J params params serves taken sent e h legal starts posts refl (λ o after. keeps o (own_at params o) after)
+
+abbrev pub no_requests : List Request
 no_requests = []
 
-none_of : (b : Bool) → cond b no_requests [] ≡ []
+pub none_of : (b : Bool) → cond b no_requests [] ≡ []
 none_of true = refl
 none_of false = refl
 

@@ -3,6 +3,7 @@
 
 pub mod board;
 mod closing;
+mod ending;
 pub mod errors;
 mod kept;
 mod params;
