@@ -1,4 +1,5 @@
 mod Answered
+mod Fans
 mod Others
-mod Ties
 mod Out
+mod Ties

@@ -8,5 +8,6 @@ pub mod errors;
 mod kept;
 mod params;
 mod request;
+mod sending;
 pub mod starting;
 mod turns;
