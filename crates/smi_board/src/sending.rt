@@ -163,3 +163,44 @@ fn post_all<M: Mail>(
     }
     verdicts
 }
+
+// What the posts of a `do` take, made before the first of them.
+#[derive(Drop)]
+struct Sending {
+    list: VecDeque<Parcel>,
+    verdicts: Vec<Verdict>,
+}
+
+// Makes all growths that posts of an object take.
+fn make_sending<M: Mail>(
+    alloc: Global,
+    mail: &mut M,
+    ledger: &mut Ledger,
+    o: ObjId,
+    posts: &[Post],
+) -> Result<Sending, AllocError>
+    requires within { o < length ledger.old.domain.objects }
+    requires targets { All (λ (p : items.Post). p.target < length (M.domain mail.old).objects) posts.now }
+    ensures list { IfOk result (λ s. s.list.items ≡ map (parcel_of o) posts.now) }
+    ensures none { IfOk result (λ s. s.verdicts.items ≡ []) }
+    ensures places { IfOk result (λ s. vec_len s.verdicts + deque_len s.list ≤ vec_capacity s.verdicts) }
+    ensures spare { IfOk result (λ s. deque_len s.list ≤ ledger.new.spare) }
+    ensures room { IfOk result (λ s. deque_len s.list ≤ room_at o ledger.new) }
+    ensures ready { OnOk result (All (λ (p : items.Post). M.ready mail.new p.target ≡ true) posts.now) }
+    ensures rooms { length ledger.new.rooms ≡ length ledger.new.domain.objects }
+    ensures books { ledger.new.domain ≡ ledger.old.domain }
+    ensures journal { ledger.new.journal ≡ ledger.old.journal }
+    ensures lists { AreSameLists
+        (record { taken = M.taken mail.old; sent = M.sent mail.old; waiting = M.waiting mail.old; capacity = M.capacity mail.old })
+        (record { taken = M.taken mail.new; sent = M.sent mail.new; waiting = M.waiting mail.new; capacity = M.capacity mail.new }) }
+    ensures domain { M.domain mail.new ≡ M.domain mail.old }
+    ensures serves { M.serves mail.new ≡ M.serves mail.old }
+{
+    let _rooms = ledger.domain();
+    let list = parcels_of(alloc, o, posts)?;
+    let verdicts = Vec::with_capacity(alloc, list.len())?;
+    ledger.hold(list.len())?;
+    ledger.hold_answers(o, list.len())?;
+    make_rooms(mail, posts)?;
+    Ok(Sending { list, verdicts })
+}

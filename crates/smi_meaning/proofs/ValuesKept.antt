@@ -98,7 +98,7 @@ block_fits d o a b args own (Some c) is h g v = go (signature_in a c) h g
     go None h g = absurd h
     go (Some x) h g = record { c = c; class_is = is; given = x.params; program = h; env = record { own_fit = v; given_fit = g } }
 
-run_fits : (d : Domain) (J : List Entry) (o : ℕ) (own : List Value) (run : Running) → IsSound d → JournalFits d J → ValuesFit own (class_params_at d o) → running_at d o J ≡ Some run → RunFits d o own run
+pub run_fits : (d : Domain) (J : List Entry) (o : ℕ) (own : List Value) (run : Running) → IsSound d → JournalFits d J → ValuesFit own (class_params_at d o) → running_at d o J ≡ Some run → RunFits d o own run
 run_fits d J o own run sound fits v runs = go (open_at o J) (fits.opened o) runs
   where
     block : (l : Letter) → ArgumentsAre d o l.action l.args → (b : Option ℕ) → block_at d o (state_of d o J) l.action ≡ b → option_map (run_with l.args) (option_map (tree_of_block d) b) ≡ Some run → RunFits d o own run
