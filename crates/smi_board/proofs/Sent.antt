@@ -3,6 +3,7 @@ use Rattle.std.proofs.Common.{◌≡◌, ◌≢◌, ◌<◌, ◌==◌, ℕ, Bool
 use Rattle.std.specs.Prelude.{is_some}
 use Rattle.std.specs.List.{All}
 use Rattle.std.proofs.lemmas.Bool.{cases_eq, eq-eqb, ne_eqb}
+use Rattle.std.proofs.lemmas.List.Elements.{All-map}
 use Rattle.sml_domain.specs.declared.value.Value.{Value}
 use Rattle.sml_domain.specs.Program.{Program, Nothing, SetThen, SendThen, SendNoneThen, IfThen, EndIn, TerminateIn}
 use Rattle.sml_domain.specs.Domain.{Domain}
@@ -34,7 +35,7 @@ use Rattle.smi_interp.specs.Cursor.{first_contact}
 use Rattle.smi_interp.specs.Turn.{posted_of}
 use Rattle.smi_interp.specs.Task.{TaskView, LeftAsks, body, env_before, env_now}
 use Rattle.smi_board.specs.Boards.{IsTied, IsLed, EachRuns, own_at}
-use Rattle.smi_board.specs.Posting.{Lists, Sends, IsJudged, AreJudged, entry_of, request_by}
+use Rattle.smi_board.specs.Posting.{Lists, ParcelView, Sends, IsJudged, AreJudged, IsPostable, entry_of, parcel_of, post_in, request_by}
 use Rattle.smi_board.specs.Turns.{IsOut, EachKept}
 use Rattle.smi_board.proofs.Fitting.{CanBeSent, can_be_sent}
 use Rattle.smi_board.proofs.Others.{KeepsAll, KeepsBut, and_one, but_more, but_one, runs_in}
@@ -247,3 +248,19 @@ sendable_at d t J params kept serves taken sent posts same sound h runs lt out l
     here sound h runs lt out =
         let o = t.turn.object in
         sendable J t posts sound h.legal (is_shown J (own_at params o) t l.left (h.own o lt) (runs o (ap is_some out.turn.opened)) out.turn l.leads) l
+
+-- ---- parcels
+
+pub posts_of_parcels : (o : ℕ) (ps : List Post) → map post_in (map (parcel_of o) ps) ≡ ps
+posts_of_parcels o [] = refl
+posts_of_parcels o (p ∷ ps) = ap (λ qs. p ∷ qs) (posts_of_parcels o ps)
+
+pub parcels_sent_by : (o : ℕ) (ps : List Post) → All (λ (p : ParcelView). p.sender ≡ Object o) (map (parcel_of o) ps)
+parcels_sent_by o ps = All-map (λ (p : ParcelView). p.sender ≡ Object o) (parcel_of o) ps (λ k x lt. refl)
+
+pub parcels_are : (P : Post → Type 0) (o : ℕ) (ps : List Post) → All P ps → All (λ (p : ParcelView). P p.post) (map (parcel_of o) ps)
+parcels_are P o ps h = All-map (λ (p : ParcelView). P p.post) (parcel_of o) ps h
+
+-- the targets of posts that can be sent are there
+pub targets_there : (d : Domain) (ps : List Post) → All (IsPostable d) ps → All (λ (p : Post). p.target < length d.objects) ps
+targets_there d ps h = λ k x lt. (h k x lt).there

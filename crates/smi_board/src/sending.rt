@@ -1,5 +1,5 @@
 //! Posts of a `do`, one after another.
-ghost use Rattle.std.specs.Prelude.{◌≡◌, ◌≢◌, ◌<◌, ◌≤◌, ◌+◌, ◌-◌, ◌++◌, ◌∷◌, [], ℕ, IfOk, OnErr, OnOk, length, map, slice_set, true, vec_capacity, vec_len};
+ghost use Rattle.std.specs.Prelude.{◌≡◌, ◌≢◌, ◌<◌, ◌≤◌, ◌+◌, ◌-◌, ◌++◌, ◌∷◌, [], ℕ, List, IfErr, IfOk, OnErr, OnOk, Some, length, map, slice_set, true, vec_capacity, vec_len};
 ghost use Rattle.std.specs.List.{All};
 ghost use Rattle.std.specs.VecDeque.{deque_len};
 ghost use Rattle.smi_entry.specs.declared.entry.Sender.{Sender};
@@ -7,12 +7,18 @@ ghost use Rattle.smi_entry.specs.declared.entry.Sender.TheVariants.{Object};
 ghost use Rattle.smi_ledger.specs.Books.{room_at};
 ghost use Rattle.smi_mail.specs.Mails.{Same};
 ghost use Rattle.smi_meaning.specs.Items as items;
+ghost use Rattle.smi_entry.specs.declared.entry.Verdict.{Verdict as Said};
+ghost use Rattle.smi_interp.specs.declared.contact.Contact.TheVariants as contact;
+ghost use Rattle.smi_interp.specs.Task.{LeftAsks, with_verdicts};
+ghost use Rattle.smi_board.specs.Turns.{IsOut};
 ghost use Rattle.smi_board.specs.Posting.{AreApart, AreJudged, AreSameLists, IsJudged, IsPostable, ParcelView, entry_of, parcel_of, post_in};
 
 use smi_entry::args::Args;
 use smi_entry::entry::{Sender as From, Verdict};
 use smi_entry::envelope::Envelope;
-use smi_interp::contact::Post;
+use crate::board::Board;
+use smi_interp::contact::{Post, Posts};
+use smi_interp::task::Task;
 use smi_ledger::ledger::Ledger;
 use smi_mail::mail::Mail;
 use sml_domain::ids::ObjId;
@@ -30,7 +36,11 @@ pub(crate) struct Parcel {
 
 impl Model for Parcel {
     ghost use Rattle.std.specs.Prelude.{◌≡◌};
-    ghost use Rattle.smi_board.specs.Posting.{ParcelView};
+    ghost use Rattle.smi_entry.specs.declared.entry.Verdict.{Verdict as Said};
+ghost use Rattle.smi_interp.specs.declared.contact.Contact.TheVariants as contact;
+ghost use Rattle.smi_interp.specs.Task.{LeftAsks, with_verdicts};
+ghost use Rattle.smi_board.specs.Turns.{IsOut};
+ghost use Rattle.smi_board.specs.Posting.{ParcelView};
 
     ghost Value = { ParcelView };
 
@@ -203,4 +213,48 @@ fn make_sending<M: Mail>(
     ledger.hold_answers(o, list.len())?;
     make_rooms(mail, posts)?;
     Ok(Sending { list, verdicts })
+}
+
+impl<M: Mail> Board<M> {
+    // Posts what a task that is out asks for, each post judged after those before it. Where memory is
+    // wanted the task comes back.
+    pub(crate) fn send(&mut self, task: Task, posts: &Posts) -> Result<Task, Task>
+        requires domain { task.domain ≡ self.old.domain }
+        requires within { task.turn.object < length self.old.domain.objects }
+        requires out { IsOut self.old.domain self.old.journal self.old.params self.old.kept task.turn }
+        requires waits { task.pending ≡ Some (contact.Send posts.now) }
+        requires asks { LeftAsks task (contact.Send posts.now) }
+        ensures sent { IfOk result (λ t. (vs : List Said) × (t ≡ with_verdicts task vs) × AreJudged task.turn.object
+            (record { taken = M.taken self.old.mail; sent = M.sent self.old.mail; waiting = M.waiting self.old.mail; capacity = M.capacity self.old.mail })
+            self.old.journal posts.now vs
+            (record { taken = M.taken self.new.mail; sent = M.sent self.new.mail; waiting = M.waiting self.new.mail; capacity = M.capacity self.new.mail })
+            self.new.journal) }
+        ensures back { IfErr result (λ t. t ≡ task) }
+        ensures journal { OnErr result (self.new.journal ≡ self.old.journal) }
+        ensures lists { OnErr result (AreSameLists
+            (record { taken = M.taken self.old.mail; sent = M.sent self.old.mail; waiting = M.waiting self.old.mail; capacity = M.capacity self.old.mail })
+            (record { taken = M.taken self.new.mail; sent = M.sent self.new.mail; waiting = M.waiting self.new.mail; capacity = M.capacity self.new.mail })) }
+        ensures domain { self.new.domain ≡ self.old.domain }
+        ensures most { self.new.most ≡ self.old.most }
+        ensures params { self.new.params ≡ self.old.params }
+        ensures kept { self.new.kept ≡ self.old.kept }
+        ensures serves { M.serves self.new.mail ≡ M.serves self.old.mail }
+    {
+        let o = task.turn().object;
+        let _sound = self.domain.objects();
+        let Ok(sending) = make_sending(
+            self.alloc,
+            &mut self.mail,
+            &mut self.ledger,
+            o,
+            posts.list(),
+        ) else {
+            return Err(task);
+        };
+        let Sending { list, verdicts } = sending;
+        let verdicts = post_all(&mut self.mail, &mut self.ledger, o, list, verdicts);
+        let mut task = task;
+        task.sent(&verdicts);
+        Ok(task)
+    }
 }
