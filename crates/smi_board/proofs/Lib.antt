@@ -3,5 +3,6 @@ mod Fans
 mod Fitting
 mod Others
 mod Out
+mod Seen
 mod Sent
 mod Ties

@@ -1,5 +1,6 @@
 pub mod Boards
 pub mod Posting
+pub mod Reading
 pub mod Refusals
 pub mod Starts
 pub mod Turns

@@ -7,6 +7,7 @@ mod ending;
 pub mod errors;
 mod kept;
 mod params;
+mod reading;
 mod request;
 mod sending;
 pub mod starting;
