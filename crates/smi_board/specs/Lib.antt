@@ -1,4 +1,5 @@
 pub mod Boards
+pub mod Contacts
 pub mod Posting
 pub mod Reading
 pub mod Refusals

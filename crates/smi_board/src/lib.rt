@@ -3,6 +3,7 @@
 
 pub mod board;
 mod closing;
+pub mod contacts;
 mod ending;
 pub mod errors;
 mod kept;

@@ -119,7 +119,7 @@ fn add_wait(ledger: &mut Ledger, o: ObjId) -> Result<(), AllocError>
 
 impl<M: Mail> Board<M> {
     // Reads what a task that is out asks for, all of it clear. Where memory is wanted the task comes back.
-    fn see(&mut self, task: Task, objects: &Objects) -> Result<Task, Task>
+    pub(crate) fn see(&mut self, task: Task, objects: &Objects) -> Result<Task, Task>
         requires domain { task.domain ≡ self.old.domain }
         requires within { task.turn.object < length self.old.domain.objects }
         requires out { IsOut self.old.domain self.old.journal self.old.params self.old.kept task.turn }
@@ -146,7 +146,7 @@ impl<M: Mail> Board<M> {
 
     // Keeps a task that is out, since not all that it asks for is clear. Where memory is wanted the task
     // comes back.
-    fn wait(&mut self, task: Task, objects: &Objects) -> Result<(), Task>
+    pub(crate) fn wait(&mut self, task: Task, objects: &Objects) -> Result<(), Task>
         requires domain { task.domain ≡ self.old.domain }
         requires within { task.turn.object < length self.old.domain.objects }
         requires out { IsOut self.old.domain self.old.journal self.old.params self.old.kept task.turn }

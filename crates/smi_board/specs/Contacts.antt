@@ -1,0 +1,78 @@
+-- What a board answers to a task that is handed in, and what it does.
+use Rattle.std.specs.Prelude.{◌≡◌, ◌++◌, ◌∷◌, ℕ, Bool, true, false, List, [], Option, Some, None, map, slice_set, MatchBool}
+use Rattle.smi_entry.specs.declared.entry.ActionEnd.TheVariants as ends
+use Rattle.smi_entry.specs.declared.entry.Entry.TheVariants as entry
+use Rattle.smi_entry.specs.declared.entry.Verdict.{Verdict}
+use Rattle.smi_entry.specs.Words.{state_of}
+use Rattle.smi_meaning.specs.EntryLaws.{are_clear, reading_of}
+use Rattle.smi_meaning.specs.Items.{Post}
+use Rattle.smi_meaning.specs.Meaning.{state_left}
+use Rattle.smi_interp.specs.declared.contact.Contact.{Contact}
+use Rattle.smi_interp.specs.declared.contact.Contact.TheVariants.{Local, Send, Read, End}
+use Rattle.smi_interp.specs.Task.{TaskView, outcome_of, with_states, with_verdicts}
+use Rattle.smi_board.specs.Boards.{BoardView}
+use Rattle.smi_board.specs.Posting.{Lists, AreJudged}
+use Rattle.smi_board.specs.Reading.{states_now, waited}
+use Rattle.smi_board.specs.declared.contacts.Reply.{Reply}
+use Rattle.smi_board.specs.declared.contacts.Reply.TheVariants as reply
+use Rattle.smi_board.specs.declared.errors.ContactError.{ContactError}
+use Rattle.smi_board.specs.declared.errors.ContactError.TheVariants as error
+
+-- ---- refusals
+
+-- the error of a task that is handed in: its object is killed; else it is none that is out; else want of memory
+abbrev pub IsContactError : Bool → Type 0 → ContactError → Type 0
+IsContactError killed out error.Dead = killed ≡ true
+IsContactError killed out error.Stranger = (killed ≡ false) × ¬ out
+IsContactError killed out error.Memory = (killed ≡ false) × out
+
+-- the error is want of memory
+abbrev pub IsMemory : ContactError → Type 0
+IsMemory error.Dead = ⊥
+IsMemory error.Stranger = ⊥
+IsMemory error.Memory = Unit {0}
+
+-- an action ends, so that its end may not want memory
+abbrev pub IsEnding : Option Contact → Type 0
+IsEnding (Some (End s)) = Unit {0}
+IsEnding (Some (Local p v)) = ⊥
+IsEnding (Some (Send posts)) = ⊥
+IsEnding (Some (Read objects)) = ⊥
+IsEnding None = ⊥
+
+-- ---- replies
+
+-- the action ends: in this state, or in the one that was; the task's parameters are the object's
+pub record Ends {M : Type 0} (t : TaskView) (s : Option ℕ) (b b2 : BoardView M) (r : Reply) : Type 0 where
+  pub answers : r ≡ reply.Ended
+  pub after : b2 ≡ record b {
+    journal = b.journal ++ entry.End t.turn.object (ends.State (state_left (state_of b.domain t.turn.object b.journal) (outcome_of s))) ∷ [];
+    params = slice_set b.params t.turn.object t.params;
+  }
+
+-- the posts are judged one after another, and the task is told their verdicts
+pub record Posts {M : Type 0} (t : TaskView) (posts : List Post) (b : BoardView M) (m : Lists) (b2 : BoardView M) (m2 : Lists) (r : Reply) : Type 0 where
+  pub verdicts : List Verdict
+  pub answers : r ≡ reply.Posted (with_verdicts t verdicts)
+  pub judged : AreJudged t.turn.object m b.journal posts verdicts m2 b2.journal
+  pub params_same : b2.params ≡ b.params
+  pub kept_same : b2.kept ≡ b.kept
+
+-- the objects are read in the states in which they are, and the task is told these
+pub record Sees {M : Type 0} (t : TaskView) (objects : List ℕ) (b b2 : BoardView M) (r : Reply) : Type 0 where
+  pub answers : r ≡ reply.Seen (with_states t (states_now b.domain b.journal objects))
+  pub after : b2 ≡ record b { journal = b.journal ++ entry.Seen t.turn.object (map (reading_of b.domain b.journal) objects) ∷ [] }
+
+-- the object waits, and the board keeps this task
+pub record Waits {M : Type 0} (t : TaskView) (b b2 : BoardView M) (r : Reply) : Type 0 where
+  pub answers : r ≡ reply.Waiting
+  pub after : b2 ≡ record b { journal = waited t.turn.object b.journal; kept = slice_set b.kept t.turn.object (Some t) }
+
+-- by the contact that waits: objects are read exactly where all of them are clear
+abbrev pub Replies : {M : Type 0} → TaskView → Option Contact → BoardView M → Lists → BoardView M → Lists → Reply → Type 0
+Replies t (Some (End s)) b m b2 m2 r = Ends t s b b2 r
+Replies t (Some (Send posts)) b m b2 m2 r = Posts t posts b m b2 m2 r
+Replies t (Some (Read objects)) b m b2 m2 r =
+    MatchBool (are_clear b.journal t.turn.object objects) (Sees t objects b b2 r) (Waits t b b2 r)
+Replies t (Some (Local p v)) b m b2 m2 r = ⊥
+Replies t None b m b2 m2 r = ⊥
