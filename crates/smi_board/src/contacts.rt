@@ -1,5 +1,5 @@
 //! Contacts: what tasks hand in, and what they are answered.
-ghost use Rattle.std.specs.Prelude.{◌≡◌, ◌↔◌, ◌<◌, IfErr, IfOk, IsOk, IsSome, MatchBool, IsTrue, OnErr, OnOk, Some, false, length};
+ghost use Rattle.std.specs.Prelude.{◌≡◌, ◌↔◌, ◌<◌, IfErr, IfOk, IsOk, IsSome, MatchBool, IsTrue, OnErr, OnOk, Some, false, length, slice_set};
 ghost use Rattle.smi_entry.specs.Words as says;
 ghost use Rattle.smi_meaning.specs.EntryLaws as laws;
 ghost use Rattle.smi_interp.specs.declared.contact.Contact.TheVariants as contact;
@@ -10,13 +10,12 @@ ghost use Rattle.smi_board.specs.Turns.{IsOut};
 
 use crate::board::Board;
 use crate::errors::ContactError;
+use crate::kept::keep;
 use crate::reading::are_clear;
 use crate::turns::is_its_turn;
-use smi_interp::contact::{Contact, Objects, Posts};
+use smi_interp::contact::{Contact, Objects};
 use smi_interp::task::Task;
 use smi_mail::mail::Mail;
-use sml_domain::ids::StateId;
-use std::alloc::AllocError;
 
 /// What became of a task that was handed in.
 #[derive(Drop)]
@@ -115,5 +114,76 @@ impl<M: Mail> Board<M> {
             }
             _ => unreachable!(),
         }
+    }
+
+    /// Takes a task whose contact waits, and does what it asks for. Posts are judged one after another;
+    /// objects are read where all of them are clear, and else the task is kept, with a wait in the journal
+    /// that is added once for an `if`; an end gives the object the task's parameters, and takes no memory.
+    ///
+    /// A refused task comes back, and the board is as it was; only for which targets the mail has room may
+    /// differ after want of memory. The cost is the count of the answers that the task had, of its object's
+    /// parameters and of its arguments, and of the posts or the objects.
+    pub fn contact(&mut self, task: Task) -> Result<Reply, (ContactError, Task)>
+        requires domain { task.domain ≡ self.old.domain }
+        requires within { task.turn.object < length self.old.domain.objects }
+        requires waits { IsSome task.pending }
+        ensures alive { OnOk result (says.is_killed task.turn.object self.old.journal ≡ false) }
+        ensures out { OnOk result (IsOut self.old.domain self.old.journal self.old.params self.old.kept task.turn) }
+        ensures replies { IfOk result (Replies task task.pending self.old
+            (record { taken = M.taken self.old.mail; sent = M.sent self.old.mail; waiting = M.waiting self.old.mail; capacity = M.capacity self.old.mail })
+            self.new
+            (record { taken = M.taken self.new.mail; sent = M.sent self.new.mail; waiting = M.waiting self.new.mail; capacity = M.capacity self.new.mail })) }
+        ensures refused { IfErr result (λ e. IsContactError (says.is_killed task.turn.object self.old.journal)
+            (IsOut self.old.domain self.old.journal self.old.params self.old.kept task.turn) e.0) }
+        ensures ending { IsEnding task.pending → IfErr result (λ e. ¬ IsMemory e.0) }
+        ensures back { IfErr result (λ e. e.1 ≡ task) }
+        ensures journal { OnErr result (self.new.journal ≡ self.old.journal) }
+        ensures params { OnErr result (self.new.params ≡ self.old.params) }
+        ensures kept { OnErr result (self.new.kept ≡ self.old.kept) }
+        ensures lists { OnErr result (AreSameLists
+            (record { taken = M.taken self.old.mail; sent = M.sent self.old.mail; waiting = M.waiting self.old.mail; capacity = M.capacity self.old.mail })
+            (record { taken = M.taken self.new.mail; sent = M.sent self.new.mail; waiting = M.waiting self.new.mail; capacity = M.capacity self.new.mail })) }
+        ensures domain { self.new.domain ≡ self.old.domain }
+        ensures most { self.new.most ≡ self.old.most }
+        ensures serves { M.serves self.new.mail ≡ M.serves self.old.mail }
+    {
+        let o = task.turn().object;
+        if self.ledger.killed(o).is_some() {
+            return Err((ContactError::Dead, task));
+        }
+        if !self.is_out(&task) {
+            return Err((ContactError::Stranger, task));
+        }
+        match self.answer(task) {
+            Ok(reply) => Ok(reply),
+            Err(task) => Err((ContactError::Memory, task)),
+        }
+    }
+
+    /// Takes a task back at any point: the board keeps it. A refused task comes back. Takes no memory. The
+    /// cost is the count of the answers that the task had, and of its object's parameters and arguments.
+    pub fn shelve(&mut self, task: Task) -> Result<(), (ContactError, Task)>
+        requires domain { task.domain ≡ self.old.domain }
+        requires within { task.turn.object < length self.old.domain.objects }
+        ensures alive { OnOk result (says.is_killed task.turn.object self.old.journal ≡ false) }
+        ensures out { OnOk result (IsOut self.old.domain self.old.journal self.old.params self.old.kept task.turn) }
+        ensures kept { OnOk result (self.new ≡ record self.old {
+          kept = slice_set self.old.kept task.turn.object (Some task);
+        }) }
+        ensures refused { IfErr result (λ e. IsContactError (says.is_killed task.turn.object self.old.journal)
+            (IsOut self.old.domain self.old.journal self.old.params self.old.kept task.turn) e.0) }
+        ensures memory { IfErr result (λ e. ¬ IsMemory e.0) }
+        ensures back { IfErr result (λ e. e.1 ≡ task) }
+        ensures same { OnErr result (self.new ≡ self.old) }
+    {
+        let o = task.turn().object;
+        if self.ledger.killed(o).is_some() {
+            return Err((ContactError::Dead, task));
+        }
+        if !self.is_out(&task) {
+            return Err((ContactError::Stranger, task));
+        }
+        keep(&mut self.kept, o, Some(task));
+        Ok(())
     }
 }
