@@ -6,10 +6,11 @@ use Rattle.sml_domain.specs.Lookups.{associated_at}
 use Rattle.smi_entry.specs.declared.entry.Entry.{Entry}
 use Rattle.smi_entry.specs.declared.entry.Answer.{Answer}
 use Rattle.smi_entry.specs.Words.{answer_of, answers_of, open_at, state_of}
+use Rattle.smi_meaning.specs.EntryLaws.{are_clear}
 use Rattle.smi_meaning.specs.Meaning.{Move}
 use Rattle.smi_meaning.specs.Shown.{items_of, replies_to}
 use Rattle.smi_interp.specs.Turn.{TurnView}
-use Rattle.smi_interp.specs.Task.{TaskView}
+use Rattle.smi_interp.specs.Task.{TaskView, objects_waiting}
 use Rattle.smi_board.specs.Boards.{own_at, kept_at}
 
 -- the record is the one that a journal shows for the open action of an object, which no device performs: it runs this
@@ -45,3 +46,8 @@ pub record IsOf (d : Domain) (J : List Entry) (own : List Value) (o : ℕ) (t : 
 pub record EachKept (d : Domain) (J : List Entry) (params : List (List Value)) (kept : List (Option TaskView)) : Type 0 where
   pub count : length kept ≡ length d.objects
   pub each : (o : ℕ) → IfSome (kept_at kept o) (IsOf d J (own_at params o) o)
+
+-- whether the task that is kept of an object can go on: all that it waits to read is clear
+abbrev pub can_go_on : ℕ → List Entry → Option TaskView → Bool
+can_go_on o J None = false
+can_go_on o J (Some t) = are_clear J o (objects_waiting t.pending)

@@ -34,18 +34,20 @@ pub struct Board<M: Mail> {
     pub(crate) params: Vec<Params>,
     /// The task that is kept of each object.
     pub(crate) kept: Vec<Option<Task>>,
+    /// Of the objects below this one no kept task can go on.
+    pub(crate) looked: usize,
     pub(crate) mail: M,
     pub(crate) most: usize,
     pub(crate) alloc: Global,
 }
 
 impl<M: Mail> Model for Board<M> {
-    ghost use Rattle.std.specs.Prelude.{◌≡◌};
+    ghost use Rattle.std.specs.Prelude.{◌≡◌, ◌<◌, ℕ, false};
     ghost use Rattle.std.specs.Arc.{arc_value};
     ghost use Rattle.std.specs.Coded.{codes};
     ghost use Rattle.sml_domain.specs.Codes.{formula_code};
-    ghost use Rattle.smi_board.specs.Boards.{BoardView, EachRuns, IsTied};
-    ghost use Rattle.smi_board.specs.Turns.{EachKept};
+    ghost use Rattle.smi_board.specs.Boards.{BoardView, EachRuns, IsTied, kept_at};
+    ghost use Rattle.smi_board.specs.Turns.{EachKept, can_go_on};
 
     ghost Value = { BoardView M };
 
@@ -65,7 +67,8 @@ impl<M: Mail> Model for Board<M> {
         × EachRuns (arc_value b.domain) b.ledger.journal b.params.items
         × EachKept (arc_value b.domain) b.ledger.journal b.params.items b.kept.items
         × (b.ledger.domain ≡ arc_value b.domain)
-        × (M.domain b.mail ≡ arc_value b.domain) };
+        × (M.domain b.mail ≡ arc_value b.domain)
+        × ((o : ℕ) → o < b.looked → can_go_on o b.ledger.journal (kept_at b.kept.items o) ≡ false) };
 }
 
 // What is kept of a domain before anything is done: its ledger, the parameters of its objects, and no task.
@@ -122,6 +125,7 @@ impl<M: Mail> Board<M> {
                 ledger: books.ledger,
                 params: books.params,
                 kept: books.kept,
+                looked: 0,
                 mail,
                 most,
                 alloc,

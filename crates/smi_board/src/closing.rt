@@ -50,6 +50,7 @@ impl<M: Mail> Board<M> {
         if !self.domain.is_state(o, state) {
             return Err(AnswerError::NotAState);
         }
+        self.looked = 0;
         self.ledger.add_end(o, ActionEnd::State(state));
         Ok(())
     }
@@ -72,6 +73,7 @@ impl<M: Mail> Board<M> {
             return Err(AnswerError::NotOpen);
         }
         let place = self.ledger.journal().len();
+        self.looked = 0;
         self.ledger.add_kill(o, Cause::Fault);
         Ok(place as u64)
     }
@@ -99,6 +101,7 @@ impl<M: Mail> Board<M> {
         };
         let place = self.ledger.journal().len();
         keep(&mut self.kept, o, None);
+        self.looked = 0;
         self.ledger.add_kill(o, Cause::By(session));
         Ok(place as u64)
     }

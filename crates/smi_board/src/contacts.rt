@@ -183,6 +183,7 @@ impl<M: Mail> Board<M> {
         if !self.is_out(&task) {
             return Err((ContactError::Stranger, task));
         }
+        self.looked = 0;
         keep(&mut self.kept, o, Some(task));
         Ok(())
     }

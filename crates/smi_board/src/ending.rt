@@ -43,6 +43,7 @@ impl<M: Mail> Board<M> {
         let o = task.turn().object;
         let state = state_in_end(&self.ledger, o, state);
         put_params(&mut self.params, o, task.into_params());
+        self.looked = 0;
         self.ledger.add_end(o, ActionEnd::State(state));
     }
 }

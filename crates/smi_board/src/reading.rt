@@ -140,6 +140,7 @@ impl<M: Mail> Board<M> {
         };
         let mut task = task;
         task.tell(&sight.states);
+        self.looked = 0;
         self.ledger.add_seen(o, sight.readings, sight.kept);
         Ok(task)
     }
@@ -164,6 +165,7 @@ impl<M: Mail> Board<M> {
         let Ok(()) = add_wait(&mut self.ledger, o) else {
             return Err(task);
         };
+        self.looked = 0;
         keep(&mut self.kept, o, Some(task));
         Ok(())
     }

@@ -252,6 +252,7 @@ impl<M: Mail> Board<M> {
             return Err(task);
         };
         let Sending { list, verdicts } = sending;
+        self.looked = 0;
         let verdicts = post_all(&mut self.mail, &mut self.ledger, o, list, verdicts);
         let mut task = task;
         task.sent(&verdicts);

@@ -138,6 +138,7 @@ impl<M: Mail> Board<M> {
             return Err(StartError::Empty);
         };
         self.mail.in_order(o);
+        self.looked = 0;
         Ok(open(&mut self.ledger, ready, o, envelope))
     }
 }

@@ -1,5 +1,5 @@
 -- The end is legal, and leaves what is meant.
-use Rattle.std.proofs.Common.{◌≡◌, ◌<◌, ◌++◌, ◌∷◌, [], length, ap, subst, sym, ◌∙◌}
+use Rattle.std.proofs.Common.{arith, ◌≡◌, ◌<◌, ◌++◌, ◌∷◌, [], length, ap, subst, sym, ◌∙◌}
 use Rattle.std.specs.Prelude.{slice_set}
 use Rattle.std.specs.Arc.{arc_value}
 use Rattle.smi_entry.specs.declared.entry.ActionEnd.TheVariants.{State}
@@ -35,4 +35,4 @@ invariant_of-self g c =
     c.put_params.ensures ∙ ap (λ x. slice_set i.params.items x c.into_params.result.items) at ∙ ap (λ x. slice_set i.params.items t.turn.object x) c.into_params.ensures.params in
     let keeps = keeps_ended d t J c.add_end.new.self.journal i.params.items c.put_params.new.all.items i.kept.items _ _ _ c.args.state same
         c.self.invariant.0 c.self.invariant.1 c.self.invariant.2 within out c.requires.asks longer left in
-    (keeps.tied, keeps.all.runs, keeps.all.tasks, ap (λ (l : LedgerView). l.domain) c.add_end.ensures ∙ c.self.invariant.3, c.self.invariant.4)
+    (keeps.tied, keeps.all.runs, keeps.all.tasks, ap (λ (l : LedgerView). l.domain) c.add_end.ensures ∙ c.self.invariant.3, c.self.invariant.4, λ x lt. absurd (omega (arith, lt)))

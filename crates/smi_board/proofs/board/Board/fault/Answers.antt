@@ -1,5 +1,5 @@
 -- The journal with the kill is legal, and tied to the mail.
-use Rattle.std.proofs.Common.{rules, ◌≡◌, true, ap, ◌∙◌}
+use Rattle.std.proofs.Common.{arith, rules, ◌≡◌, true, ap, ◌∙◌}
 use Rattle.std.specs.Arc.{arc_value}
 use Rattle.sml_domain.specs.Lookups.{associated_at}
 use Rattle.smi_entry.specs.declared.entry.Cause.TheVariants.{Fault}
@@ -22,4 +22,4 @@ invariant_of-self g c =
     let opened : is_open c.args.o i.ledger.journal ≡ true = search rules in
     let alive = open_is_alive d i.ledger.journal c.args.o c.self.invariant.0.legal opened in
     let keeps = keeps_fault d i.ledger.journal c.add_kill.new.self.journal i.params.items i.kept.items _ _ _ c.args.o Fault c.self.invariant.0 c.self.invariant.1 c.self.invariant.2 device alive (device, opened) (ap (λ (l : LedgerView). l.journal) c.add_kill.ensures) in
-    (keeps.tied, keeps.all.runs, keeps.all.tasks, ap (λ (l : LedgerView). l.domain) c.add_kill.ensures ∙ c.self.invariant.3, c.self.invariant.4)
+    (keeps.tied, keeps.all.runs, keeps.all.tasks, ap (λ (l : LedgerView). l.domain) c.add_kill.ensures ∙ c.self.invariant.3, c.self.invariant.4, λ x lt. absurd (omega (arith, lt)))

@@ -1,5 +1,5 @@
 -- The journal with the kill is legal, and tied to the mail.
-use Rattle.std.proofs.Common.{rules, ◌≡◌, ◌<◌, ◌++◌, ◌∷◌, [], None, length, ap, ◌∙◌}
+use Rattle.std.proofs.Common.{arith, rules, ◌≡◌, ◌<◌, ◌++◌, ◌∷◌, [], None, length, ap, ◌∙◌}
 use Rattle.std.specs.Arc.{arc_value}
 use Rattle.smi_entry.specs.declared.entry.Cause.TheVariants.{By}
 use Rattle.smi_entry.specs.declared.entry.Entry.TheVariants.{Kill}
@@ -17,4 +17,4 @@ invariant_of-self-2 g c =
     let longer : c.add_kill.new.self.journal ≡ i.ledger.journal ++ Kill c.args.o (By c.args.session) ∷ [] =
     ap (λ (l : LedgerView). l.journal) c.add_kill.ensures ∙ ap (λ (l : LedgerView). l.journal ++ Kill c.args.o (By c.args.session) ∷ []) c.make_room.ensures.same in
     let keeps = keeps_kill d i.ledger.journal c.add_kill.new.self.journal i.params.items i.kept.items c.keep.new.kept.items _ _ _ c.args.o (By c.args.session) c.self.invariant.0 c.self.invariant.1 c.self.invariant.2 within alive tt longer c.keep.ensures in
-    (keeps.tied, keeps.all.runs, keeps.all.tasks, ap (λ (l : LedgerView). l.domain) c.add_kill.ensures ∙ ap (λ (l : LedgerView). l.domain) c.make_room.ensures.same ∙ c.self.invariant.3, c.self.invariant.4)
+    (keeps.tied, keeps.all.runs, keeps.all.tasks, ap (λ (l : LedgerView). l.domain) c.add_kill.ensures ∙ ap (λ (l : LedgerView). l.domain) c.make_room.ensures.same ∙ c.self.invariant.3, c.self.invariant.4, λ x lt. absurd (omega (arith, lt)))

@@ -1,5 +1,5 @@
 -- What is read may be read.
-use Rattle.std.proofs.Common.{◌≡◌, ◌<◌, ◌++◌, ◌∷◌, ◌∙◌, [], List, Some, true, false, length, map, ap, subst, sym}
+use Rattle.std.proofs.Common.{arith, ◌≡◌, ◌<◌, ◌++◌, ◌∷◌, ◌∙◌, [], List, Some, true, false, length, map, ap, subst, sym}
 use Rattle.std.specs.Prelude.{slice_set}
 use Rattle.std.specs.Arc.{arc_value}
 use Rattle.smi_entry.specs.declared.entry.Entry.{Entry}
@@ -33,7 +33,7 @@ invariant_of-self-2 g c =
     ∙ ap (λ x. J ++ Seen x c.in-Ok.sight.readings ∷ []) at ∙ ap (λ rs. J ++ Seen t.turn.object rs ∷ []) read in
     let clear : are_clear J t.turn.object objects ≡ true = subst (λ (b : BoardView _). are_clear b.journal t.turn.object objects ≡ true) view c.requires.clear in
     let keeps = keeps_seen d t J c.add_seen.new.self.journal i.params.items i.kept.items _ _ _ objects same c.self.invariant.0 c.self.invariant.1 c.self.invariant.2 within out c.requires.asks clear longer in
-    (keeps.tied, keeps.all.runs, keeps.all.tasks, ap (λ (l : LedgerView). l.domain) c.add_seen.ensures ∙ c.in-Ok.ensures.books ∙ c.self.invariant.3, c.self.invariant.4)
+    (keeps.tied, keeps.all.runs, keeps.all.tasks, ap (λ (l : LedgerView). l.domain) c.add_seen.ensures ∙ c.in-Ok.ensures.books ∙ c.self.invariant.3, c.self.invariant.4, λ x lt. absurd (omega (arith, lt)))
 
 pub returns-clause-seen : goal.returns-clause-seen
 returns-clause-seen g c =

@@ -1,5 +1,5 @@
 -- The posts can be sent, and leave journal and mail tied.
-use Rattle.std.proofs.Common.{◌≡◌, ◌<◌, ◌∙◌, ℕ, List, All, Some, true, length, map, ap, subst, sym}
+use Rattle.std.proofs.Common.{arith, ◌≡◌, ◌<◌, ◌∙◌, ℕ, List, All, Some, true, length, map, ap, subst, sym}
 use Rattle.std.specs.Prelude.{IsSomeAnd}
 use Rattle.std.specs.Arc.{arc_value}
 use Rattle.sml_domain.specs.Domain.{Domain}
@@ -127,7 +127,7 @@ invariant_of-self-2 g c =
     let alike = c.post_all-verdicts.ensures.serves ∙ c.in-Ok.ensures.serves in
     let keeps = keeps_sent d t i.ledger.journal J2 i.params.items i.kept.items (g.M.Mail.serves i.mail) before after posts vs same c.self.invariant.0 c.self.invariant.1 c.self.invariant.2 within out c.requires.asks judged in
     (subst (λ f. IsTied d J2 i.params.items f after.taken after.sent) (sym alike) keeps.tied, keeps.all.runs, keeps.all.tasks,
-    c.post_all-verdicts.ensures.books ∙ c.in-Ok.ensures.books ∙ c.self.invariant.3, c.post_all-verdicts.ensures.domain ∙ c.in-Ok.ensures.domain ∙ c.self.invariant.4)
+    c.post_all-verdicts.ensures.books ∙ c.in-Ok.ensures.books ∙ c.self.invariant.3, c.post_all-verdicts.ensures.domain ∙ c.in-Ok.ensures.domain ∙ c.self.invariant.4, λ x lt. absurd (omega (arith, lt)))
 
 pub returns-clause-sent : goal.returns-clause-sent
 returns-clause-sent g c =

@@ -48,7 +48,7 @@ invariant_of-self-2 g c =
     let shut : is_open o i.ledger.journal ≡ false = search rules in
     let closed = none_open o i.ledger.journal shut in
     let keeps = keeps_start d i.ledger.journal c.open.new.ledger.journal i.params.items i.kept.items _ _ _ _ _ _ o l own c.open.result c.self.invariant.0 c.self.invariant.1 c.self.invariant.2 took alive closed gives longer in
-    (keeps.tied, keeps.all.runs, keeps.all.tasks, c.open.ensures.domain ∙ hd, c.in-Some.ensures.domain ∙ c.self.invariant.4)
+    (keeps.tied, keeps.all.runs, keeps.all.tasks, c.open.ensures.domain ∙ hd, c.in-Some.ensures.domain ∙ c.self.invariant.4, λ x lt. absurd (omega (arith, lt)))
 
 pub returns-clause-started : goal.returns-clause-started
 returns-clause-started g c =

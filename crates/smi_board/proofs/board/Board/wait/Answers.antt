@@ -1,5 +1,5 @@
 -- A wait may be added, and the task be kept.
-use Rattle.std.proofs.Common.{◌≡◌, ◌<◌, ◌++◌, ◌∷◌, ◌∙◌, [], List, Some, true, false, length, map, ap, subst, sym}
+use Rattle.std.proofs.Common.{arith, ◌≡◌, ◌<◌, ◌++◌, ◌∷◌, ◌∙◌, [], List, Some, true, false, length, map, ap, subst, sym}
 use Rattle.std.specs.Prelude.{slice_set}
 use Rattle.std.specs.Arc.{arc_value}
 use Rattle.smi_entry.specs.declared.entry.Entry.{Entry}
@@ -30,4 +30,4 @@ invariant_of-self-2 g c =
     let longer : c.add_wait.new.ledger.journal ≡ waited t.turn.object J = c.in-Ok.ensures.ok ∙ ap (λ x. waited x J) at in
     let put : c.keep.new.kept.items ≡ slice_set i.kept.items t.turn.object (Some t) = c.keep.ensures ∙ ap (λ x. slice_set i.kept.items x (Some t)) at in
     let keeps = keeps_waited d t J c.add_wait.new.ledger.journal i.params.items i.kept.items c.keep.new.kept.items _ _ _ objects same c.self.invariant.0 c.self.invariant.1 c.self.invariant.2 within out c.requires.asks held longer put in
-    (keeps.tied, keeps.all.runs, keeps.all.tasks, c.in-Ok.ensures.books ∙ c.self.invariant.3, c.self.invariant.4)
+    (keeps.tied, keeps.all.runs, keeps.all.tasks, c.in-Ok.ensures.books ∙ c.self.invariant.3, c.self.invariant.4, λ x lt. absurd (omega (arith, lt)))
