@@ -278,3 +278,26 @@ keeps_waited d t J J2 params kept kept2 serves taken sent objects same tied runs
     subst (λ k. Keeps d J2 params k serves taken sent) (sym put) (subst (λ K. Keeps d K params (slice_set kept t.turn.object (Some t)) serves taken sent) (sym longer)
     (subst (λ x. Keeps x (waited t.turn.object J) params (slice_set kept t.turn.object (Some t)) serves taken sent) same
     (kept_here t J params kept serves taken sent objects (has_here d t J params kept serves taken sent same tied runs tasks within out) l held)))
+
+-- what a task that is kept waits to read is there
+pub kept_readable : (d : Domain) (o : ℕ) (t : TaskView) (J : List Entry) (params : List (List Value)) (serves : Sender → Bool) (taken : ℕ → List Request) (sent : Sender → ℕ → List Request) (objects : List ℕ)
+    → IsSound d → IsTied d J params serves taken sent → EachRuns d J params → o < length d.objects → IsOf d J (own_at params o) o t → LeftAsks t (Read objects) → All (IsObject d) objects
+kept_readable d o t J params serves taken sent objects sound tied runs within is l =
+    subst (λ x. All (IsObject x) objects) is.domain (here (subst (λ x. IsSound x) (sym is.domain) sound) (subst (λ x. IsTied x J params serves taken sent) (sym is.domain) tied)
+    (subst (λ x. EachRuns x J params) (sym is.domain) runs) (subst (λ y. y < length t.domain.objects) (sym is.object) (subst (λ x. o < length x.objects) (sym is.domain) within))
+    (subst (λ x. IsItsTurn x J (own_at params t.turn.object) t.turn) (sym is.domain) (subst (λ y. IsItsTurn d J (own_at params y) t.turn) (sym is.object) is.turn)))
+  where
+    here : IsSound t.domain → IsTied t.domain J params serves taken sent → EachRuns t.domain J params → t.turn.object < length t.domain.objects → IsItsTurn t.domain J (own_at params t.turn.object) t.turn → All (IsObject t.domain) objects
+    here sound tied runs lt turn =
+        let o = t.turn.object in
+        readable J t objects sound tied.legal (is_shown J (own_at params o) t l.left (tied.own o lt) (runs o (ap is_some turn.opened)) turn l.leads) l
+
+-- a board that keeps the task of an object no more
+pub task_let_go : (d : Domain) (J : List Entry) (params : List (List Value)) (kept : List (Option TaskView)) (o : ℕ) → o < length d.objects → EachKept d J params kept → EachKept d J params (slice_set kept o None)
+task_let_go d J params kept o lt h = record {
+  count = length-set kept o None ∙ h.count;
+  each = λ x. ⊎_elim
+      (λ (at : x ≡ o). subst (λ k. IfSome k (IsOf d J (own_at params x) x)) (sym (ap (kept_at (slice_set kept o None)) at ∙ get_or-set_same kept o None None (subst (λ n. o < n) (sym h.count) lt))) tt)
+      (λ apart. subst (λ k. IfSome k (IsOf d J (own_at params x) x)) (sym (get_or-set_other kept o x None None apart)) (h.each x))
+      (cases_eq x o);
+}

@@ -10,9 +10,12 @@ use Rattle.smi_meaning.specs.Meaning.{state_left}
 use Rattle.smi_interp.specs.declared.contact.Contact.{Contact}
 use Rattle.smi_interp.specs.declared.contact.Contact.TheVariants.{Local, Send, Read, End}
 use Rattle.smi_interp.specs.Task.{TaskView, outcome_of, with_states, with_verdicts}
-use Rattle.smi_board.specs.Boards.{BoardView}
+use Rattle.smi_board.specs.Boards.{BoardView, kept_at}
 use Rattle.smi_board.specs.Posting.{Lists, AreJudged}
 use Rattle.smi_board.specs.Reading.{states_now, waited}
+use Rattle.smi_board.specs.Turns.{can_go_on}
+use Rattle.smi_board.specs.declared.resuming.Work.{Work}
+use Rattle.smi_board.specs.declared.resuming.Work.TheVariants.{Resume}
 use Rattle.smi_board.specs.declared.contacts.Reply.{Reply}
 use Rattle.smi_board.specs.declared.contacts.Reply.TheVariants as reply
 use Rattle.smi_board.specs.declared.errors.ContactError.{ContactError}
@@ -76,3 +79,14 @@ Replies t (Some (Read objects)) b m b2 m2 r =
     MatchBool (are_clear b.journal t.turn.object objects) (Sees t objects b b2 r) (Waits t b b2 r)
 Replies t (Some (Local p v)) b m b2 m2 r = ⊥
 Replies t None b m b2 m2 r = ⊥
+
+-- ---- what goes on
+
+-- the task that was kept of an object and can go on is handed out, and kept no more
+pub record Resumes {M : Type 0} (b b2 : BoardView M) (w : Work) : Type 0 where
+  pub object : ℕ
+  pub task : TaskView
+  pub resumed : w ≡ Resume task
+  pub was_kept : kept_at b.kept object ≡ Some task
+  pub goes : can_go_on object b.journal (Some task) ≡ true
+  pub after : b2 ≡ record b { kept = slice_set b.kept object None }

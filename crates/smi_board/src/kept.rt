@@ -26,3 +26,12 @@ pub(crate) fn keep(kept: &mut Vec<Option<Task>>, o: ObjId, task: Option<Task>)
 {
     kept[o.get()] = task;
 }
+
+// The task that is kept of an object, which is kept no more.
+pub(crate) fn let_go(kept: &mut Vec<Option<Task>>, o: ObjId) -> Option<Task>
+    requires { o < length kept.old.items }
+    ensures task { result ≡ kept_at kept.old.items o }
+    ensures none { kept.new.items ≡ slice_set kept.old.items o None }
+{
+    kept[o.get()].take()
+}

@@ -10,6 +10,7 @@ mod kept;
 mod params;
 mod reading;
 mod request;
+pub mod resuming;
 mod sending;
 pub mod starting;
 mod turns;
