@@ -31,6 +31,7 @@ use Rattle.smi_meaning.proofs.Leaving.{others_change_nothing, skips_change_nothi
 use Rattle.smi_meaning.proofs.Tested.{arguments_are_tested}
 use Rattle.smi_mail.specs.Mails.{Grows, Same, is_sender}
 use Rattle.smi_board.specs.Boards.{IsTied, IsLed, EachRuns, own_at, kept_at}
+use Rattle.smi_board.specs.Contacts.{StartsTaskOf}
 use Rattle.smi_board.specs.Turns.{IsOf, EachKept}
 use Rattle.smi_board.proofs.Others.{runs_in, KeepsBut, KeepsAll, and_one, but_cleared, but_more, but_one}
 use Rattle.smi_board.specs.declared.starting.Started.{Started}
@@ -345,3 +346,14 @@ ready_is d d2 o own r is same = subst (λ y. IfSome y (λ (x : ReadyView). (x.do
     by_case : (b : Bool) → IfSome (if b then None else Some (record { domain = d; object = o; params = own })) (λ (x : ReadyView). (x.domain ≡ d2) × (x.object ≡ o))
     by_case true = tt
     by_case false = (sym same, refl)
+
+-- ---- what was started
+
+-- what a start gives is of its domain and its object
+pub started_is_of : (d : Domain) (o : ℕ) (J : List Entry) (own : List Value) (l : Letter) → StartsTaskOf d o (started_of d o J own l)
+started_is_of d o J own l = go (is_declared d o J l.action) (associated_at d o)
+  where
+    go : (b c : Bool) → StartsTaskOf d o (if b then (if c then Perform l.action l.args else Run (begun d o (state_of d o J) l own)) else Skipped)
+    go true true = tt
+    go true false = (refl, refl)
+    go false c = tt

@@ -1,5 +1,8 @@
 -- What a board answers to a task that is handed in, and what it does.
-use Rattle.std.specs.Prelude.{◌≡◌, ◌++◌, ◌∷◌, ℕ, Bool, true, false, List, [], Option, Some, None, map, slice_set, MatchBool}
+use Rattle.std.specs.Prelude.{◌≡◌, ◌<◌, ◌++◌, ◌∷◌, ℕ, Bool, true, false, List, [], Option, Some, None, length, map, slice_set, MatchBool}
+use Rattle.sml_domain.specs.Domain.{Domain}
+use Rattle.smi_board.specs.declared.starting.Started.{Started}
+use Rattle.smi_board.specs.declared.starting.Started.TheVariants.{Run, Perform, Skipped}
 use Rattle.smi_entry.specs.declared.entry.ActionEnd.TheVariants as ends
 use Rattle.smi_entry.specs.declared.entry.Entry.TheVariants as entry
 use Rattle.smi_entry.specs.declared.entry.Verdict.{Verdict}
@@ -90,3 +93,26 @@ pub record Resumes {M : Type 0} (b b2 : BoardView M) (w : Work) : Type 0 where
   pub was_kept : kept_at b.kept object ≡ Some task
   pub goes : can_go_on object b.journal (Some task) ≡ true
   pub after : b2 ≡ record b { kept = slice_set b.kept object None }
+
+-- ---- tasks stay those of a domain and an object
+
+-- the task is one of the domain's object
+abbrev pub IsTaskOf : Domain → ℕ → TaskView → Type 0
+IsTaskOf d o t = (t.domain ≡ d) × (t.turn.object ≡ o)
+
+-- so is a task that was started
+abbrev pub StartsTaskOf : Domain → ℕ → Started → Type 0
+StartsTaskOf d o (Run t) = IsTaskOf d o t
+StartsTaskOf d o (Perform a args) = Unit {0}
+StartsTaskOf d o Skipped = Unit {0}
+
+-- one that comes back
+abbrev pub RepliesTaskOf : Domain → ℕ → Reply → Type 0
+RepliesTaskOf d o (reply.Posted t) = IsTaskOf d o t
+RepliesTaskOf d o (reply.Seen t) = IsTaskOf d o t
+RepliesTaskOf d o reply.Waiting = Unit {0}
+RepliesTaskOf d o reply.Ended = Unit {0}
+
+-- and one that goes on
+abbrev pub ResumesTaskOf : Domain → Work → Type 0
+ResumesTaskOf d (Resume t) = (t.domain ≡ d) × (t.turn.object < length d.objects)

@@ -4,7 +4,7 @@ ghost use Rattle.smi_entry.specs.Words as says;
 ghost use Rattle.smi_meaning.specs.EntryLaws as laws;
 ghost use Rattle.smi_interp.specs.declared.contact.Contact.TheVariants as contact;
 ghost use Rattle.smi_interp.specs.Task.{LeftAsks};
-ghost use Rattle.smi_board.specs.Contacts.{IsContactError, IsEnding, IsMemory, Replies, Sees, Waits};
+ghost use Rattle.smi_board.specs.Contacts.{IsContactError, IsEnding, IsMemory, Replies, RepliesTaskOf, Sees, Waits};
 ghost use Rattle.smi_board.specs.Posting.{AreSameLists};
 ghost use Rattle.smi_board.specs.Turns.{IsOut};
 
@@ -51,6 +51,7 @@ impl<M: Mail> Board<M> {
         requires asks { LeftAsks task (contact.Read objects.now) }
         ensures replies { IfOk result (λ r. MatchBool (laws.are_clear self.old.journal task.turn.object objects.now)
             (Sees task objects.now self.old self.new r) (Waits task self.old self.new r)) }
+        ensures task { IfOk result (RepliesTaskOf task.domain task.turn.object) }
         ensures back { IfErr result (λ t. t ≡ task) }
         ensures same { OnErr result (self.new ≡ self.old) }
     {
@@ -79,6 +80,7 @@ impl<M: Mail> Board<M> {
             (record { taken = M.taken self.old.mail; sent = M.sent self.old.mail; waiting = M.waiting self.old.mail; capacity = M.capacity self.old.mail })
             self.new
             (record { taken = M.taken self.new.mail; sent = M.sent self.new.mail; waiting = M.waiting self.new.mail; capacity = M.capacity self.new.mail })) }
+        ensures task { IfOk result (RepliesTaskOf task.domain task.turn.object) }
         ensures back { IfErr result (λ t. t ≡ task) }
         ensures ending { IsEnding task.pending → IsOk result }
         ensures journal { OnErr result (self.new.journal ≡ self.old.journal) }
@@ -133,6 +135,7 @@ impl<M: Mail> Board<M> {
             (record { taken = M.taken self.old.mail; sent = M.sent self.old.mail; waiting = M.waiting self.old.mail; capacity = M.capacity self.old.mail })
             self.new
             (record { taken = M.taken self.new.mail; sent = M.sent self.new.mail; waiting = M.waiting self.new.mail; capacity = M.capacity self.new.mail })) }
+        ensures task { IfOk result (RepliesTaskOf task.domain task.turn.object) }
         ensures refused { IfErr result (λ e. IsContactError (says.is_killed task.turn.object self.old.journal)
             (IsOut self.old.domain self.old.journal self.old.params self.old.kept task.turn) e.0) }
         ensures ending { IsEnding task.pending → IfErr result (λ e. ¬ IsMemory e.0) }

@@ -1,7 +1,7 @@
 //! What can go on.
 ghost use Rattle.std.specs.Prelude.{◌≡◌, ◌<◌, ℕ, IfNone, IfSome, None, false, length, slice_set, true};
 ghost use Rattle.smi_board.specs.Boards.{kept_at};
-ghost use Rattle.smi_board.specs.Contacts.{Resumes};
+ghost use Rattle.smi_board.specs.Contacts.{Resumes, ResumesTaskOf};
 ghost use Rattle.smi_board.specs.Turns.{can_go_on};
 
 use crate::board::Board;
@@ -58,6 +58,7 @@ impl<M: Mail> Board<M> {
     /// earlier call looked at since the board last changed: where nothing changed it is constant.
     pub fn next(&mut self) -> Option<Work>
         ensures resumes { IfSome result (Resumes self.old self.new) }
+        ensures task { IfSome result (ResumesTaskOf self.old.domain) }
         ensures none { IfNone result ((o : ℕ) → can_go_on o self.old.journal (kept_at self.old.kept o) ≡ false) }
         ensures same { IfNone result (self.new ≡ self.old) }
     {

@@ -9,6 +9,7 @@ ghost use Rattle.smi_entry.specs.Words as says;
 ghost use Rattle.smi_ledger.specs.Tables.{IsKnown};
 ghost use Rattle.smi_mail.specs.Mails.{Same};
 ghost use Rattle.smi_board.specs.Boards.{own_at};
+ghost use Rattle.smi_board.specs.Contacts.{StartsTaskOf};
 ghost use Rattle.smi_board.specs.Refusals.{IsStartError, start_refusal};
 ghost use Rattle.smi_board.specs.Starts.{Starts, entries_of, opened_by, ready_for, started_of};
 
@@ -103,6 +104,7 @@ impl<M: Mail> Board<M> {
         ensures free { OnOk result (start_refusal self.old.most self.old.journal o ≡ None) }
         ensures started { IfOk result (Starts self.old.domain o (own_at self.old.params o)
             self.old.journal self.new.journal (M.waiting self.old.mail o) (M.waiting self.new.mail o)) }
+        ensures task { IfOk result (StartsTaskOf self.old.domain o) }
         ensures refused { IfErr result (IsStartError (start_refusal self.old.most self.old.journal o)) }
         ensures same { OnErr result (self.new ≡ self.old) }
         // Nothing waits: all was started of whom the mail serves.

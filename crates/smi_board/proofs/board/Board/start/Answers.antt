@@ -9,7 +9,8 @@ use Rattle.smi_ledger.specs.Views.{LedgerView}
 use Rattle.smi_mail.specs.Mails.{is_sender}
 use Rattle.smi_board.specs.Boards.{BoardView, own_at}
 use Rattle.smi_board.specs.Starts.{Starts, entries_of, ready_for, started_of}
-use Rattle.smi_board.proofs.Ties.{Took, keeps_start, none_open, ready_is}
+use Rattle.smi_board.specs.Contacts.{StartsTaskOf}
+use Rattle.smi_board.proofs.Ties.{Took, keeps_start, none_open, ready_is, started_is_of}
 use Rattle.smi_board.proofs.board.Board.start.Goals as goal
 
 pub open-requires-clause-ready : goal.open-requires-clause-ready
@@ -73,3 +74,17 @@ returns-clause-started g c =
       number = c.in-Some.ensures.number ∙ ap (λ rs. length (from_sender l.sender rs)) (c.self.invariant.0.taken_is o);
       first = c.in-Some.ensures.first;
     })
+
+pub returns-clause-task : goal.returns-clause-task
+returns-clause-task g c =
+    let i = c.self.inside in
+    let d = arc_value i.domain in
+    let o = c.args.o in
+    let l = c.in-Some.envelope in
+    let own = c.values-own.result.now in
+    let hd : c.hold.new.self.domain ≡ d = ap (λ (v : LedgerView). v.domain) c.in-Ok-hold.ensures.ok.1 ∙ c.self.invariant.3 in
+    let hj : c.hold.new.self.journal ≡ i.ledger.journal = ap (λ (v : LedgerView). v.journal) c.in-Ok-hold.ensures.ok.1 in
+    let ready : c.in-Ok.ready ≡ ready_for d o own = search rules in
+    let gives : c.open.result ≡ started_of d o i.ledger.journal own l =
+    c.open.ensures.gives own (ready ∙ ap (λ x. ready_for x o own) (sym hd)) ∙ ap (λ x. started_of x o c.hold.new.self.journal own l) hd ∙ ap (λ K. started_of d o K own l) hj in
+    subst (λ (b : BoardView _). StartsTaskOf b.domain o c.open.result) c.self.view_is (subst (StartsTaskOf d o) (sym gives) (started_is_of d o i.ledger.journal own l))
