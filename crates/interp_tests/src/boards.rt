@@ -5,6 +5,7 @@ ghost use Rattle.smi_entry.specs.declared.entry.Sender.{Sender};
 ghost use Rattle.smi_mail.specs.Boxes.{sent_at, taken_at};
 ghost use Rattle.smi_board.specs.Refusals.{is_operator};
 
+use crate::acts::{Made, acts, rests, resumes};
 use crate::domain_of::domain_of;
 use crate::lines::{Asked, Line, are_lines, is_letter};
 use crate::walk::{Plain, are_values, values_of};
@@ -46,6 +47,12 @@ pub enum Call {
     Fault(Result<u64, AnswerError>),
     /// A kill by a session.
     Kill(u8, Result<u64, KillError>),
+    /// The start of the next request, whose task makes these moves.
+    Act(&'static [Made]),
+    /// A task of the object that was kept goes on, and makes these moves.
+    Resume(&'static [Made]),
+    /// No task goes on.
+    Rest,
     /// The object's state, its parameters, and the place of its kill.
     Look(usize, &'static [Plain], Option<u64>),
 }
@@ -61,8 +68,8 @@ pub struct Run {
     pub journal: &'static [Line],
 }
 
-// The envelope of a request, whose sender is an operator.
-fn envelope_of(alloc: Global, asked: Asked) -> Option<Envelope>
+/// The envelope of a request, whose sender is an operator.
+pub fn envelope_of(alloc: Global, asked: Asked) -> Option<Envelope>
     ensures { IfSome result (λ e. is_operator e.sender ≡ true) }
 {
     let sender = Sender::Operator(SessionId::new(asked.session)?);
@@ -179,6 +186,9 @@ fn answers(
         Call::Answer(state, told) => board.answered(o, StateId::new(state)) == told,
         Call::Fault(told) => board.fault(o) == told,
         Call::Kill(session, told) => kills(board, o, session, told),
+        Call::Act(moves) => acts(board, o, moves),
+        Call::Resume(moves) => resumes(board, o, moves),
+        Call::Rest => rests(board),
         Call::Look(state, params, dead_at) => is_like(board, o, state, params, dead_at),
     }
 }
@@ -215,8 +225,8 @@ fn mail_of(alloc: Global, domain: &Arc<Domain>, capacity: usize) -> Option<Plain
     PlainMail::new(alloc, shared, capacity).ok()
 }
 
-// The board of a run, on which nothing was done.
-fn board_of(alloc: Global, domain: &Arc<Domain>, run: Run) -> Option<Board<PlainMail>>
+/// The board of a run, on which nothing was done.
+pub fn board_of(alloc: Global, domain: &Arc<Domain>, run: Run) -> Option<Board<PlainMail>>
     ensures { IfSome result (λ b. b.domain ≡ arc_value domain.now) }
 {
     let mail = mail_of(alloc, domain, run.capacity)?;

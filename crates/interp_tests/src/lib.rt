@@ -2,6 +2,8 @@
 #![tactic(auto)]
 
 #[cfg(test)]
+mod acts;
+#[cfg(test)]
 mod boards;
 #[cfg(test)]
 mod counters;
@@ -14,11 +16,17 @@ mod long_blocks;
 #[cfg(test)]
 mod memory;
 #[cfg(test)]
+mod sends;
+#[cfg(test)]
+mod strangers;
+#[cfg(test)]
 mod supplies;
 #[cfg(test)]
 mod switches;
 #[cfg(test)]
 mod tests_of_boards;
+#[cfg(test)]
+mod tests_of_contacts;
 #[cfg(test)]
 mod tests_of_walks;
 #[cfg(test)]

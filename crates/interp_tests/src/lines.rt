@@ -1,7 +1,8 @@
 //! Entries of journals, by number.
 
 use crate::walk::{Plain, are_values};
-use smi_entry::entry::{ActionEnd, Cause, Entry, Sender};
+use smi_entry::args::Reading;
+use smi_entry::entry::{ActionEnd, Cause, Entry, Sender, Verdict};
 use smi_entry::letter::Letter;
 use sml_domain::ids::StateId;
 
@@ -13,11 +14,22 @@ pub struct Asked {
     pub given: &'static [Plain],
 }
 
-/// An entry that no contact of a task makes. All go by number.
+/// A post: its target, its verdict, its action and its arguments.
+pub type Post = (usize, Verdict, usize, &'static [Plain]);
+
+/// An entry. All go by number.
 #[derive(Clone, Copy)]
 pub enum Line {
     /// An object starts a request, under its number.
     Start(usize, Asked, u64),
+    /// An object starts a request of another object, under its number.
+    Take(usize, usize, u64, usize, &'static [Plain]),
+    /// An object posts.
+    Post(usize, Post),
+    /// An object waits.
+    Wait(usize),
+    /// An object reads others, each in a state.
+    Seen(usize, &'static [(usize, usize)]),
     /// An object's action ends in a state.
     End(usize, usize),
     /// An object's action is skipped.
@@ -63,6 +75,68 @@ fn is_start(entry: &Entry, o: usize, asked: Asked, told: u64) -> bool {
     }
 }
 
+// Whether an entry is the start of another object's request at an object, under the number.
+fn is_take(entry: &Entry, o: usize, from: usize, told: u64, request: (usize, &[Plain])) -> bool {
+    match entry {
+        Entry::Start {
+            object,
+            sender: Sender::Object(by),
+            number,
+            action,
+            args,
+        } => {
+            object.get() == o
+                && by.get() == from
+                && *number == told
+                && action.get() == request.0
+                && are_values(args.values(), request.1)
+        }
+        _ => false,
+    }
+}
+
+fn is_post(entry: &Entry, o: usize, post: Post) -> bool {
+    let (to, told, wanted, given) = post;
+    match entry {
+        Entry::Post {
+            sender,
+            target,
+            verdict,
+            action,
+            args,
+        } => {
+            sender.get() == o
+                && target.get() == to
+                && *verdict == told
+                && action.get() == wanted
+                && are_values(args.values(), given)
+        }
+        _ => false,
+    }
+}
+
+fn is_wait(entry: &Entry, o: usize) -> bool {
+    match entry {
+        Entry::Wait { object } => object.get() == o,
+        _ => false,
+    }
+}
+
+fn are_read(readings: &[Reading], states: &[(usize, usize)]) -> bool {
+    readings.len() == states.len()
+        && readings
+            .iter()
+            .zip(states.iter())
+            .all(|(x, y)| x.object.get() == y.0 && x.state.get() == y.1)
+}
+
+fn is_seen(entry: &Entry, o: usize, states: &[(usize, usize)]) -> bool {
+    match entry {
+        Entry::Seen { object, readings } => object.get() == o && are_read(readings.list(), states),
+        _ => false,
+    }
+}
+
 fn is_end(entry: &Entry, o: usize, how: ActionEnd) -> bool {
     match entry {
         Entry::End { object, result } => object.get() == o && *result == how,
@@ -93,6 +167,12 @@ fn is_fault(entry: &Entry, o: usize) -> bool {
 fn is_line(entry: &Entry, line: Line) -> bool {
     match line {
         Line::Start(o, asked, number) => is_start(entry, o, asked, number),
+        Line::Take(o, from, number, action, given) => {
+            is_take(entry, o, from, number, (action, given))
+        }
+        Line::Post(o, post) => is_post(entry, o, post),
+        Line::Wait(o) => is_wait(entry, o),
+        Line::Seen(o, states) => is_seen(entry, o, states),
         Line::End(o, state) => is_end(entry, o, ActionEnd::State(StateId::new(state))),
         Line::Skip(o) => is_end(entry, o, ActionEnd::Skipped),
         Line::Kill(o, session) => is_kill(entry, o, session),

@@ -124,3 +124,72 @@ class: LAMP /associated
 object: X is_of_class SWITCH
 object: L is_of_class LAMP
 ";
+
+/// Two objects that wait for each other.
+pub const PAIR: &[u8] = b"class: LEFT
+  state: S
+    action: GO
+      if ( B in_state S ) then
+        move_to S
+      endif
+class: RIGHT
+  state: S
+    action: GO
+      if ( A in_state S ) then
+        move_to S
+      endif
+object: A is_of_class LEFT
+object: B is_of_class RIGHT
+";
+
+/// An object that asks for the same lamp twice.
+pub const TWICE: &[u8] = b"class: LAMP /associated
+  state: OFF /initial_state
+    action: LIGHT
+  state: ON
+class: ASKER
+  state: S
+    action: GO
+      do LIGHT L
+      if ( L in_state ON ) then
+        do LIGHT L
+      endif
+      if ( L in_state ON ) then
+        move_to T
+      endif
+  state: T
+object: L is_of_class LAMP
+object: X is_of_class ASKER
+";
+
+/// An object that sends to itself.
+pub const ECHO: &[u8] = b"class: ECHO
+  state: S
+    action: GO
+      do GO X
+      do GO X
+object: X is_of_class ECHO
+";
+
+/// Ten lamps, and an object that lights them all.
+pub const MANY: &[u8] = b"class: LAMP /associated
+  state: OFF /initial_state
+    action: LIGHT
+  state: ON
+class: LIGHTER
+  state: S
+    action: GO
+      do LIGHT all_in ALL
+object: L0 is_of_class LAMP
+object: L1 is_of_class LAMP
+object: L2 is_of_class LAMP
+object: L3 is_of_class LAMP
+object: L4 is_of_class LAMP
+object: L5 is_of_class LAMP
+object: L6 is_of_class LAMP
+object: L7 is_of_class LAMP
+object: L8 is_of_class LAMP
+object: L9 is_of_class LAMP
+object: X is_of_class LIGHTER
+objectset: ALL { L0, L1, L2, L3, L4, L5, L6, L7, L8, L9 }
+";

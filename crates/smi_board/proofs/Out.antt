@@ -90,10 +90,10 @@ params_ended : (d : Domain) (J : List Entry) (params : List (List Value)) (own l
     → (x : ℕ) → ParamsAfter d x J (own_at params x) → ParamsAfter d x (J ++ Ended o (State s) ∷ []) (own_at (slice_set params o left) x)
 params_ended d J params own left o s logical lt is leaves x after = ⊎_elim
     (λ (at : x ≡ o). subst (λ y. ParamsAfter d y (J ++ Ended o (State s) ∷ []) (own_at (slice_set params o left) y)) (sym at)
-        (subst (ParamsAfter d o (J ++ Ended o (State s) ∷ [])) (sym (get_or-set_same params o left [] lt))
-        (params_more d o J (Ended o (State s)) own left (subst (ParamsAfter d o J) (sym is) (subst (λ y. ParamsAfter d y J (own_at params y)) at after)) next)))
+    (subst (ParamsAfter d o (J ++ Ended o (State s) ∷ [])) (sym (get_or-set_same params o left [] lt))
+    (params_more d o J (Ended o (State s)) own left (subst (ParamsAfter d o J) (sym is) (subst (λ y. ParamsAfter d y J (own_at params y)) at after)) next)))
     (λ apart. subst (ParamsAfter d x (J ++ Ended o (State s) ∷ [])) (sym (get_or-set_other params o x left [] apart))
-        (others_change_nothing d J x (Ended o (State s)) (own_at params x) (ne_eqb x o apart) after).1)
+    (others_change_nothing d J x (Ended o (State s)) (own_at params x) (ne_eqb x o apart) after).1)
     (cases_eq x o)
   where
     next : MatchBool (is_logical_at d o o) (LeavesParams d o J own left) (left ≡ own)
@@ -113,7 +113,7 @@ ended_here t J params kept serves taken sent s h runs tasks lt out l =
     let shown = is_shown J own t l.left (h.own o lt) (runs o (ap is_some out.turn.opened)) out.turn l.leads in
     let ends = block_ends J t s shown l in
     let quiet = tied_next d J params (slice_set params o t.params) serves taken sent e h (subst (λ b. MatchBool b (DeviceEnds d J o r) (BlockEnds d J o r)) (sym out.turn.logical) ends.0)
-        (λ x. none_of (x == o)) (λ a x. none_of (a == o)) (length-set params o t.params) (λ x after. params_ended d J params t.turn.start t.params o r out.turn.logical (subst (λ n. o < n) (sym h.count) lt) out.turn.params ends.1 x after) in
+    (λ x. none_of (x == o)) (λ a x. none_of (a == o)) (length-set params o t.params) (λ x after. params_ended d J params t.turn.start t.params o r out.turn.logical (subst (λ n. o < n) (sym h.count) lt) out.turn.params ends.1 x after) in
     record {
       tied = quiet;
       all = after_end o d J (State r) (slice_set params o t.params) kept (but_params o d J params t.params kept (but_one o d J params kept runs tasks out.none));

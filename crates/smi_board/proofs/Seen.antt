@@ -170,8 +170,8 @@ task_kept d J params kept t same lt h turn = record {
   count = length-set kept t.turn.object (Some t) ∙ h.count;
   each = λ x. ⊎_elim
       (λ (at : x ≡ t.turn.object). subst (λ y. IfSome (kept_at (slice_set kept t.turn.object (Some t)) y) (IsOf d J (own_at params y) y)) (sym at)
-          (subst (λ k. IfSome k (IsOf d J (own_at params t.turn.object) t.turn.object)) (sym (get_or-set_same kept t.turn.object (Some t) None (subst (λ n. t.turn.object < n) (sym h.count) lt)))
-          (record { domain = same; object = refl; turn = turn })))
+      (subst (λ k. IfSome k (IsOf d J (own_at params t.turn.object) t.turn.object)) (sym (get_or-set_same kept t.turn.object (Some t) None (subst (λ n. t.turn.object < n) (sym h.count) lt)))
+      (record { domain = same; object = refl; turn = turn })))
       (λ apart. subst (λ k. IfSome k (IsOf d J (own_at params x) x)) (sym (get_or-set_other kept t.turn.object x (Some t) None apart)) (h.each x))
       (cases_eq x t.turn.object);
 }

@@ -101,7 +101,7 @@ tied_accepted d params serves o n p J m m2 h legal s = record {
     own : (x : ℕ) → o < length d.objects → m2.sent (Object o) x ≡ posts_between o x (J ++ e ∷ [])
     own x lt = ⊎_elim
         (λ (at : x ≡ p.target). subst (λ y. m2.sent (Object o) y ≡ posts_between o y (J ++ e ∷ [])) (sym at)
-            (s.grown.0 ∙ ap (λ rs. rs ++ request_by o p ∷ []) (h.sent_is o p.target lt) ∙ sym (posts_at J o p.target n p.action p.args)))
+        (s.grown.0 ∙ ap (λ rs. rs ++ request_by o p ∷ []) (h.sent_is o p.target lt) ∙ sym (posts_at J o p.target n p.action p.args)))
         (λ apart. s.grown.1 x apart ∙ h.sent_is o x lt ∙ sym (posts_at_others J o x p n apart))
         (cases_eq x p.target)
 

@@ -36,7 +36,8 @@ own_at params o = slice_index_or params o []
 abbrev pub kept_at : List (Option TaskView) → ℕ → Option TaskView
 kept_at kept o = slice_index_or kept o None
 
--- a journal is legal, and tells what was taken of a mail, what the objects sent by it, and the parameters of each object
+-- a journal is legal, and tells what was taken of a mail, what the objects sent by it, and the parameters of each
+-- object
 pub record IsTied (d : Domain) (J : List Entry) (params : List (List Value)) (serves : Sender → Bool)
     (taken : ℕ → List Request) (sent : Sender → ℕ → List Request) : Type 0 where
   pub legal : IsLegal d J

@@ -52,12 +52,14 @@ IsEnding None = ⊥
 pub record Ends {M : Type 0} (t : TaskView) (s : Option ℕ) (b b2 : BoardView M) (r : Reply) : Type 0 where
   pub answers : r ≡ reply.Ended
   pub after : b2 ≡ record b {
-    journal = b.journal ++ entry.End t.turn.object (ends.State (state_left (state_of b.domain t.turn.object b.journal) (outcome_of s))) ∷ [];
+    journal = b.journal ++ entry.End t.turn.object
+        (ends.State (state_left (state_of b.domain t.turn.object b.journal) (outcome_of s))) ∷ [];
     params = slice_set b.params t.turn.object t.params;
   }
 
 -- the posts are judged one after another, and the task is told their verdicts
-pub record Posts {M : Type 0} (t : TaskView) (posts : List Post) (b : BoardView M) (m : Lists) (b2 : BoardView M) (m2 : Lists) (r : Reply) : Type 0 where
+pub record Posts {M : Type 0} (t : TaskView) (posts : List Post) (b : BoardView M) (m : Lists) (b2 : BoardView M)
+    (m2 : Lists) (r : Reply) : Type 0 where
   pub verdicts : List Verdict
   pub answers : r ≡ reply.Posted (with_verdicts t verdicts)
   pub judged : AreJudged t.turn.object m b.journal posts verdicts m2 b2.journal
@@ -67,12 +69,17 @@ pub record Posts {M : Type 0} (t : TaskView) (posts : List Post) (b : BoardView 
 -- the objects are read in the states in which they are, and the task is told these
 pub record Sees {M : Type 0} (t : TaskView) (objects : List ℕ) (b b2 : BoardView M) (r : Reply) : Type 0 where
   pub answers : r ≡ reply.Seen (with_states t (states_now b.domain b.journal objects))
-  pub after : b2 ≡ record b { journal = b.journal ++ entry.Seen t.turn.object (map (reading_of b.domain b.journal) objects) ∷ [] }
+  pub after : b2 ≡ record b {
+    journal = b.journal ++ entry.Seen t.turn.object (map (reading_of b.domain b.journal) objects) ∷ [];
+  }
 
 -- the object waits, and the board keeps this task
 pub record Waits {M : Type 0} (t : TaskView) (b b2 : BoardView M) (r : Reply) : Type 0 where
   pub answers : r ≡ reply.Waiting
-  pub after : b2 ≡ record b { journal = waited t.turn.object b.journal; kept = slice_set b.kept t.turn.object (Some t) }
+  pub after : b2 ≡ record b {
+    journal = waited t.turn.object b.journal;
+    kept = slice_set b.kept t.turn.object (Some t);
+  }
 
 -- by the contact that waits: objects are read exactly where all of them are clear
 abbrev pub Replies : {M : Type 0} → TaskView → Option Contact → BoardView M → Lists → BoardView M → Lists → Reply → Type 0

@@ -55,7 +55,8 @@ pub record Sends (m : Lists) (o : ℕ) (r : Request) (m2 : Lists) : Type 0 where
 -- accepted under the count of those before it, and sent
 abbrev pub IsJudged : ℕ → Lists → List Entry → Post → Verdict → Lists → Type 0
 IsJudged o m J p Dead m2 = (is_killed p.target J ≡ true) × (m2 ≡ m)
-IsJudged o m J p Full m2 = (is_killed p.target J ≡ false) × (m2 ≡ m) × IfSome (m.waiting p.target) (λ w. length w ≡ m.capacity)
+IsJudged o m J p Full m2 =
+    (is_killed p.target J ≡ false) × (m2 ≡ m) × IfSome (m.waiting p.target) (λ w. length w ≡ m.capacity)
 IsJudged o m J p (Accepted n) m2 =
     (is_killed p.target J ≡ false) × (n ≡ length (m.sent (Object o) p.target)) × Sends m p.target (request_by o p) m2
     × IfSome (m.waiting p.target) (λ w. length w < m.capacity)

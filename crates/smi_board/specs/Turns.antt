@@ -32,7 +32,8 @@ IsBehind front answers (Some rest) = answers ≡ front ++ rest
 IsBehind front answers None = (rest : List Answer) → ¬ (answers ≡ front ++ rest)
 
 -- a task is out: its record is that of its object's open action, and the board keeps none of this object
-pub record IsOut (d : Domain) (J : List Entry) (params : List (List Value)) (kept : List (Option TaskView)) (t : TurnView) : Type 0 where
+pub record IsOut (d : Domain) (J : List Entry) (params : List (List Value)) (kept : List (Option TaskView))
+    (t : TurnView) : Type 0 where
   pub turn : IsItsTurn d J (own_at params t.object) t
   pub none : kept_at kept t.object ≡ None
 
@@ -43,7 +44,8 @@ pub record IsOf (d : Domain) (J : List Entry) (own : List Value) (o : ℕ) (t : 
   pub turn : IsItsTurn d J own t.turn
 
 -- there is room for a task of each object, and each that is kept is one of its own
-pub record EachKept (d : Domain) (J : List Entry) (params : List (List Value)) (kept : List (Option TaskView)) : Type 0 where
+pub record EachKept (d : Domain) (J : List Entry) (params : List (List Value))
+    (kept : List (Option TaskView)) : Type 0 where
   pub count : length kept ≡ length d.objects
   pub each : (o : ℕ) → IfSome (kept_at kept o) (IsOf d J (own_at params o) o)
 

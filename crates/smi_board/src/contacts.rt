@@ -77,9 +77,19 @@ impl<M: Mail> Board<M> {
         requires out { IsOut self.old.domain self.old.journal self.old.params self.old.kept task.turn }
         requires waits { IsSome task.pending }
         ensures replies { IfOk result (Replies task task.pending self.old
-            (record { taken = M.taken self.old.mail; sent = M.sent self.old.mail; waiting = M.waiting self.old.mail; capacity = M.capacity self.old.mail })
+            (record {
+              taken = M.taken self.old.mail;
+              sent = M.sent self.old.mail;
+              waiting = M.waiting self.old.mail;
+              capacity = M.capacity self.old.mail;
+            })
             self.new
-            (record { taken = M.taken self.new.mail; sent = M.sent self.new.mail; waiting = M.waiting self.new.mail; capacity = M.capacity self.new.mail })) }
+            (record {
+              taken = M.taken self.new.mail;
+              sent = M.sent self.new.mail;
+              waiting = M.waiting self.new.mail;
+              capacity = M.capacity self.new.mail;
+            })) }
         ensures task { IfOk result (RepliesTaskOf task.domain task.turn.object) }
         ensures back { IfErr result (λ t. t ≡ task) }
         ensures ending { IsEnding task.pending → IsOk result }
@@ -87,8 +97,18 @@ impl<M: Mail> Board<M> {
         ensures params { OnErr result (self.new.params ≡ self.old.params) }
         ensures kept { OnErr result (self.new.kept ≡ self.old.kept) }
         ensures lists { OnErr result (AreSameLists
-            (record { taken = M.taken self.old.mail; sent = M.sent self.old.mail; waiting = M.waiting self.old.mail; capacity = M.capacity self.old.mail })
-            (record { taken = M.taken self.new.mail; sent = M.sent self.new.mail; waiting = M.waiting self.new.mail; capacity = M.capacity self.new.mail })) }
+            (record {
+              taken = M.taken self.old.mail;
+              sent = M.sent self.old.mail;
+              waiting = M.waiting self.old.mail;
+              capacity = M.capacity self.old.mail;
+            })
+            (record {
+              taken = M.taken self.new.mail;
+              sent = M.sent self.new.mail;
+              waiting = M.waiting self.new.mail;
+              capacity = M.capacity self.new.mail;
+            })) }
         ensures domain { self.new.domain ≡ self.old.domain }
         ensures most { self.new.most ≡ self.old.most }
         ensures serves { M.serves self.new.mail ≡ M.serves self.old.mail }
@@ -132,9 +152,19 @@ impl<M: Mail> Board<M> {
         ensures alive { OnOk result (says.is_killed task.turn.object self.old.journal ≡ false) }
         ensures out { OnOk result (IsOut self.old.domain self.old.journal self.old.params self.old.kept task.turn) }
         ensures replies { IfOk result (Replies task task.pending self.old
-            (record { taken = M.taken self.old.mail; sent = M.sent self.old.mail; waiting = M.waiting self.old.mail; capacity = M.capacity self.old.mail })
+            (record {
+              taken = M.taken self.old.mail;
+              sent = M.sent self.old.mail;
+              waiting = M.waiting self.old.mail;
+              capacity = M.capacity self.old.mail;
+            })
             self.new
-            (record { taken = M.taken self.new.mail; sent = M.sent self.new.mail; waiting = M.waiting self.new.mail; capacity = M.capacity self.new.mail })) }
+            (record {
+              taken = M.taken self.new.mail;
+              sent = M.sent self.new.mail;
+              waiting = M.waiting self.new.mail;
+              capacity = M.capacity self.new.mail;
+            })) }
         ensures task { IfOk result (RepliesTaskOf task.domain task.turn.object) }
         ensures refused { IfErr result (λ e. IsContactError (says.is_killed task.turn.object self.old.journal)
             (IsOut self.old.domain self.old.journal self.old.params self.old.kept task.turn) e.0) }
@@ -144,8 +174,18 @@ impl<M: Mail> Board<M> {
         ensures params { OnErr result (self.new.params ≡ self.old.params) }
         ensures kept { OnErr result (self.new.kept ≡ self.old.kept) }
         ensures lists { OnErr result (AreSameLists
-            (record { taken = M.taken self.old.mail; sent = M.sent self.old.mail; waiting = M.waiting self.old.mail; capacity = M.capacity self.old.mail })
-            (record { taken = M.taken self.new.mail; sent = M.sent self.new.mail; waiting = M.waiting self.new.mail; capacity = M.capacity self.new.mail })) }
+            (record {
+              taken = M.taken self.old.mail;
+              sent = M.sent self.old.mail;
+              waiting = M.waiting self.old.mail;
+              capacity = M.capacity self.old.mail;
+            })
+            (record {
+              taken = M.taken self.new.mail;
+              sent = M.sent self.new.mail;
+              waiting = M.waiting self.new.mail;
+              capacity = M.capacity self.new.mail;
+            })) }
         ensures domain { self.new.domain ≡ self.old.domain }
         ensures most { self.new.most ≡ self.old.most }
         ensures serves { M.serves self.new.mail ≡ M.serves self.old.mail }

@@ -47,11 +47,7 @@ fn states_of(alloc: Global, ledger: &Ledger, objects: &[ObjId]) -> Result<Vec<St
 }
 
 // A reading of each object, in the state of its place.
-fn readings_of(
-    alloc: Global,
-    objects: &[ObjId],
-    states: &[StateId],
-) -> Result<Readings, AllocError>
+fn readings_of(alloc: Global, objects: &[ObjId], states: &[StateId]) -> Result<Readings, AllocError>
     requires { length states.now ≡ length objects.now }
     ensures { IfOk result (λ readings. readings ≡ turns.readings_of objects.now states.now) }
 {
@@ -83,7 +79,8 @@ fn make_sight(
     requires within { o < length ledger.old.domain.objects }
     requires there { All (λ x. x < length ledger.old.domain.objects) objects.now }
     ensures states { IfOk result (λ s. s.states.items ≡ states_now ledger.old.domain ledger.old.journal objects.now) }
-    ensures readings { IfOk result (λ s. s.readings ≡ turns.readings_of objects.now (states_now ledger.old.domain ledger.old.journal objects.now)) }
+    ensures readings { IfOk result (λ s. s.readings ≡ turns.readings_of objects.now
+        (states_now ledger.old.domain ledger.old.journal objects.now)) }
     ensures kept { IfOk result (λ s. s.kept ≡ s.readings) }
     ensures spare { OnOk result (0 < ledger.new.spare) }
     ensures room { OnOk result (0 < room_at o ledger.new) }
@@ -127,9 +124,11 @@ impl<M: Mail> Board<M> {
         requires asks { LeftAsks task (contact.Read objects.now) }
         requires there { All (λ x. x < length self.old.domain.objects) objects.now }
         requires clear { laws.are_clear self.old.journal task.turn.object objects.now ≡ true }
-        ensures told { IfOk result (λ t. t ≡ with_states task (states_now self.old.domain self.old.journal objects.now)) }
+        ensures told { IfOk result (λ t.
+            t ≡ with_states task (states_now self.old.domain self.old.journal objects.now)) }
         ensures seen { OnOk result (self.new ≡ record self.old {
-          journal = self.old.journal ++ entry.Seen task.turn.object (map (laws.reading_of self.old.domain self.old.journal) objects.now) ∷ [];
+          journal = self.old.journal ++ entry.Seen task.turn.object
+              (map (laws.reading_of self.old.domain self.old.journal) objects.now) ∷ [];
         }) }
         ensures back { IfErr result (λ t. t ≡ task) }
         ensures same { OnErr result (self.new ≡ self.old) }

@@ -39,7 +39,8 @@ impl<M: Mail> Board<M> {
     fn first_to_go_on(&self) -> Option<ObjId>
         ensures within { IfSome result (λ o. o < length self.now.domain.objects) }
         ensures goes { IfSome result (λ o. can_go_on o self.now.journal (kept_at self.now.kept o) ≡ true) }
-        ensures first { IfSome result (λ o. (x : ℕ) → x < o → can_go_on x self.now.journal (kept_at self.now.kept x) ≡ false) }
+        ensures first { IfSome result (λ o. (x : ℕ) → x < o →
+            can_go_on x self.now.journal (kept_at self.now.kept x) ≡ false) }
         ensures none { IfNone result ((x : ℕ) → can_go_on x self.now.journal (kept_at self.now.kept x) ≡ false) }
     {
         let objects = self.kept.len();

@@ -13,10 +13,10 @@ ghost use Rattle.smi_interp.specs.Task.{LeftAsks, with_verdicts};
 ghost use Rattle.smi_board.specs.Turns.{IsOut};
 ghost use Rattle.smi_board.specs.Posting.{AreApart, AreJudged, AreSameLists, IsJudged, IsPostable, ParcelView, entry_of, parcel_of, post_in};
 
+use crate::board::Board;
 use smi_entry::args::Args;
 use smi_entry::entry::{Sender as From, Verdict};
 use smi_entry::envelope::Envelope;
-use crate::board::Board;
 use smi_interp::contact::{Post, Posts};
 use smi_interp::task::Task;
 use smi_ledger::ledger::Ledger;
@@ -37,10 +37,10 @@ pub(crate) struct Parcel {
 impl Model for Parcel {
     ghost use Rattle.std.specs.Prelude.{◌≡◌};
     ghost use Rattle.smi_entry.specs.declared.entry.Verdict.{Verdict as Said};
-ghost use Rattle.smi_interp.specs.declared.contact.Contact.TheVariants as contact;
-ghost use Rattle.smi_interp.specs.Task.{LeftAsks, with_verdicts};
-ghost use Rattle.smi_board.specs.Turns.{IsOut};
-ghost use Rattle.smi_board.specs.Posting.{ParcelView};
+    ghost use Rattle.smi_interp.specs.declared.contact.Contact.TheVariants as contact;
+    ghost use Rattle.smi_interp.specs.Task.{LeftAsks, with_verdicts};
+    ghost use Rattle.smi_board.specs.Turns.{IsOut};
+    ghost use Rattle.smi_board.specs.Posting.{ParcelView};
 
     ghost Value = { ParcelView };
 
@@ -89,9 +89,19 @@ fn post_one<M: Mail>(mail: &mut M, ledger: &mut Ledger, o: ObjId, parcel: Parcel
     requires spare { 0 < ledger.old.spare }
     requires room { 0 < room_at o ledger.old }
     ensures judged { IsJudged o
-        (record { taken = M.taken mail.old; sent = M.sent mail.old; waiting = M.waiting mail.old; capacity = M.capacity mail.old })
+        (record {
+          taken = M.taken mail.old;
+          sent = M.sent mail.old;
+          waiting = M.waiting mail.old;
+          capacity = M.capacity mail.old;
+        })
         ledger.old.journal parcel.post result
-        (record { taken = M.taken mail.new; sent = M.sent mail.new; waiting = M.waiting mail.new; capacity = M.capacity mail.new }) }
+        (record {
+          taken = M.taken mail.new;
+          sent = M.sent mail.new;
+          waiting = M.waiting mail.new;
+          capacity = M.capacity mail.new;
+        }) }
     ensures entry { ledger.new ≡ record ledger.old {
       journal = ledger.old.journal ++ entry_of o parcel.post result ∷ [];
       spare = ledger.old.spare - 1;
@@ -124,8 +134,18 @@ fn make_rooms<M: Mail>(mail: &mut M, posts: &[Post]) -> Result<(), AllocError>
     requires { All (λ (p : items.Post). p.target < length (M.domain mail.old).objects) posts.now }
     ensures ready { OnOk result (All (λ (p : items.Post). M.ready mail.new p.target ≡ true) posts.now) }
     ensures lists { AreSameLists
-        (record { taken = M.taken mail.old; sent = M.sent mail.old; waiting = M.waiting mail.old; capacity = M.capacity mail.old })
-        (record { taken = M.taken mail.new; sent = M.sent mail.new; waiting = M.waiting mail.new; capacity = M.capacity mail.new }) }
+        (record {
+          taken = M.taken mail.old;
+          sent = M.sent mail.old;
+          waiting = M.waiting mail.old;
+          capacity = M.capacity mail.old;
+        })
+        (record {
+          taken = M.taken mail.new;
+          sent = M.sent mail.new;
+          waiting = M.waiting mail.new;
+          capacity = M.capacity mail.new;
+        }) }
     ensures domain { M.domain mail.new ≡ M.domain mail.old }
     ensures serves { M.serves mail.new ≡ M.serves mail.old }
 {
@@ -159,9 +179,19 @@ fn post_all<M: Mail>(
     requires none { verdicts.items ≡ [] }
     requires places { vec_len verdicts + deque_len list ≤ vec_capacity verdicts }
     ensures judged { AreJudged o
-        (record { taken = M.taken mail.old; sent = M.sent mail.old; waiting = M.waiting mail.old; capacity = M.capacity mail.old })
+        (record {
+          taken = M.taken mail.old;
+          sent = M.sent mail.old;
+          waiting = M.waiting mail.old;
+          capacity = M.capacity mail.old;
+        })
         ledger.old.journal (map post_in list.items) result.items
-        (record { taken = M.taken mail.new; sent = M.sent mail.new; waiting = M.waiting mail.new; capacity = M.capacity mail.new })
+        (record {
+          taken = M.taken mail.new;
+          sent = M.sent mail.new;
+          waiting = M.waiting mail.new;
+          capacity = M.capacity mail.new;
+        })
         ledger.new.journal }
     ensures books { ledger.new.domain ≡ ledger.old.domain }
     ensures domain { M.domain mail.new ≡ M.domain mail.old }
@@ -201,8 +231,18 @@ fn make_sending<M: Mail>(
     ensures books { ledger.new.domain ≡ ledger.old.domain }
     ensures journal { ledger.new.journal ≡ ledger.old.journal }
     ensures lists { AreSameLists
-        (record { taken = M.taken mail.old; sent = M.sent mail.old; waiting = M.waiting mail.old; capacity = M.capacity mail.old })
-        (record { taken = M.taken mail.new; sent = M.sent mail.new; waiting = M.waiting mail.new; capacity = M.capacity mail.new }) }
+        (record {
+          taken = M.taken mail.old;
+          sent = M.sent mail.old;
+          waiting = M.waiting mail.old;
+          capacity = M.capacity mail.old;
+        })
+        (record {
+          taken = M.taken mail.new;
+          sent = M.sent mail.new;
+          waiting = M.waiting mail.new;
+          capacity = M.capacity mail.new;
+        }) }
     ensures domain { M.domain mail.new ≡ M.domain mail.old }
     ensures serves { M.serves mail.new ≡ M.serves mail.old }
 {
@@ -225,15 +265,35 @@ impl<M: Mail> Board<M> {
         requires waits { task.pending ≡ Some (contact.Send posts.now) }
         requires asks { LeftAsks task (contact.Send posts.now) }
         ensures sent { IfOk result (λ t. (vs : List Said) × (t ≡ with_verdicts task vs) × AreJudged task.turn.object
-            (record { taken = M.taken self.old.mail; sent = M.sent self.old.mail; waiting = M.waiting self.old.mail; capacity = M.capacity self.old.mail })
+            (record {
+              taken = M.taken self.old.mail;
+              sent = M.sent self.old.mail;
+              waiting = M.waiting self.old.mail;
+              capacity = M.capacity self.old.mail;
+            })
             self.old.journal posts.now vs
-            (record { taken = M.taken self.new.mail; sent = M.sent self.new.mail; waiting = M.waiting self.new.mail; capacity = M.capacity self.new.mail })
+            (record {
+              taken = M.taken self.new.mail;
+              sent = M.sent self.new.mail;
+              waiting = M.waiting self.new.mail;
+              capacity = M.capacity self.new.mail;
+            })
             self.new.journal) }
         ensures back { IfErr result (λ t. t ≡ task) }
         ensures journal { OnErr result (self.new.journal ≡ self.old.journal) }
         ensures lists { OnErr result (AreSameLists
-            (record { taken = M.taken self.old.mail; sent = M.sent self.old.mail; waiting = M.waiting self.old.mail; capacity = M.capacity self.old.mail })
-            (record { taken = M.taken self.new.mail; sent = M.sent self.new.mail; waiting = M.waiting self.new.mail; capacity = M.capacity self.new.mail })) }
+            (record {
+              taken = M.taken self.old.mail;
+              sent = M.sent self.old.mail;
+              waiting = M.waiting self.old.mail;
+              capacity = M.capacity self.old.mail;
+            })
+            (record {
+              taken = M.taken self.new.mail;
+              sent = M.sent self.new.mail;
+              waiting = M.waiting self.new.mail;
+              capacity = M.capacity self.new.mail;
+            })) }
         ensures domain { self.new.domain ≡ self.old.domain }
         ensures most { self.new.most ≡ self.old.most }
         ensures params { self.new.params ≡ self.old.params }

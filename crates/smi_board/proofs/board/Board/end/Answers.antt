@@ -34,5 +34,5 @@ invariant_of-self g c =
     let left : c.put_params.new.all.items ≡ slice_set i.params.items t.turn.object t.params =
     c.put_params.ensures ∙ ap (λ x. slice_set i.params.items x c.into_params.result.items) at ∙ ap (λ x. slice_set i.params.items t.turn.object x) c.into_params.ensures.params in
     let keeps = keeps_ended d t J c.add_end.new.self.journal i.params.items c.put_params.new.all.items i.kept.items _ _ _ c.args.state same
-        c.self.invariant.0 c.self.invariant.1 c.self.invariant.2 within out c.requires.asks longer left in
+    c.self.invariant.0 c.self.invariant.1 c.self.invariant.2 within out c.requires.asks longer left in
     (keeps.tied, keeps.all.runs, keeps.all.tasks, ap (λ (l : LedgerView). l.domain) c.add_end.ensures ∙ c.self.invariant.3, c.self.invariant.4, λ x lt. absurd (omega (arith, lt)))

@@ -125,9 +125,14 @@ invariant_of-self-2 g c =
     (subst (λ ps. AreJudged o before i.ledger.journal ps vs after J2) (ap (map post_in) items ∙ posts_of_parcels o posts)
     (subst (λ K. AreJudged o before K (map post_in c.in-Ok.sending.list.items) vs after J2) c.in-Ok.ensures.journal one)) in
     let alike = c.post_all-verdicts.ensures.serves ∙ c.in-Ok.ensures.serves in
-    let keeps = keeps_sent d t i.ledger.journal J2 i.params.items i.kept.items (g.M.Mail.serves i.mail) before after posts vs same c.self.invariant.0 c.self.invariant.1 c.self.invariant.2 within out c.requires.asks judged in
-    (subst (λ f. IsTied d J2 i.params.items f after.taken after.sent) (sym alike) keeps.tied, keeps.all.runs, keeps.all.tasks,
-    c.post_all-verdicts.ensures.books ∙ c.in-Ok.ensures.books ∙ c.self.invariant.3, c.post_all-verdicts.ensures.domain ∙ c.in-Ok.ensures.domain ∙ c.self.invariant.4, λ x lt. absurd (omega (arith, lt)))
+    let keeps = keeps_sent d t i.ledger.journal J2 i.params.items i.kept.items (g.M.Mail.serves i.mail) before after posts vs same c.self.invariant.0 c.self.invariant.1 c.self.invariant.2 within out c.requires.asks judged in (
+      subst (λ f. IsTied d J2 i.params.items f after.taken after.sent) (sym alike) keeps.tied,
+      keeps.all.runs,
+      keeps.all.tasks,
+      c.post_all-verdicts.ensures.books ∙ c.in-Ok.ensures.books ∙ c.self.invariant.3,
+      c.post_all-verdicts.ensures.domain ∙ c.in-Ok.ensures.domain ∙ c.self.invariant.4,
+      λ x lt. absurd (omega (arith, lt)),
+    )
 
 pub returns-clause-sent : goal.returns-clause-sent
 returns-clause-sent g c =
@@ -153,5 +158,5 @@ returns-clause-sent g c =
     (subst (λ ps. AreJudged o before i.ledger.journal ps vs after J2) (ap (map post_in) items ∙ posts_of_parcels o posts)
     (subst (λ K. AreJudged o before K (map post_in c.in-Ok.sending.list.items) vs after J2) c.in-Ok.ensures.journal one)) in
     subst (λ (b : BoardView _). (ws : List Verdict) × (c.sent.new.self ≡ with_verdicts t ws) × AreJudged t.turn.object
-        (record { taken = g.M.Mail.taken b.mail; sent = g.M.Mail.sent b.mail; waiting = g.M.Mail.waiting b.mail; capacity = g.M.Mail.capacity b.mail }) b.journal posts ws after J2) c.self.view_is
+    (record { taken = g.M.Mail.taken b.mail; sent = g.M.Mail.sent b.mail; waiting = g.M.Mail.waiting b.mail; capacity = g.M.Mail.capacity b.mail }) b.journal posts ws after J2) c.self.view_is
     (vs, c.sent.ensures ∙ ap (with_verdicts t) c.deref-2.ensures.value, judged)

@@ -1,0 +1,157 @@
+//! Tasks that are none, or no more, of their object's open action.
+ghost use Rattle.std.specs.Prelude.{◌≡◌, ◌<◌, IfSome, IsSome, length};
+ghost use Rattle.std.specs.Arc.{arc_value};
+ghost use Rattle.smi_board.specs.Refusals.{is_operator};
+
+use crate::acts::{Made, acts, advanced};
+use crate::boards::{Run, board_of, envelope_of};
+use crate::domain_of::domain_of;
+use crate::lines::Asked;
+use crate::texts::{COUNTER, SUPPLIES};
+use smi_board::board::Board;
+use smi_board::errors::ContactError;
+use smi_board::starting::Started;
+use smi_entry::session::SessionId;
+use smi_interp::task::{Ready, Task};
+use smi_mail::plain::PlainMail;
+use sml_domain::domain::Domain;
+use sml_domain::ids::ObjId;
+use std::alloc::Global;
+use std::sync::Arc;
+
+const SHOW: Asked = Asked {
+    session: 1,
+    action: 2,
+    given: &[],
+};
+
+const CONFIGURE: Asked = Asked {
+    session: 1,
+    action: 2,
+    given: &[],
+};
+
+// Whether a task is handed in and back, and refused so both times.
+fn is_refused(board: &mut Board<PlainMail>, task: Task, wanted: ContactError) -> bool
+    requires domain { task.domain ≡ board.old.domain }
+    requires within { task.turn.object < length board.old.domain.objects }
+    requires waits { IsSome task.pending }
+    ensures { board.new.domain ≡ board.old.domain }
+{
+    match board.contact(task) {
+        Err((first, task)) => match board.shelve(task) {
+            Err((second, _)) => first == wanted && second == wanted,
+            Ok(()) => false,
+        },
+        Ok(_) => false,
+    }
+}
+
+// Whether a request of the first session is taken.
+fn asks(
+    alloc: Global,
+    domain: &Domain,
+    board: &mut Board<PlainMail>,
+    o: ObjId,
+    asked: Asked,
+) -> bool
+    requires within { o < length board.old.domain.objects }
+    requires domain { board.old.domain ≡ domain.now }
+    ensures { board.new.domain ≡ board.old.domain }
+{
+    let Some(envelope) = envelope_of(alloc, asked) else {
+        return false;
+    };
+    if !envelope.fits(domain, o) {
+        return false;
+    }
+    board.request(o, envelope).is_ok()
+}
+
+// A task that is made by hand of an object in its present state, for a request under the number 0.
+fn made_by_hand(
+    alloc: Global,
+    domain: &Arc<Domain>,
+    board: &Board<PlainMail>,
+    o: ObjId,
+    asked: Asked,
+) -> Option<Task>
+    requires { o < length board.now.domain.objects }
+    ensures { IfSome result (λ t. (t.domain ≡ arc_value domain.now) × (t.turn.object ≡ o)) }
+{
+    let envelope = envelope_of(alloc, asked)?;
+    let state = board.state(o);
+    if !domain.declares(o, state, envelope.letter().action) {
+        return None;
+    }
+    let shared = Arc::try_clone(domain).ok()?;
+    let ready = Ready::new(alloc, shared, o, board.params(o)).ok()?;
+    Some(ready.begin(state, envelope))
+}
+
+/// Whether a second task of the first of two equal requests is refused, once the second is started.
+pub fn refuses_second_task(alloc: Global) -> bool {
+    let Some(domain) = domain_of(alloc, COUNTER) else {
+        return false;
+    };
+    let run = Run {
+        text: COUNTER,
+        capacity: 4,
+        most: 100,
+        calls: &[],
+        journal: &[],
+    };
+    let Some(board) = board_of(alloc, &domain, run) else {
+        return false;
+    };
+    let mut board = board;
+    let o = ObjId::new(1);
+    if !domain.has(o)
+        || !asks(alloc, &domain, &mut board, o, SHOW)
+        || !asks(alloc, &domain, &mut board, o, SHOW)
+    {
+        return false;
+    }
+    let Some(second) = made_by_hand(alloc, &domain, &board, o, SHOW) else {
+        return false;
+    };
+    let Some((false, second)) = advanced(second) else {
+        return false;
+    };
+    if !acts(&mut board, o, &[Made::Posted, Made::Ended]) {
+        return false;
+    }
+    match board.start(o) {
+        Ok(Started::Run(_)) => is_refused(&mut board, second, ContactError::Stranger),
+        _ => false,
+    }
+}
+
+/// Whether a task is refused whose object was killed while it was out.
+pub fn refuses_killed(alloc: Global) -> bool {
+    let Some(domain) = domain_of(alloc, SUPPLIES) else {
+        return false;
+    };
+    let run = Run {
+        text: SUPPLIES,
+        capacity: 4,
+        most: 100,
+        calls: &[],
+        journal: &[],
+    };
+    let Some(board) = board_of(alloc, &domain, run) else {
+        return false;
+    };
+    let mut board = board;
+    let o = ObjId::new(2);
+    if !domain.has(o) || !asks(alloc, &domain, &mut board, o, CONFIGURE) {
+        return false;
+    }
+    let (Ok(Started::Run(task)), Some(session)) = (board.start(o), SessionId::new(1)) else {
+        return false;
+    };
+    let Some((false, task)) = advanced(task) else {
+        return false;
+    };
+    board.kill(o, session).is_ok() && is_refused(&mut board, task, ContactError::Dead)
+}

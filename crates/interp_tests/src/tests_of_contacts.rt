@@ -1,0 +1,42 @@
+//! Tasks of boards, from contact to contact.
+
+use crate::boards::{Run, is_kept};
+use crate::sends::{
+    CAPACITY_ONE, FOR_EACH_OTHER, HANDED_BACK, KILLED_RUN, KILLED_SUPPLY, READY, SETS, TO_ITSELF,
+    TO_TEN, TWO_WAITS,
+};
+use crate::strangers::{refuses_killed, refuses_second_task};
+use std::test::*;
+
+const CONFIGURED: &[Run] = &[READY, CAPACITY_ONE, KILLED_SUPPLY, KILLED_RUN, HANDED_BACK];
+
+const WAITING: &[Run] = &[SETS, FOR_EACH_OTHER, TWO_WAITS];
+
+const SENDING: &[Run] = &[TO_ITSELF, TO_TEN];
+
+#[test]
+fn runs_are_configured(rt: HostRuntime) {
+    for run in CONFIGURED {
+        assert!(rt; is_kept(rt.alloc(), *run));
+    }
+}
+
+#[test]
+fn tasks_wait(rt: HostRuntime) {
+    for run in WAITING {
+        assert!(rt; is_kept(rt.alloc(), *run));
+    }
+}
+
+#[test]
+fn tasks_send(rt: HostRuntime) {
+    for run in SENDING {
+        assert!(rt; is_kept(rt.alloc(), *run));
+    }
+}
+
+#[test]
+fn strangers(rt: HostRuntime) {
+    assert!(rt; refuses_killed(rt.alloc()));
+    assert!(rt; refuses_second_task(rt.alloc()));
+}
