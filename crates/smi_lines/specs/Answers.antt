@@ -42,7 +42,8 @@ refused_text word = codes "refused " ++ (word ++ codes "\n")
 -- the line of an accepted request: its session, its object, its number, and its action with complete arguments
 abbrev pub accept_text : Domain → ℕ → ℕ → ℕ → ℕ → List Value → List ℕ
 accept_text d k o n a args =
-    codes "accept" ++ (spaced (session_text k) ++ (spaced (object_text d o) ++ (spaced (decimal_text n) ++ (spaced (call_text d o a args) ++ codes "\n"))))
+    codes "accept" ++ (spaced (session_text k) ++ (spaced (object_text d o)
+    ++ (spaced (decimal_text n) ++ (spaced (call_text d o a args) ++ codes "\n"))))
 
 -- this line, where both names stand for something
 abbrev pub accepted_at : Domain → ℕ → ℕ → List Value → Option ℕ → Option ℕ → List ℕ
@@ -61,7 +62,9 @@ name_at params p = name_or_nothing (option_map name_of_param (slice_get params p
 
 -- the line of a parameter that was set
 abbrev pub set_text : Domain → ℕ → ℕ → Value → List ℕ
-set_text d o p v = codes "set" ++ (spaced (object_text d o) ++ (spaced (name_at (class_params_at d o) p) ++ (codes "=" ++ (value_text v ++ codes "\n"))))
+set_text d o p v =
+    codes "set" ++ (spaced (object_text d o) ++ (spaced (name_at (class_params_at d o) p)
+    ++ (codes "=" ++ (value_text v ++ codes "\n"))))
 
 -- the line of an action that waits on
 abbrev pub still_text : Domain → ℕ → List ℕ

@@ -114,7 +114,8 @@ fn next_argument(alloc: Global, rest: &[u8], at: usize) -> Result<Option<Next>, 
         spec.arguments_in (lexemes (tokens_from source.Line at rest.now)) ≡ None) }
     ensures some { IfOk result (λ r. IfSome r (λ x.
         spec.arguments_in (lexemes (tokens_from source.Line at rest.now))
-        ≡ spec.with_passed (Some x.passed) (spec.unless_last x.is_last (spec.arguments_in (lexemes (tokens_from source.Line x.at x.rest.now)))))) }
+        ≡ spec.with_passed (Some x.passed) (spec.unless_last x.is_last
+        (spec.arguments_in (lexemes (tokens_from source.Line x.at x.rest.now)))))) }
     ensures within { IfOk result (λ r. IfSome r (λ x.
         (x.at + length x.rest.now ≡ at + length rest.now) × (length x.rest.now < length rest.now))) }
 {
@@ -142,7 +143,8 @@ fn followed<'a>(passed: Passed, sign: &Lexeme, rest: &'a [u8], at: usize) -> Opt
     ensures none { result ≡ None → (more : Option (List Given)) →
         spec.behind (spec.sign_in (lexeme_of sign.now)) (lexemes (tokens_from source.Line at rest.now)) more ≡ None }
     ensures some { IfSome result (λ x. (more : Option (List Given)) →
-        spec.behind (spec.sign_in (lexeme_of sign.now)) (lexemes (tokens_from source.Line at rest.now)) more ≡ spec.unless_last x.is_last more) }
+        spec.behind (spec.sign_in (lexeme_of sign.now)) (lexemes (tokens_from source.Line at rest.now)) more
+        ≡ spec.unless_last x.is_last more) }
     ensures same { IfSome result (λ x. (x.passed ≡ passed) × (x.rest.now ≡ rest.now) × (x.at ≡ at)) }
 {
     match sign_in(sign) {
@@ -165,7 +167,8 @@ fn followed<'a>(passed: Passed, sign: &Lexeme, rest: &'a [u8], at: usize) -> Opt
 // The arguments behind an opening bracket, up to the bracket that closes them and ends the line.
 fn arguments_in(alloc: Global, rest: &[u8], at: usize) -> Result<Option<Vec<Passed>>, AllocError>
     requires { at + length rest.now < 2 ^ 63 }
-    ensures { IfOk result (λ r. option_map (λ l. l.items) r ≡ spec.arguments_in (lexemes (tokens_from source.Line at rest.now))) }
+    ensures { IfOk result (λ r.
+        option_map (λ l. l.items) r ≡ spec.arguments_in (lexemes (tokens_from source.Line at rest.now))) }
 {
     let mut list = Vec::new(alloc);
     let mut rest = rest;

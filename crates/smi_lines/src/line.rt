@@ -130,7 +130,8 @@ fn asker(session: &Lexeme, object: &Lexeme, action: &Lexeme) -> Option<(SessionI
     requires object { IsLexeme object.now }
     requires action { IsLexeme action.now }
     ensures { (passed : Option (List Given)) → option_and_then (λ x. option_map (step.Request x.0 x.1 x.2) passed) result ≡
-        spec.requested (spec.session_in (lexeme_of session.now)) (spec.name_in (lexeme_of object.now)) (spec.name_in (lexeme_of action.now)) passed }
+        spec.requested (spec.session_in (lexeme_of session.now)) (spec.name_in (lexeme_of object.now))
+        (spec.name_in (lexeme_of action.now)) passed }
 {
     Some((session_in(session)?, name_in(object)?, name_in(action)?))
 }
@@ -189,7 +190,8 @@ fn named_step(verb: &Name, rest: &[u8], at: usize) -> Option<Step>
 fn step_in(alloc: Global, verb: &Lexeme, rest: &[u8], at: usize) -> Result<Option<Step>, AllocError>
     requires verb { IsLexeme verb.now }
     requires small { at + length rest.now < 2 ^ 63 }
-    ensures asked { IfOk result (λ s. s ≡ spec.step_in (spec.name_in (lexeme_of verb.now)) (lexemes (tokens_from source.Line at rest.now))) }
+    ensures asked { IfOk result (λ s.
+        s ≡ spec.step_in (spec.name_in (lexeme_of verb.now)) (lexemes (tokens_from source.Line at rest.now))) }
     ensures memory { OnErr result (4 ≤ length (lexemes (tokens_from source.Line at rest.now))) }
 {
     let Some(verb) = name_in(verb) else {

@@ -33,7 +33,8 @@ pub record Runs (d : Domain) (J : List Entry) (o : ℕ) : Type 0 where
 -- with one more move, the moves of the open action begin those of some meaning
 pub record MayMove (m : Setup) (w : World) (o : ℕ) (x : Move) : Type 0 where
   pub action : Runs m.domain w.journal o
-  pub begins : Begins m.domain (members_at m.domain) action.run.program (env_of action.own action.run) (moves_of o w ++ x ∷ [])
+  pub begins :
+      Begins m.domain (members_at m.domain) action.run.program (env_of action.own action.run) (moves_of o w ++ x ∷ [])
 
 -- the answer is that entries were added
 pub record Adds (w w2 : World) (a : Answer) : Type 0 where
@@ -54,7 +55,8 @@ pub record HasRoom (m : Setup) (w : World) (target : ℕ) : Type 0 where
   pub alive : is_killed target w.journal ≡ false
   pub room : waiting target w < m.capacity
 
--- an object posts, and is given this verdict: dead where the target is killed, else full where its mailbox is, else accepted and numbered
+-- an object posts, and is given this verdict: dead where the target is killed, else full where its mailbox is, else
+-- accepted and numbered
 abbrev pub PostsAs : Verdict → Setup → World → ℕ → Post → World → Type 0
 PostsAs (Accepted n) m w o p w2 =
     HasRoom m w p.target × (n ≡ length (accepted (Object o) p.target w))
@@ -118,11 +120,13 @@ pub record Ends (m : Setup) (w : World) (o : ℕ) (a : Answer) (w2 : World) : Ty
   pub action : Runs m.domain w.journal o
   pub env : Env
   pub outcome : Outcome
-  pub means : Means m.domain (members_at m.domain) action.run.program (env_of action.own action.run) (moves_of o w) env outcome
+  pub means :
+      Means m.domain (members_at m.domain) action.run.program (env_of action.own action.run) (moves_of o w) env outcome
   pub answer : Adds w w2 a
   pub after : w2 ≡ turned w o (entry.End o (State (state_left (state_of m.domain o w.journal) outcome)))
 
 -- the open action of an object makes its next move
 abbrev pub GoesOn : Setup → World → ℕ → Answer → World → Type 0
 GoesOn m w o a w2 =
-    Sets m w o a w2 ⊎ (Sends m w o a w2 ⊎ (Sees m w o a w2 ⊎ (Waits m w o a w2 ⊎ (WaitsOn m w o a w2 ⊎ Ends m w o a w2))))
+    Sets m w o a w2
+    ⊎ (Sends m w o a w2 ⊎ (Sees m w o a w2 ⊎ (Waits m w o a w2 ⊎ (WaitsOn m w o a w2 ⊎ Ends m w o a w2))))

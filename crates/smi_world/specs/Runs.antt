@@ -56,7 +56,8 @@ NothingStartsAfterAKill =
     (m : Setup) (w : World) → IsReached m w
     → (front back : List Entry) (o : ℕ) (c : Cause) → w.journal ≡ front ++ Kill o c ∷ back → starts_at o back ≡ []
 
--- the open action of an object is declared in the object's state, and its moves, which the journal shows, lead to what is left of it
+-- the open action of an object is declared in the object's state, and its moves, which the journal shows, lead to what
+-- is left of it
 pub record IsGoing (d : Domain) (J : List Entry) (moves : List Move) (o : ℕ) : Type 0 where
   pub action : Runs d J o
   pub left : Program
@@ -66,7 +67,9 @@ pub record IsGoing (d : Domain) (J : List Entry) (moves : List Move) (o : ℕ) :
 
 -- so is every open action of every world that is reached
 abbrev pub EveryActionGoes : Type 0
-EveryActionGoes = (m : Setup) (w : World) → IsReached m w → (o : ℕ) → is_open o w.journal ≡ true → IsGoing m.domain w.journal (moves_of o w) o
+EveryActionGoes =
+    (m : Setup) (w : World) → IsReached m w
+    → (o : ℕ) → is_open o w.journal ≡ true → IsGoing m.domain w.journal (moves_of o w) o
 
 -- in every world that is reached, the limits of waiting requests and of starts hold
 abbrev pub EveryRunIsWithinLimits : Type 0
@@ -88,7 +91,8 @@ NoMemory (r ∷ more) = (¬ (IsMemory r)) × NoMemory more
 abbrev pub EveryRunIsOne : Type 0
 EveryRunIsOne =
     (m : Setup) (steps : List Step) (answers others : Answers) (w w2 : World)
-    → Reaches m steps answers w → Reaches m steps others w2 → NoMemory answers → NoMemory others → (answers ≡ others) × (w ≡ w2)
+    → Reaches m steps answers w → Reaches m steps others w2 → NoMemory answers → NoMemory others
+    → (answers ≡ others) × (w ≡ w2)
 
 -- and they have one
 abbrev pub EveryListIsAnswered : Type 0
@@ -100,7 +104,8 @@ EveryListIsAnswered =
 abbrev pub told_in : Domain → ℕ → ℕ → Step → Result Answer StepError → List (ℕ × Request)
 told_in d k o (step.Request s x y args) (Ok (answer.Accepted n complete)) =
     if (k == s) && option_map_or (λ z. o == z) (object_named d x) false
-    then option_to_list (option_map (λ a. (n, record { sender = Operator s; action = a; args = complete })) (action_named d y))
+    then option_to_list
+    (option_map (λ a. (n, record { sender = Operator s; action = a; args = complete })) (action_named d y))
     else []
 told_in d k o s r = []
 
@@ -125,4 +130,5 @@ EveryRunAcceptsWhatIsPosted =
 abbrev pub EveryRunStartsInOrder : Type 0
 EveryRunStartsInOrder =
     (m : Setup) (w : World) → IsReached m w → (o rank : ℕ) (r : Request)
-    → (IsNext w o rank r × IsLeast w o rank) ↔ ((rank ≡ length (starts_at o w.journal)) × (slice_get (queue o w) rank ≡ Some r))
+    → (IsNext w o rank r × IsLeast w o rank)
+    ↔ ((rank ≡ length (starts_at o w.journal)) × (slice_get (queue o w) rank ≡ Some r))
