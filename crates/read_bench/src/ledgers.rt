@@ -1,20 +1,16 @@
 //! How long a ledger takes to add entries and to answer look-ups, beside a push on a `Vec`.
 ghost use Rattle.std.specs.Prelude.{◌<◌, length};
 
-use anyhow::{Result, anyhow, bail};
+use crate::texts::domain_of;
+use anyhow::{Result, bail};
 use smi_entry::args::Args;
 use smi_entry::entry::{ActionEnd, Entry, Sender, Verdict};
 use smi_entry::envelope::Envelope;
 use smi_entry::session::SessionId;
 use smi_ledger::ledger::Ledger;
-use sml_check::check;
-use sml_checkable::laws::laws_of_read_files;
-use sml_domain::domain::Domain;
 use sml_domain::ids::{ActionId, ObjId};
-use sml_read::read;
 use std::alloc::{AllocError, Global};
 use std::fmt::Write;
-use std::sync::Arc;
 use std::time::{Clock, Duration, Instant};
 
 // How many objects there are. In a round of entries each starts, posts to itself, and ends.
@@ -83,16 +79,6 @@ fn domain_text(alloc: Global) -> Result<String, AllocError> {
     Ok(text)
 }
 
-fn domain_of(alloc: Global, text: &[u8]) -> Result<Arc<Domain>> {
-    let file = read(alloc, text).map_err(|error| anyhow!("a text is refused: {error}"))?;
-    laws_of_read_files();
-    let domain = check(alloc, &file).map_err(|error| anyhow!("a file is refused: {error}"))?;
-    match Arc::new(alloc, domain) {
-        Ok(domain) => Ok(domain),
-        Err(_) => bail!("there is no memory for a domain"),
-    }
-}
-
 fn books_of(alloc: Global) -> Result<Books> {
     let text = domain_text(alloc)?.into_bytes();
     Ok(Books {
@@ -114,18 +100,16 @@ fn envelope_of(args: &Args) -> Result<Envelope> {
 
 // Adds a start, with what must be asked before.
 fn add_start(ledger: &mut Ledger, o: ObjId, envelope: Envelope) -> bool {
-    if ledger.hold(2).is_err() {
-        return false;
+    if ledger.hold(2).is_ok()
+        && matches!(envelope.letter().sender, Sender::Operator(_))
+        && ledger.domain().has(o)
+        && ledger.opened(o).is_none()
+    {
+        let letters = envelope.into_letters();
+        ledger.add_start(o, letters.journal, letters.slot);
+        return true;
     }
-    let Sender::Operator(_) = &envelope.letter().sender else {
-        return false;
-    };
-    if !ledger.domain().has(o) || ledger.opened(o).is_some() {
-        return false;
-    }
-    let letters = envelope.into_letters();
-    ledger.add_start(o, letters.journal, letters.slot);
-    true
+    false
 }
 
 fn add_post(ledger: &mut Ledger, o: ObjId, args: Args) -> bool {
@@ -156,66 +140,120 @@ fn shares_of(alloc: Global, args: &Args) -> Result<Vec<Args>> {
     Ok(shares)
 }
 
-fn time_pushes<R: Clock + AllocGlobal>(rt: &R, books: &mut Books) -> Result<Duration> {
-    let mut shares = shares_of(rt.alloc(), &books.args)?;
-    let begin = Instant::now(rt)?;
+// Envelopes for a start of each object.
+fn envelopes_of(alloc: Global, args: &Args) -> Result<Vec<Envelope>> {
+    let mut envelopes = Vec::new(alloc);
+    for _ in 0..OBJECTS {
+        envelopes.push(envelope_of(args)?)?;
+    }
+    Ok(envelopes)
+}
+
+fn full_post(args: Args) -> Entry {
+    Entry::Post {
+        sender: ObjId::new(0),
+        target: ObjId::new(0),
+        verdict: Verdict::Full,
+        action: ActionId::new(0),
+        args,
+    }
+}
+
+fn push_posts(plain: &mut Vec<Entry>, shares: &mut Vec<Args>) -> bool {
     for _ in 0..OBJECTS {
         let Some(args) = shares.pop() else {
-            bail!("there are too few arguments");
+            return false;
         };
-        books.plain.push(Entry::Post {
-            sender: ObjId::new(0),
-            target: ObjId::new(0),
-            verdict: Verdict::Full,
-            action: ActionId::new(0),
-            args,
-        })?;
+        if plain.push(full_post(args)).is_err() {
+            return false;
+        }
+    }
+    true
+}
+
+fn add_starts(ledger: &mut Ledger, envelopes: &mut Vec<Envelope>) -> bool {
+    for o in 0..OBJECTS {
+        let Some(envelope) = envelopes.pop() else {
+            return false;
+        };
+        if !add_start(ledger, ObjId::new(o), envelope) {
+            return false;
+        }
+    }
+    true
+}
+
+fn add_posts(ledger: &mut Ledger, shares: &mut Vec<Args>) -> bool {
+    for o in 0..OBJECTS {
+        let Some(args) = shares.pop() else {
+            return false;
+        };
+        if !add_post(ledger, ObjId::new(o), args) {
+            return false;
+        }
+    }
+    true
+}
+
+fn add_ends(ledger: &mut Ledger) -> bool {
+    for o in 0..OBJECTS {
+        if !add_end(ledger, ObjId::new(o)) {
+            return false;
+        }
+    }
+    true
+}
+
+// The time since then, where all entries were added.
+fn time_since<R: Clock>(rt: &R, begin: Instant, are_added: bool) -> Result<Duration> {
+    if !are_added {
+        bail!("an entry is not added");
     }
     Ok(begin.elapsed(rt)?)
 }
 
-fn time_starts<R: Clock + AllocGlobal>(rt: &R, books: &mut Books) -> Result<Duration> {
-    let mut envelopes = Vec::new(rt.alloc());
-    for _ in 0..OBJECTS {
-        envelopes.push(envelope_of(&books.args)?)?;
-    }
+fn time_pushes<R: Clock + AllocGlobal>(rt: &R, books: &mut Books) -> Result<Duration> {
+    let mut shares = shares_of(rt.alloc(), &books.args)?;
     let begin = Instant::now(rt)?;
-    for o in 0..OBJECTS {
-        let Some(envelope) = envelopes.pop() else {
-            bail!("there are too few envelopes");
-        };
-        if !add_start(&mut books.ledger, ObjId::new(o), envelope) {
-            bail!("a start is not added");
-        }
-    }
-    Ok(begin.elapsed(rt)?)
+    let are_added = push_posts(&mut books.plain, &mut shares);
+    time_since(rt, begin, are_added)
+}
+
+fn time_starts<R: Clock + AllocGlobal>(rt: &R, books: &mut Books) -> Result<Duration> {
+    let mut envelopes = envelopes_of(rt.alloc(), &books.args)?;
+    let begin = Instant::now(rt)?;
+    let are_added = add_starts(&mut books.ledger, &mut envelopes);
+    time_since(rt, begin, are_added)
 }
 
 fn time_posts<R: Clock + AllocGlobal>(rt: &R, books: &mut Books) -> Result<Duration> {
     let mut shares = shares_of(rt.alloc(), &books.args)?;
     let begin = Instant::now(rt)?;
-    for o in 0..OBJECTS {
-        let Some(args) = shares.pop() else {
-            bail!("there are too few arguments");
-        };
-        if !add_post(&mut books.ledger, ObjId::new(o), args) {
-            bail!("a post is not added");
-        }
-    }
-    Ok(begin.elapsed(rt)?)
+    let are_added = add_posts(&mut books.ledger, &mut shares);
+    time_since(rt, begin, are_added)
 }
 
 fn time_ends<R: Clock>(rt: &R, books: &mut Books) -> Result<Duration> {
     let begin = Instant::now(rt)?;
-    for o in 0..OBJECTS {
-        if !add_end(&mut books.ledger, ObjId::new(o)) {
-            bail!("an end is not added");
-        }
-    }
-    Ok(begin.elapsed(rt)?)
+    let are_added = add_ends(&mut books.ledger);
+    time_since(rt, begin, are_added)
 }
 
-// Some rounds, with as many entries of the plain list as of the ledger.
+// The least times of this round and of those before it. The plain list gets as many entries as the ledger.
+fn time_round<R: Clock + AllocGlobal>(rt: &R, books: &mut Books, before: Times) -> Result<Times> {
+    let mut push = before.push;
+    for _ in 0..3u32 {
+        push = push.min(time_pushes(rt, books)?);
+    }
+    Ok(Times {
+        push,
+        start: before.start.min(time_starts(rt, books)?),
+        post: before.post.min(time_posts(rt, books)?),
+        end: before.end.min(time_ends(rt, books)?),
+    })
+}
+
+// The least times of some rounds.
 fn time_rounds<R: Clock + AllocGlobal>(rt: &R, books: &mut Books, rounds: usize) -> Result<Times> {
     let mut times = Times {
         push: Duration::MAX,
@@ -224,12 +262,7 @@ fn time_rounds<R: Clock + AllocGlobal>(rt: &R, books: &mut Books, rounds: usize)
         end: Duration::MAX,
     };
     for _ in 0..rounds {
-        times.start = times.start.min(time_starts(rt, books)?);
-        times.post = times.post.min(time_posts(rt, books)?);
-        times.end = times.end.min(time_ends(rt, books)?);
-        for _ in 0..3u32 {
-            times.push = times.push.min(time_pushes(rt, books)?);
-        }
+        times = time_round(rt, books, times)?;
     }
     Ok(times)
 }
@@ -283,23 +316,33 @@ fn tell<R: Print>(rt: &R, name: &str, time: Duration, push: u128) -> Result<()> 
     Ok(())
 }
 
-fn report_at<R: Clock + Print + AllocGlobal>(rt: &R, entries: usize) -> Result<()> {
-    let mut books = books_of(rt.alloc())?;
-    time_rounds(rt, &mut books, entries / (3 * OBJECTS))?;
-    println!(rt;
-        "after {} entries, with a push as 100 %:",
-        books.ledger.journal().len()
-    )?;
-    let times = time_rounds(rt, &mut books, TIMED_ROUNDS)?;
-    let push = times.push.as_nanos() * 10 / CALLS;
+fn tell_times<R: Print>(rt: &R, times: Times, push: u128) -> Result<()> {
     println!(rt; "{:<10} {:>6}.{} ns", "push", push / 10, push % 10)?;
     tell(rt, "start", times.start, push)?;
     tell(rt, "post", times.post, push)?;
-    tell(rt, "end", times.end, push)?;
+    tell(rt, "end", times.end, push)
+}
+
+fn tell_look_ups<R: Clock + Print>(rt: &R, ledger: &Ledger, push: u128) -> Result<()> {
     for (look_up, name) in LOOK_UPS {
-        tell(rt, name, time_look_ups(rt, &books.ledger, look_up)?, push)?;
+        tell(rt, name, time_look_ups(rt, ledger, look_up)?, push)?;
     }
     Ok(())
+}
+
+fn tell_rounds<R: Clock + Print + AllocGlobal>(rt: &R, books: &mut Books) -> Result<()> {
+    let times = time_rounds(rt, books, TIMED_ROUNDS)?;
+    let push = times.push.as_nanos() * 10 / CALLS;
+    tell_times(rt, times, push)?;
+    tell_look_ups(rt, &books.ledger, push)
+}
+
+fn report_at<R: Clock + Print + AllocGlobal>(rt: &R, entries: usize) -> Result<()> {
+    let mut books = books_of(rt.alloc())?;
+    time_rounds(rt, &mut books, entries / (3 * OBJECTS))?;
+    let count = books.ledger.journal().len();
+    println!(rt; "after {count} entries, with a push as 100 %:")?;
+    tell_rounds(rt, &mut books)
 }
 
 /// Prints how long entries and look-ups take in a ledger of 64 objects, after a thousand entries and

@@ -1,15 +1,17 @@
 //! The program `read_bench`: how fast texts of domains are read, checked and printed, ledgers kept and tasks run.
 #![tactic(auto)]
 
+ghost use Rattle.std.specs.Prelude.{◌≤◌};
+
 mod ledgers;
 mod made_text;
 mod moves;
 mod task;
+mod texts;
 mod timing;
 
-use anyhow::{Context, Result, anyhow, bail};
-use sml_faults::first_fault;
-use sml_read::read;
+use crate::made_text::{LEAST_CLASSES, MOST_CLASSES};
+use anyhow::{Context, Result, bail};
 use std::fs::Files;
 use std::time::Clock;
 use std::{env, fs};
@@ -45,16 +47,10 @@ fn main(rt: HostRuntime) -> Result<()> {
 // Does what the words ask for, the program's name first.
 fn drive<R: Files + Clock + Print + AllocGlobal>(rt: &R, words: &[&str]) -> Result<()> {
     match words {
-        [] | [_] => {
-            rt.println(USAGE)?;
-            tell_made_texts(rt)
-        }
-        [_, "--help"] => {
-            rt.println(USAGE)?;
-            Ok(())
-        }
-        [_, "time", rounds] => time_made_texts(rt, rounds_of(rounds)?),
-        [_, "time", rounds, file] => time_file(rt, rounds_of(rounds)?, file),
+        [] | [_] => tell_made_texts(rt),
+        [_, "--help"] => tell_usage(rt),
+        [_, "time", rounds] => time_made_texts(rt, rounds),
+        [_, "time", rounds, file] => time_file(rt, rounds, file),
         [_, "ledgers"] => ledgers::report(rt),
         [_, "moves"] => moves::report(rt),
         [_, "write", file, classes] => write_made_text(rt, file, classes),
@@ -62,8 +58,14 @@ fn drive<R: Files + Clock + Print + AllocGlobal>(rt: &R, words: &[&str]) -> Resu
     }
 }
 
-// Tells what the smallest and the largest made text have.
+fn tell_usage<R: Print>(rt: &R) -> Result<()> {
+    rt.println(USAGE)?;
+    Ok(())
+}
+
+// Tells what may be asked, and what the smallest and the largest made text have.
 fn tell_made_texts<R: Print + AllocGlobal>(rt: &R) -> Result<()> {
+    tell_usage(rt)?;
     let small = made_text::of_classes(rt.alloc(), made_text::LEAST_CLASSES)?;
     tell_text(rt, &small)?;
     let large = made_text::of_classes(rt.alloc(), made_text::MOST_CLASSES)?;
@@ -72,8 +74,8 @@ fn tell_made_texts<R: Print + AllocGlobal>(rt: &R) -> Result<()> {
 
 // Tells what a text has, which is read and has no fault.
 fn tell_text<R: Print + AllocGlobal>(rt: &R, text: &[u8]) -> Result<()> {
-    let file = read(rt.alloc(), text).map_err(|error| anyhow!("a text is refused: {error}"))?;
-    first_fault(rt.alloc(), &file).map_err(|error| anyhow!("a file is refused: {error}"))?;
+    let file = texts::file_of(rt.alloc(), text)?;
+    texts::find_fault(rt.alloc(), &file)?;
     let (bytes, items) = (text.len(), file.items.len());
     println!(rt; "{bytes} bytes, {items} items, well-formed")?;
     Ok(())
@@ -84,22 +86,35 @@ fn rounds_of(word: &str) -> Result<u32> {
     Ok(rounds)
 }
 
-fn time_made_texts<R: Clock + Print + AllocGlobal>(rt: &R, rounds: u32) -> Result<()> {
-    let mut large = Vec::new(rt.alloc());
-    large.push(made_text::of_classes(rt.alloc(), made_text::MOST_CLASSES)?)?;
-    timing::report(rt, rounds, &large)?;
-    let mut small = Vec::new(rt.alloc());
-    for _ in 0..16u32 {
-        small.push(made_text::of_classes(rt.alloc(), made_text::LEAST_CLASSES)?)?;
+fn time_made_texts<R: Clock + Print + AllocGlobal>(rt: &R, rounds: &str) -> Result<()> {
+    let rounds = rounds_of(rounds)?;
+    time_texts_of(rt, rounds, 1, made_text::MOST_CLASSES)?;
+    time_texts_of(rt, rounds, 16, made_text::LEAST_CLASSES)
+}
+
+// Times so many made texts with so many classes.
+fn time_texts_of<R: Clock + Print + AllocGlobal>(
+    rt: &R,
+    rounds: u32,
+    count: u32,
+    classes: usize,
+) -> Result<()>
+    requires at_least { LEAST_CLASSES ≤ classes }
+    requires at_most { classes ≤ MOST_CLASSES }
+{
+    let mut texts = Vec::new(rt.alloc());
+    for _ in 0..count {
+        texts.push(made_text::of_classes(rt.alloc(), classes)?)?;
     }
-    timing::report(rt, rounds, &small)
+    timing::report(rt, rounds, &texts)
 }
 
 fn time_file<R: Files + Clock + Print + AllocGlobal>(
     rt: &R,
-    rounds: u32,
+    rounds: &str,
     file: &str,
 ) -> Result<()> {
+    let rounds = rounds_of(rounds)?;
     let mut texts = Vec::new(rt.alloc());
     texts.push(fs::read(rt, file)?)?;
     timing::report(rt, rounds, &texts)

@@ -1,18 +1,20 @@
 //! How long a task takes for a move, of actions in small and of long blocks.
-use anyhow::{Result, anyhow, bail};
+ghost use Rattle.std.specs.Prelude.{◌≡◌, IfOk, IsTrue, is_some};
+ghost use Rattle.std.specs.Arc.{arc_value};
+ghost use Rattle.sml_domain.specs.Lookups.{block_at};
+
+use crate::texts::domain_of;
+use anyhow::{Result, bail};
 use smi_entry::args::Args;
 use smi_entry::entry::{Sender, Verdict};
 use smi_entry::envelope::Envelope;
 use smi_entry::session::SessionId;
 use smi_interp::contact::Contact;
 use smi_interp::task::{Ready, Task};
-use sml_check::check;
-use sml_checkable::laws::laws_of_read_files;
 use sml_domain::domain::Domain;
 use sml_domain::ids::{ActionId, ObjId, StateId};
 use sml_domain::param::Param;
 use sml_domain::value::Value;
-use sml_read::read;
 use std::alloc::{AllocError, Global};
 use std::fmt::Write;
 use std::sync::Arc;
@@ -113,16 +115,6 @@ fn made_text(alloc: Global, shape: Shape) -> Result<Vec<u8>> {
     Ok(text.into_bytes())
 }
 
-fn domain_of(alloc: Global, text: &[u8]) -> Result<Arc<Domain>> {
-    let file = read(alloc, text).map_err(|error| anyhow!("a text is refused: {error}"))?;
-    laws_of_read_files();
-    let domain = check(alloc, &file).map_err(|error| anyhow!("a file is refused: {error}"))?;
-    match Arc::new(alloc, domain) {
-        Ok(domain) => Ok(domain),
-        Err(_) => bail!("there is no memory for a domain"),
-    }
-}
-
 fn domain_of_shape(alloc: Global, shape: Shape) -> Result<Arc<Domain>> {
     match shape {
         Shape::Supplies => domain_of(alloc, SUPPLIES),
@@ -154,21 +146,36 @@ fn first_values(alloc: Global, params: &[Param]) -> Result<Vec<Value>> {
     Ok(values)
 }
 
-// A request of the first session for an action, with its defaults.
-fn envelope_of(alloc: Global, domain: &Domain, action: ActionId) -> Result<Envelope> {
-    let (Some(session), Some(params)) = (
-        SessionId::new(1),
-        domain.parameters(ObjId::new(0), action),
-    ) else {
+// The first session.
+fn sender_of() -> Result<Sender> {
+    match SessionId::new(1) {
+        Some(session) => Ok(Sender::Operator(session)),
+        None => bail!("there is no first session"),
+    }
+}
+
+// The defaults of an action of the first object.
+fn args_of(alloc: Global, domain: &Domain, action: ActionId) -> Result<Args> {
+    let Some(params) = domain.parameters(ObjId::new(0), action) else {
         bail!("the first object has no such action");
     };
     let args = Args::new(alloc, first_values(alloc, params)?)?;
-    let envelope = Envelope::new(Sender::Operator(session), action, args)?;
+    Ok(args)
+}
+
+// A request of the first session for an action, with its defaults.
+fn envelope_of(alloc: Global, domain: &Domain, action: ActionId) -> Result<Envelope>
+    ensures { IfOk result (λ envelope. envelope.action ≡ action) }
+{
+    let sender = sender_of()?;
+    let envelope = Envelope::new(sender, action, args_of(alloc, domain, action)?)?;
     Ok(envelope)
 }
 
-// A task of the first object.
-fn task_of(alloc: Global, domain: &Arc<Domain>, action: ActionId) -> Result<Task> {
+// The state in which the first object begins, and in which it declares the action.
+fn state_of(domain: &Domain, action: ActionId) -> Result<StateId>
+    ensures { IfOk result (λ state. IsTrue (is_some (block_at domain.now 0 state action))) }
+{
     let object = ObjId::new(0);
     if !domain.has(object) {
         bail!("there is no object");
@@ -177,12 +184,24 @@ fn task_of(alloc: Global, domain: &Arc<Domain>, action: ActionId) -> Result<Task
     if !domain.declares(object, state, action) {
         bail!("the action is not declared");
     }
-    let envelope = envelope_of(alloc, domain, action)?;
+    Ok(state)
+}
+
+// The growths of a task of the first object.
+fn ready_of(alloc: Global, domain: &Arc<Domain>) -> Result<Ready>
+    ensures { IfOk result (λ ready. (ready.domain ≡ arc_value domain.now) × (ready.object ≡ 0)) }
+{
+    let object = ObjId::new(0);
     let params = first_values(alloc, domain.class_parameters(object))?;
     let ready = Ready::new(alloc, Arc::try_clone(domain)?, object, &params)?;
-    if envelope.letter().action != action {
-        bail!("the request is for another action");
-    }
+    Ok(ready)
+}
+
+// A task of the first object.
+fn task_of(alloc: Global, domain: &Arc<Domain>, action: ActionId) -> Result<Task> {
+    let state = state_of(domain, action)?;
+    let envelope = envelope_of(alloc, domain, action)?;
+    let ready = ready_of(alloc, domain)?;
     Ok(ready.begin(state, envelope))
 }
 
@@ -219,28 +238,56 @@ fn walk(task: &mut Task) -> Result<usize> {
     bail!("the action makes too many moves")
 }
 
+// How long an action was run, and how many moves it makes.
+fn time_walk<R: Clock>(rt: &R, task: &mut Task) -> Result<(Duration, usize)> {
+    let begin = Instant::now(rt)?;
+    let moves = walk(task)?;
+    Ok((begin.elapsed(rt)?, moves))
+}
+
+// The same of a new task of the first object.
+fn time_task<R: Clock + AllocGlobal>(
+    rt: &R,
+    domain: &Arc<Domain>,
+    action: ActionId,
+) -> Result<(Duration, usize)> {
+    let mut task = task_of(rt.alloc(), domain, action)?;
+    time_walk(rt, &mut task)
+}
+
 // The least time in which an action was run, and how many moves it makes.
-fn time_walks<R: Clock + AllocGlobal>(rt: &R, shape: Shape) -> Result<(Duration, usize)> {
-    let domain = domain_of_shape(rt.alloc(), shape)?;
-    let mut least = Duration::MAX;
-    let mut moves = 0usize;
+fn time_tasks<R: Clock + AllocGlobal>(
+    rt: &R,
+    domain: &Arc<Domain>,
+    action: ActionId,
+) -> Result<(Duration, usize)> {
+    let (mut least, mut moves) = (Duration::MAX, 0usize);
     for _ in 0..ROUNDS {
-        let mut task = task_of(rt.alloc(), &domain, action_of(shape))?;
-        let begin = Instant::now(rt)?;
-        moves = walk(&mut task)?;
-        least = least.min(begin.elapsed(rt)?);
+        let (time, made) = time_task(rt, domain, action)?;
+        least = least.min(time);
+        moves = made;
     }
     Ok((least, moves))
+}
+
+fn time_shape<R: Clock + AllocGlobal>(rt: &R, shape: Shape) -> Result<(Duration, usize)> {
+    let domain = domain_of_shape(rt.alloc(), shape)?;
+    time_tasks(rt, &domain, action_of(shape))
+}
+
+fn tell<R: Print>(rt: &R, name: &str, time: Duration, moves: usize) -> Result<()> {
+    let tenths = time.as_nanos() * 10 / moves.max(1) as u128;
+    let (whole, part) = (tenths / 10, tenths % 10);
+    println!(rt; "{name:<12} {moves:>6} moves {whole:>6}.{part} ns a move")?;
+    Ok(())
 }
 
 /// Prints how long a task takes for a move, in small actions, and in long blocks of `set`s and of
 /// `if`s.
 pub fn report<R: Clock + Print + AllocGlobal>(rt: &R) -> Result<()> {
     for (shape, name) in SHAPES {
-        let (time, moves) = time_walks(rt, shape)?;
-        let tenths = time.as_nanos() * 10 / moves.max(1) as u128;
-        let (whole, part) = (tenths / 10, tenths % 10);
-        println!(rt; "{name:<12} {moves:>6} moves {whole:>6}.{part} ns a move")?;
+        let (time, moves) = time_shape(rt, shape)?;
+        tell(rt, name, time, moves)?;
     }
     Ok(())
 }

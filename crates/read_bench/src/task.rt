@@ -1,14 +1,13 @@
 //! What is timed. A new line of the report is a new `Task`.
+ghost use Rattle.sml_tree.specs.Content.{file_content};
+ghost use Rattle.sml_check.specs.Texts.{HasTexts};
 
-use anyhow::{Result, anyhow};
+use crate::texts::{checked, file_of, find_fault};
+use anyhow::{Result, bail};
 use bumpalo::Bump;
-use sml_check::check;
-use sml_checkable::laws::laws_of_read_files;
-use sml_faults::first_fault;
 use sml_print::write_to;
-use sml_read::read;
 use sml_tree::file::SmlFile;
-use std::alloc::{AllocError, Allocator};
+use std::alloc::{AllocError, Allocator, Global};
 use std::time::{Clock, Duration, Instant};
 
 /// What is done with texts.
@@ -78,9 +77,13 @@ fn time_read_in_arena<R: Clock>(rt: &R, arena: &mut Bump, texts: &[Vec<u8>]) -> 
 
 fn time_finding_faults<R: Clock + AllocGlobal>(rt: &R, texts: &[Vec<u8>]) -> Result<Duration> {
     let files = files_of(rt.alloc(), texts)?;
+    time_faults(rt, &files)
+}
+
+fn time_faults<R: Clock + AllocGlobal>(rt: &R, files: &[SmlFile<Global>]) -> Result<Duration> {
     let start = Instant::now(rt)?;
-    for file in &files {
-        first_fault(rt.alloc(), file).map_err(|error| anyhow!("a file is refused: {error}"))?;
+    for file in files {
+        find_fault(rt.alloc(), file)?;
     }
     Ok(start.elapsed(rt)?)
 }
@@ -88,26 +91,36 @@ fn time_finding_faults<R: Clock + AllocGlobal>(rt: &R, texts: &[Vec<u8>]) -> Res
 fn time_checking<R: Clock + AllocGlobal>(rt: &R, texts: &[Vec<u8>]) -> Result<Duration> {
     let mut whole = Duration::ZERO;
     for text in texts {
-        whole = whole.saturating_add(time_check(rt, text)?);
+        let file = file_of(rt.alloc(), text)?;
+        whole = whole.saturating_add(time_check(rt, &file)?);
     }
     Ok(whole)
 }
 
-fn time_check<R: Clock + AllocGlobal>(rt: &R, text: &[u8]) -> Result<Duration> {
-    let file = read(rt.alloc(), text).map_err(|error| anyhow!("a text is refused: {error}"))?;
-    laws_of_read_files();
+fn time_check<R: Clock + AllocGlobal>(rt: &R, file: &SmlFile<Global>) -> Result<Duration>
+    requires { HasTexts (file_content file.now) }
+{
     let start = Instant::now(rt)?;
-    let domain = check(rt.alloc(), &file).map_err(|error| anyhow!("a file is refused: {error}"))?;
-    drop(domain);
+    drop(checked(rt.alloc(), file)?);
     Ok(start.elapsed(rt)?)
 }
 
 fn time_printing<R: Clock + AllocGlobal>(rt: &R, texts: &[Vec<u8>]) -> Result<Duration> {
     let files = files_of(rt.alloc(), texts)?;
     let mut printed = Vec::new(rt.alloc());
+    time_prints(rt, &files, &mut printed)
+}
+
+fn time_prints<R: Clock>(
+    rt: &R,
+    files: &[SmlFile<Global>],
+    printed: &mut Vec<u8>,
+) -> Result<Duration> {
     let start = Instant::now(rt)?;
-    for file in &files {
-        write_to(file, &mut printed).map_err(|_| anyhow!("no memory for the text"))?;
+    for file in files {
+        if write_to(file, printed).is_err() {
+            bail!("no memory for the text");
+        }
     }
     Ok(start.elapsed(rt)?)
 }
@@ -115,8 +128,7 @@ fn time_printing<R: Clock + AllocGlobal>(rt: &R, texts: &[Vec<u8>]) -> Result<Du
 fn files_of<A: Allocator + Copy + Drop>(alloc: A, texts: &[Vec<u8>]) -> Result<Vec<SmlFile<A>, A>> {
     let mut files = Vec::new(alloc);
     for text in texts {
-        let file = read(alloc, text).map_err(|error| anyhow!("a text is refused: {error}"))?;
-        files.push(file).map_err(AllocError::from)?;
+        files.push(file_of(alloc, text)?).map_err(AllocError::from)?;
     }
     Ok(files)
 }
