@@ -199,6 +199,12 @@ fn brackets_stand_where_they_are_needed(rt: HostRuntime) {
     }
 }
 
+// What a writer that is good for so many calls gets and is told must be so.
+fn is_front(written: Result<(), PrintFault>, taken: &[u8], good_calls: usize) -> bool {
+    written.is_ok() == (good_calls >= CANONICAL.len())
+        && taken == CANONICAL.split_at(good_calls.min(CANONICAL.len())).0
+}
+
 // Whether a writer that is good for so many calls gets a front of the text, as the answer says.
 fn is_front_written(file: &SmlFile<Global>, alloc: Global, good_calls: usize) -> bool {
     let mut writer = OneByte {
@@ -206,13 +212,7 @@ fn is_front_written(file: &SmlFile<Global>, alloc: Global, good_calls: usize) ->
         good_calls,
     };
     let written = write_to(file, &mut writer);
-    let wanted = if good_calls < CANONICAL.len() {
-        Err(PrintFault)
-    } else {
-        Ok(())
-    };
-    written == wanted
-        && writer.taken.as_slice() == CANONICAL.split_at(good_calls.min(CANONICAL.len())).0
+    is_front(written, writer.taken.as_slice(), good_calls)
 }
 
 #[test]

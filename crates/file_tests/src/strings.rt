@@ -48,33 +48,58 @@ fn string(alloc: Global, bytes: &[u8]) -> Result<Literal<Global>, AllocError> {
     Ok(Literal::Str(Vec::from_slice(alloc, bytes)?))
 }
 
-#[test]
-fn makes_values(rt: HostRuntime) -> Result<(), Fail> {
-    let alloc = rt.alloc();
-    let int: Literal<Global> = Literal::Int(-7);
-    let seven = Value::of_literal(alloc, &int)?;
-    let letter = Value::of_literal(alloc, &string(alloc, b"a")?)?;
-    let bad = Value::of_literal(alloc, &string(alloc, b"\"")?).err();
-    let shown = [
-        seven == Value::Int(-7),
-        letter == Value::Text(Text::new(alloc, b"a")?),
-        bad == Some(TextError::BadText),
-        seven.kind() == Kind::Int,
-        letter.kind() == Kind::Str,
-    ];
-    for is_so in shown {
-        assert!(rt; is_so);
+// Whether a literal is made this value, and of this kind.
+fn is_made(alloc: Global, literal: &Literal<Global>, value: &Value, kind: Kind) -> bool {
+    match Value::of_literal(alloc, literal) {
+        Ok(made) => made == *value && made.kind() == kind,
+        Err(_) => false,
     }
+}
+
+// Whether a literal is no value, since its bytes are those of no string.
+fn is_bad(alloc: Global, literal: &Literal<Global>) -> bool {
+    Value::of_literal(alloc, literal).err() == Some(TextError::BadText)
+}
+
+#[test]
+fn makes_ints(rt: HostRuntime) {
+    assert!(rt; is_made(rt.alloc(), &Literal::Int(-7), &Value::Int(-7), Kind::Int));
+}
+
+#[test]
+fn makes_texts(rt: HostRuntime) -> Result<(), Fail> {
+    let letter = Value::Text(Text::new(rt.alloc(), b"a")?);
+    let literal = string(rt.alloc(), b"a")?;
+    assert!(rt; is_made(rt.alloc(), &literal, &letter, Kind::Str));
     Ok(())
 }
 
 #[test]
-fn compares_values(rt: HostRuntime) -> Result<(), Fail> {
-    let alloc = rt.alloc();
+fn makes_no_bad_texts(rt: HostRuntime) -> Result<(), Fail> {
+    assert!(rt; is_bad(rt.alloc(), &string(rt.alloc(), b"\"")?));
+    Ok(())
+}
+
+// An int and a text.
+fn int_and_letter(alloc: Global) -> Result<Vec<Value>, Fail> {
     let letter = Value::Text(Text::new(alloc, b"a")?);
-    let values = vec![in alloc; Value::Int(-7).share()?, letter.share()?]?;
-    let others = vec![in alloc; Value::Int(-7), letter]?;
+    Ok(vec![in alloc; Value::Int(-7), letter]?)
+}
+
+// The same values, which share their texts.
+fn shared(alloc: Global, values: &[Value]) -> Result<Vec<Value>, Fail> {
+    let mut shares = Vec::new(alloc);
+    for value in values {
+        shares.push(value.share()?)?;
+    }
+    Ok(shares)
+}
+
+#[test]
+fn compares_values(rt: HostRuntime) -> Result<(), Fail> {
+    let values = int_and_letter(rt.alloc())?;
+    let others = shared(rt.alloc(), &values)?;
     assert!(rt; same_values(&values, &others));
-    assert!(rt; !same_values(&values, &others[..1]));
+    assert!(rt; matches!(others.get(..1), Some(front) if !same_values(&values, front)));
     Ok(())
 }
