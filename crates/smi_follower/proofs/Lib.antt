@@ -1,0 +1,4 @@
+mod Contacts
+mod Sizes
+mod Nexts
+mod Journals

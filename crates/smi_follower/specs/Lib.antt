@@ -1,0 +1,5 @@
+pub mod Following
+pub mod Passing
+pub mod Matching
+pub mod Expecting
+pub mod Laws

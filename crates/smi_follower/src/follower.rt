@@ -1,0 +1,256 @@
+//! Followers of open actions.
+ghost use Rattle.std.specs.Prelude.{◌≡◌, ◌↔◌, IfSome, IsTrue, Some, length, map, option_map, slice_get};
+ghost use Rattle.smi_meaning.specs.Conditions.{object_read};
+ghost use Rattle.smi_meaning.specs.Meaning.{state_left};
+ghost use Rattle.smi_interp.specs.declared.contact.Contact.TheVariants as contact;
+ghost use Rattle.smi_interp.specs.Task.{IsNext, outcome_of, posts_waiting};
+ghost use Rattle.smi_follower.specs.Passing.{end_of};
+
+use crate::matching::{are_of, is_post, states_of};
+use crate::passing::settle;
+use smi_entry::args::Reading;
+use smi_entry::entry::Verdict;
+use smi_entry::letter::Letter;
+use smi_interp::contact::{Contact, Objects, Post};
+use smi_interp::task::{Ready, Task};
+use sml_domain::ids::{ActionId, ObjId, StateId};
+use sml_domain::value::Value;
+use std::alloc::{AllocError, Global};
+use std::marker::Model;
+
+/// How an action ended: the state of its object and the parameters of this, in the order of the class's
+/// list.
+#[derive(Drop)]
+pub struct Ended {
+    pub state: StateId,
+    pub params: Vec<Value>,
+}
+
+/// What an action shows next.
+#[derive(Clone, Copy)]
+pub enum Expected<'a> {
+    /// It posts this request, with any verdict.
+    Post(&'a Post),
+    /// It reads these objects, in any states.
+    Read(&'a Objects),
+    /// It ends in this state.
+    End(StateId),
+}
+
+/// An open action that is followed from one thing that it shows to the next, as a journal has them.
+///
+/// A follower asks nobody: it is told what was posted and read, and says whether the action may go on
+/// so. What it costs is what the action costs from one such thing to the next, whatever came before.
+#[derive(Drop)]
+pub struct Follower {
+    // The action, at a contact that shows something, or at its end.
+    task: Task,
+    // The verdicts on the first posts of that contact.
+    verdicts: Vec<Verdict>,
+    alloc: Global,
+}
+
+impl Model for Follower {
+    ghost use Rattle.std.specs.Coded.{codes};
+    ghost use Rattle.sml_domain.specs.Codes.{formula_code};
+    ghost use Rattle.smi_follower.specs.Following.{FollowerView, seen_of};
+    ghost use Rattle.smi_follower.specs.Passing.{Stands};
+
+    ghost Value = { FollowerView };
+
+    ghost coded = { Prim.hlevel (codes, formula_code) };
+
+    ghost view = { λ f. seen_of f.task f.verdicts.items };
+
+    ghost invariant = { λ f. Stands f.task.pending f.verdicts.items };
+}
+
+// The first post that waits and has no verdict.
+fn wanted<'a>(task: &'a Task, verdicts: &[Verdict]) -> Option<&'a Post>
+    ensures is { option_map (λ p. p.now) result ≡ slice_get (posts_waiting task.now.pending) (length verdicts.now) }
+    ensures next { IfSome task.now.pending (IsNext task.now) }
+{
+    match task.pending() {
+        Some(Contact::Send(posts)) => posts.list().get(verdicts.len()),
+        _ => None,
+    }
+}
+
+// Whether the first post that waits and has no verdict is this request.
+fn is_wanted(
+    task: &Task,
+    verdicts: &[Verdict],
+    target: ObjId,
+    action: ActionId,
+    args: &[Value],
+) -> bool
+    ensures is { IsTrue result ↔ (slice_get (posts_waiting task.now.pending) (length verdicts.now)
+        ≡ Some (record { target = target; action = action; args = args.now })) }
+    ensures next { IfSome task.now.pending (IsNext task.now) }
+{
+    match wanted(task, verdicts) {
+        Some(post) => is_post(post, target, action, args),
+        None => false,
+    }
+}
+
+// Whether a task waits to read these objects, in this order.
+fn reads_those(task: &Task, readings: &[Reading]) -> bool
+    ensures is { IsTrue result ↔ (task.now.pending ≡ Some (contact.Read (map object_read readings.now))) }
+    ensures next { IfSome task.now.pending (IsNext task.now) }
+{
+    match task.pending() {
+        Some(Contact::Read(objects)) => are_of(readings, objects.list()),
+        _ => false,
+    }
+}
+
+// The state after an action that ends so, where it was in a state before.
+fn state_after(was: StateId, end: Option<StateId>) -> StateId
+    ensures { result ≡ state_left was (outcome_of end) }
+{
+    match end {
+        Some(state) => state,
+        None => was,
+    }
+}
+
+// The state in which a task ends, where its end waits.
+fn end_state(task: &Task) -> Option<StateId>
+    ensures is { result ≡ end_of task.now.turn.state task.now.pending }
+    ensures next { IfSome task.now.pending (IsNext task.now) }
+{
+    match task.pending() {
+        Some(Contact::End(end)) => Some(state_after(task.turn().state, *end)),
+        _ => None,
+    }
+}
+
+impl Follower {
+    ghost use Rattle.std.specs.Prelude.{◌≡◌, [], IfNone, IfOk, IfSome, IsTrue, List, None, is_some};
+    ghost use Rattle.sml_domain.specs.Lookups.{block_at};
+    ghost use Rattle.sml_domain.specs.Truth as truth;
+    ghost use Rattle.smi_entry.specs.Words.{Saw, Sent};
+    ghost use Rattle.smi_meaning.specs.Shown.{ToRead};
+    ghost use Rattle.smi_follower.specs.Following.{Asks, GoesOn, MayShow, followed, seen_of};
+    ghost use Rattle.smi_follower.specs.Expecting.{Ends, IsExpected};
+
+    /// Follows an action from its beginning: that of a letter, which the object's class declares in a
+    /// state. An error is want of memory. The cost is that of the moves that show nothing at the
+    /// beginning of its block.
+    pub fn begin(
+        alloc: Global,
+        ready: Ready,
+        state: StateId,
+        letter: Letter,
+    ) -> Result<Follower, AllocError>
+        requires { IsTrue (is_some (block_at ready.domain ready.object state letter.action)) }
+        ensures { IfOk result (λ f. f ≡ followed ready.domain ready.object state letter ready.params) }
+    {
+        Follower::settled(alloc, ready.begin_letter(state, letter))
+    }
+
+    // Follows a task that goes on.
+    fn settled(alloc: Global, task: Task) -> Result<Follower, AllocError>
+        requires { task.pending ≡ None }
+        ensures { IfOk result (λ f. f ≡ seen_of task []) }
+    {
+        let mut task = task;
+        settle(&mut task)?;
+        Ok(Follower {
+            task,
+            verdicts: Vec::new(alloc),
+            alloc,
+        })
+    }
+
+    /// What the action shows next, for people to read: it may show that and nothing else. The cost is
+    /// constant.
+    pub fn expected(&self) -> Expected<'_>
+        ensures { IsExpected self.now result }
+    {
+        match self.task.pending() {
+            Some(Contact::Send(posts)) => Expected::Post(&posts.list()[self.verdicts.len()]),
+            Some(Contact::Read(objects)) => Expected::Read(objects),
+            Some(Contact::End(end)) => Expected::End(state_after(self.task.turn().state, *end)),
+            _ => unreachable!(),
+        }
+    }
+
+    /// The objects that the action reads next, or None where it reads none next. The cost is constant.
+    pub fn reads(&self) -> Option<&[ObjId]>
+        ensures some { IfSome result (λ objects. Asks self.now (ToRead objects.now)) }
+        ensures none { IfNone result ((readings : List truth.Reading) → ¬ MayShow self.now (Saw readings)) }
+    {
+        match self.expected() {
+            Expected::Read(objects) => Some(objects.list()),
+            Expected::Post(_) | Expected::End(_) => None,
+        }
+    }
+
+    /// Goes on with a post, or gives None where the action may not post this request next. An error is
+    /// want of memory. The cost is that of the arguments and, where it was the last post of a `do`, that
+    /// of the verdicts on the `do`'s posts and of the moves up to the next that shows something.
+    pub fn post(
+        self,
+        target: ObjId,
+        action: ActionId,
+        args: &[Value],
+        verdict: Verdict,
+    ) -> Result<Option<Follower>, AllocError>
+        ensures { IfOk result (GoesOn self (Sent target verdict action args.now)) }
+    {
+        let Follower {
+            task,
+            verdicts,
+            alloc,
+        } = self;
+        if !is_wanted(&task, &verdicts, target, action, args) {
+            return Ok(None);
+        }
+        let mut verdicts = verdicts;
+        verdicts.push(verdict)?;
+        if wanted(&task, &verdicts).is_some() {
+            return Ok(Some(Follower {
+                task,
+                verdicts,
+                alloc,
+            }));
+        }
+        let mut task = task;
+        task.sent(&verdicts);
+        let next = Follower::settled(alloc, task)?;
+        Ok(Some(next))
+    }
+
+    /// Goes on with what an `if` read, or gives None where the action may not read these objects next in
+    /// this order. An error is want of memory. The cost is that of the readings, of the condition, and of
+    /// the moves up to the next that shows something.
+    pub fn seen(self, readings: &[Reading]) -> Result<Option<Follower>, AllocError>
+        ensures { IfOk result (GoesOn self (Saw readings.now)) }
+    {
+        let Follower { task, alloc, .. } = self;
+        if !reads_those(&task, readings) {
+            return Ok(None);
+        }
+        let states = states_of(alloc, readings)?;
+        let mut task = task;
+        task.tell(&states);
+        let next = Follower::settled(alloc, task)?;
+        Ok(Some(next))
+    }
+
+    /// Ends the action, or gives None where it may not end now. Takes no memory. The cost is constant.
+    pub fn end(self) -> Option<Ended>
+        ensures { Ends self result }
+    {
+        let Follower { task, .. } = self;
+        match end_state(&task) {
+            Some(state) => Some(Ended {
+                state,
+                params: task.into_params(),
+            }),
+            None => None,
+        }
+    }
+}

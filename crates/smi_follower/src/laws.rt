@@ -1,0 +1,11 @@
+//! What a follower says of a journal, as contracts of functions that do nothing.
+ghost use Rattle.smi_follower.specs.Laws.{ShownIsLegal, WaitIsLegal, EndIsLegal, EndsLeave};
+
+/// What a follower of an open action may show is what may stand next in the journal; and it ends as the
+/// action may end there, with the parameters that the end leaves.
+pub fn laws_of_following()
+    ensures shown { ShownIsLegal }
+    ensures wait { WaitIsLegal }
+    ensures ends { EndIsLegal }
+    ensures leaves { EndsLeave }
+{}
