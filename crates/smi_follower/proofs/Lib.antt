@@ -2,3 +2,4 @@ mod Contacts
 mod Sizes
 mod Nexts
 mod Journals
+mod Kept

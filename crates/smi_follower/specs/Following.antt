@@ -48,7 +48,7 @@ MayShow f item = BeginsToShow f.domain (members_at f.domain) (block_of f) (env_o
 abbrev pub Asks : FollowerView → Question → Type 0
 Asks f q = (item : Item) → MayShow f item ↔ (question_in item ≡ q)
 
--- by a meaning that shows exactly what was shown, the action ends in this state and leaves these parameters of the object
+-- by a meaning that shows exactly what was shown, the action ends in this state and leaves its object these parameters
 pub record EndsIn (f : FollowerView) (s : ℕ) (own2 : List Value) : Type 0 where
   pub moves : List Move
   pub env2 : Env

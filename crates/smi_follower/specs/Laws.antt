@@ -23,18 +23,22 @@ pub record IsFollowed (d : Domain) (J : List Entry) (o : ℕ) (f : FollowerView)
 
 -- an item may be shown next exactly where the follower may show it
 abbrev pub ShownIsLegal : Type 0
-ShownIsLegal = (d : Domain) (J : List Entry) (o : ℕ) (f : FollowerView) (item : Item) → IsFollowed d J o f → ShowsNext d J o item ↔ MayShow f item
+ShownIsLegal = (d : Domain) (J : List Entry) (o : ℕ) (f : FollowerView) (item : Item) → IsFollowed d J o f
+    → ShowsNext d J o item ↔ MayShow f item
 
 -- where the follower asks for objects, its object may wait exactly where one of them is not clear
 abbrev pub WaitIsLegal : Type 0
-WaitIsLegal = (d : Domain) (J : List Entry) (o : ℕ) (f : FollowerView) (objects : List ℕ) → IsFollowed d J o f → Asks f (ToRead objects)
+WaitIsLegal = (d : Domain) (J : List Entry) (o : ℕ) (f : FollowerView) (objects : List ℕ)
+    → IsFollowed d J o f → Asks f (ToRead objects)
     → WaitsToRead d J o ↔ (are_clear J o objects ≡ false)
 
 -- what runs may end in exactly the state in which the follower may end
 abbrev pub EndIsLegal : Type 0
-EndIsLegal = (d : Domain) (J : List Entry) (o : ℕ) (f : FollowerView) (s : ℕ) → IsFollowed d J o f → BlockEnds d J o s ↔ MayEnd f s
+EndIsLegal = (d : Domain) (J : List Entry) (o : ℕ) (f : FollowerView) (s : ℕ) → IsFollowed d J o f
+    → BlockEnds d J o s ↔ MayEnd f s
 
 -- and leaves the parameters that the follower leaves
 abbrev pub EndsLeave : Type 0
-EndsLeave = (d : Domain) (J : List Entry) (o : ℕ) (f : FollowerView) (s : ℕ) (own2 : List Value) → IsFollowed d J o f → EndsIn f s own2
+EndsLeave = (d : Domain) (J : List Entry) (o : ℕ) (f : FollowerView) (s : ℕ) (own2 : List Value)
+    → IsFollowed d J o f → EndsIn f s own2
     → LeavesParams d o J f.own own2

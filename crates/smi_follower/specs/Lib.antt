@@ -3,3 +3,4 @@ pub mod Passing
 pub mod Matching
 pub mod Expecting
 pub mod Laws
+pub mod Growing

@@ -37,4 +37,6 @@ size (IfThen f p q rest) = suc (size p + size q + size rest)
 -- the task made a move that shows nothing, one of the few that its block makes; or it stands, and made none
 abbrev pub Passes : TaskView → TaskView → Bool → Type 0
 Passes t u true = Stands u.pending [] × (seen_of u [] ≡ seen_of t [])
-Passes t u false = (u.pending ≡ None) × (seen_of u [] ≡ seen_of t []) × (length u.turn.moves ≡ length t.turn.moves + 1) × (length u.turn.moves ≤ size (body u))
+Passes t u false =
+    (u.pending ≡ None) × (seen_of u [] ≡ seen_of t [])
+    × (length u.turn.moves ≡ length t.turn.moves + 1) × (length u.turn.moves ≤ size (body u))
