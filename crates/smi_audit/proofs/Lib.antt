@@ -1,0 +1,5 @@
+pub mod Broken
+pub mod Tracked
+pub mod Followed
+pub mod Adding
+pub mod OneMore

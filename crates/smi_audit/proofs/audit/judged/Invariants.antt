@@ -1,0 +1,14 @@
+-- The entries before the turn's are legal, and the judge has them.
+use Rattle.std.proofs.Common.{◌≡◌, take}
+use Rattle.std.specs.Arc.{arc_value}
+use Rattle.smi_meaning.specs.Legal.{IsLegal}
+use Rattle.smi_audit.specs.Judges.{IsKept}
+use Rattle.smi_audit.proofs.audit.judged.Given as goal
+
+abbrev pub invariant-loop-i : goal.invariant-loop-i
+invariant-loop-i l = record {
+  kept : IsKept l.judge;
+  domain : l.judge.ledger.domain ≡ arc_value l.fn.domain;
+  journal : l.judge.ledger.journal ≡ take l.i l.entries;
+  legal : IsLegal (arc_value l.fn.domain) l.judge.ledger.journal;
+}

@@ -1,0 +1,13 @@
+-- What was started is followed.
+use Rattle.std.proofs.Common.{refl, sym}
+use Rattle.smi_entry.specs.declared.entry.Entry.TheVariants.{Start}
+use Rattle.smi_audit.proofs.Adding.{adds, start_added_as}
+use Rattle.smi_audit.proofs.judge.Judge.start.Goals as goal
+
+pub returns : goal.returns
+returns c =
+    let j = c.args.self.now in
+    let d = j.ledger.domain in
+    let J = j.ledger.journal in
+    adds _ _ (Start c.args.o c.args.sender.now c.args.number c.args.action c.args.args.now) refl c.requires.kept c.in-None.ensures c.in_ok-add_start.ensures.domain c.in_ok-add_start.ensures.journal
+    (start_added_as d _ J j.tracks.items _ c.args.o _ c.in_ok-followed.followed _ c.in_ok-followed.ensures c.requires.within (sym c.requires.kept.domain) c.state-state.ensures c.requires.kept.tracked c.in_ok-start_in.ensures)

@@ -1,0 +1,4 @@
+pub mod Views
+pub mod Tracks
+pub mod Judges
+pub mod Audit

@@ -1,0 +1,11 @@
+-- What contracts see of a track.
+use Rattle.std.specs.Prelude.{List, Option}
+use Rattle.sml_domain.specs.declared.value.Value.{Value}
+use Rattle.smi_follower.specs.Following.{FollowerView}
+use Rattle.smi_audit.specs.declared.calls.Call.{Call}
+
+-- the parameters of an object, the follower of what runs there, and what it asked of each object
+pub record TrackView : Type 0 where
+  pub params : List Value
+  pub follower : Option FollowerView
+  pub calls : List (List Call)

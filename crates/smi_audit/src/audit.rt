@@ -1,0 +1,62 @@
+//! Judging the text of a journal.
+ghost use Rattle.std.specs.Prelude.{◌≡◌, ◌<◌, ◌+◌, ◌^◌, All, Err, IfErr, IfOk, length};
+ghost use Rattle.std.specs.Arc.{arc_value};
+ghost use Rattle.smi_journal.specs.HasText.{HasText};
+ghost use Rattle.smi_journal.specs.ReadJournal.{IsRefused, NoHeader};
+ghost use Rattle.smi_audit.specs.Audit.{IsJudged, Judges};
+
+use crate::judge::Judge;
+use crate::judgement::Judgement;
+use smi_entry::entry::Entry;
+use smi_journal::read::{JournalError, read_journal};
+use sml_domain::domain::Domain;
+use std::alloc::{AllocError, Global};
+use std::sync::Arc;
+
+// Judges entries that have a text.
+fn judged(alloc: Global, domain: Arc<Domain>, entries: &[Entry]) -> Result<Judgement, AllocError>
+    requires texts { All (HasText (arc_value domain)) entries.now }
+    requires few { length entries.now + 2 < 2 ^ 64 }
+    ensures { IfOk result (IsJudged (arc_value domain) entries.now) }
+{
+    let mut judge = Judge::new(alloc, domain)?;
+    for (i, entry) in entries.iter().enumerate() {
+        match judge.take(entry)? {
+            Some(rule) => {
+                return Ok(Judgement::Illegal {
+                    line: i as u64 + 2,
+                    rule,
+                });
+            }
+            None => {}
+        }
+    }
+    Ok(Judgement::Legal)
+}
+
+/// Judges the text of a journal of a domain: whether each entry may follow those before it, or else which
+/// is the first that may not, and the first rule that it breaks. (docs/FORMATS.md, "What a journal is
+/// judged by".) The whole text is read before anything is judged.
+///
+/// The time grows with the length of the text and with what the journal's actions do, and the memory
+/// with the length of the text. The square of the count of objects is spent once.
+///
+/// # Errors
+///
+/// Those of `read_journal`. `Memory`, for want of memory, may come also while the journal is judged.
+pub fn audit(alloc: Global, domain: Arc<Domain>, bytes: &[u8]) -> Result<Judgement, JournalError>
+    ensures judged { IfOk result (Judges (arc_value domain) bytes.now) }
+    ensures err { IfErr result (λ e. IsRefused (arc_value domain) bytes.now e) }
+    // This is found without memory.
+    ensures header { NoHeader bytes.now → result ≡ Err JournalError.BadHeader }
+{
+    let journal = match read_journal(alloc, &domain, bytes) {
+        Ok(journal) => journal,
+        Err(e) => return Err(e),
+    };
+    let _length = bytes.len();
+    match judged(alloc, domain, journal.entries()) {
+        Ok(judgement) => Ok(judgement),
+        Err(_) => Err(JournalError::Memory),
+    }
+}

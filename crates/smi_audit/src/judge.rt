@@ -1,0 +1,157 @@
+//! What is kept while a journal is judged.
+ghost use Rattle.std.specs.Prelude.{◌≡◌, ◌<◌, ◌↔◌, ℕ, [], All, IfOk, IsTrue, Some, length, slice_get, true};
+ghost use Rattle.std.specs.Arc.{arc_value};
+ghost use Rattle.std.specs.List.{list_all};
+ghost use Rattle.sml_domain.specs.Truth as truth;
+ghost use Rattle.smi_entry.specs.declared.entry.Sender.TheVariants.{Object};
+ghost use Rattle.smi_entry.specs.Words as says;
+ghost use Rattle.smi_meaning.specs.EntryLaws.{are_clear};
+ghost use Rattle.smi_meaning.specs.Legal.{is_clear_for};
+ghost use Rattle.smi_rules.specs.Rules as rules;
+ghost use Rattle.smi_audit.specs.Judges.{IsKept};
+ghost use Rattle.smi_audit.specs.Tracks.{AreTracked, IsReadingOf};
+
+use crate::track::Track;
+use smi_entry::args::{Args, Reading};
+use smi_entry::entry::Verdict;
+use smi_ledger::ledger::Ledger;
+use sml_domain::domain::Domain;
+use sml_domain::ids::{ActionId, ObjId};
+use sml_domain::value::same_values;
+use std::alloc::{AllocError, Global};
+use std::sync::Arc;
+
+/// The journal so far with its books, and a track of each object.
+#[derive(Drop)]
+pub(crate) struct Judge {
+    pub(crate) domain: Arc<Domain>,
+    pub(crate) ledger: Ledger,
+    pub(crate) tracks: Vec<Track>,
+    pub(crate) alloc: Global,
+}
+
+// The track of each object of a domain, before its first entry.
+fn first_tracks(alloc: Global, domain: &Domain) -> Result<Vec<Track>, AllocError>
+    ensures { IfOk result (λ tracks. AreTracked domain.now [] tracks.items) }
+{
+    let objects = domain.objects();
+    let mut tracks = Vec::new(alloc);
+    for o in 0..objects {
+        let track = Track::new(alloc, domain.class_parameters(ObjId::new(o)), objects)?;
+        tracks.push(track)?;
+    }
+    Ok(tracks)
+}
+
+// Whether objects are all clear for another.
+pub(crate) fn all_clear(ledger: &Ledger, o: ObjId, objects: &[ObjId]) -> bool
+    requires within { o < length ledger.now.domain.objects }
+    requires there { All (λ x. x < length ledger.now.domain.objects) objects.now }
+    ensures { result ≡ are_clear ledger.now.journal o objects.now }
+{
+    for object in objects {
+        if !ledger.is_clear(o, *object) {
+            return false;
+        }
+    }
+    true
+}
+
+// Whether the objects that were read are all clear for another.
+pub(crate) fn read_clear(ledger: &Ledger, o: ObjId, readings: &[Reading]) -> bool
+    requires within { o < length ledger.now.domain.objects }
+    requires there { All (IsReadingOf (length ledger.now.domain.objects)) readings.now }
+    ensures { result ≡ list_all (is_clear_for ledger.now.journal o) readings.now }
+{
+    for reading in readings {
+        if !ledger.is_clear(o, reading.object) {
+            return false;
+        }
+    }
+    true
+}
+
+// Whether the states that were read are those of the objects now.
+pub(crate) fn are_states(ledger: &Ledger, readings: &[Reading]) -> bool
+    requires { All (IsReadingOf (length ledger.now.domain.objects)) readings.now }
+    ensures { IsTrue result ↔ All (rules.IsStateNow ledger.now.domain ledger.now.journal) readings.now }
+{
+    for reading in readings {
+        if reading.state.get() != ledger.state(reading.object).get() {
+            return false;
+        }
+    }
+    true
+}
+
+impl Judge {
+    // The judge of a journal of which nothing was read.
+    pub(crate) fn new(alloc: Global, domain: Arc<Domain>) -> Result<Judge, AllocError>
+        ensures kept { IfOk result IsKept }
+        ensures journal { IfOk result (λ j. j.ledger.journal ≡ []) }
+        ensures domain { IfOk result (λ j. j.ledger.domain ≡ arc_value domain) }
+    {
+        let tracks = first_tracks(alloc, &domain)?;
+        let ledger = Ledger::new(alloc, Arc::try_clone(&domain)?)?;
+        Ok(Judge {
+            domain,
+            ledger,
+            tracks,
+            alloc,
+        })
+    }
+
+    // Whether an object is killed.
+    pub(crate) fn is_killed(&self, o: ObjId) -> bool
+        requires { o < length self.now.ledger.domain.objects }
+        ensures { result ≡ says.is_killed o self.now.ledger.journal }
+    {
+        self.ledger.killed(o).is_some()
+    }
+
+    // Whether a post is told that its target is killed exactly where it is.
+    pub(crate) fn tells_the_dead(&self, target: ObjId, verdict: &Verdict) -> bool
+        requires { target < length self.now.ledger.domain.objects }
+        ensures { IsTrue result ↔ rules.TellsTheDead (says.is_killed target self.now.ledger.journal) verdict.now }
+    {
+        match verdict {
+            Verdict::Accepted(_) | Verdict::Full => !self.is_killed(target),
+            Verdict::Dead => self.is_killed(target),
+        }
+    }
+
+    // Whether a post of an object has the next number, if it was accepted.
+    pub(crate) fn has_number(&self, o: ObjId, target: ObjId, verdict: &Verdict) -> bool
+        requires within { o < length self.now.ledger.domain.objects }
+        requires target { target < length self.now.ledger.domain.objects }
+        ensures { IsTrue result ↔ rules.HasNumber (length (says.posts_between o target self.now.ledger.journal)) verdict.now }
+    {
+        match verdict {
+            Verdict::Accepted(number) => *number == self.ledger.posted(o, target) as u64,
+            Verdict::Full | Verdict::Dead => true,
+        }
+    }
+
+    // Whether an object posted this to another under this number.
+    pub(crate) fn is_posted(
+        &self,
+        a: ObjId,
+        o: ObjId,
+        number: u64,
+        action: ActionId,
+        args: &Args,
+    ) -> bool
+        requires kept { IsKept self.now }
+        requires sender { a < length self.now.ledger.domain.objects }
+        requires within { o < length self.now.ledger.domain.objects }
+        ensures { IsTrue result ↔ (slice_get (says.posts_between a o self.now.ledger.journal) number
+            ≡ Some (record { sender = Object a; action = action; args = args.now })) }
+    {
+        match self.tracks[a.get()].call(o, number) {
+            Some(call) => {
+                call.action.get() == action.get() && same_values(call.args.values(), args.values())
+            }
+            None => false,
+        }
+    }
+}

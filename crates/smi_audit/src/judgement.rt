@@ -1,0 +1,13 @@
+//! What is said of a journal.
+
+use smi_rules::rule::Rule;
+
+/// Whether a journal is legal.
+#[derive(Clone, Copy, Debug, Eq, PartialEq)]
+pub enum Judgement {
+    /// Each of its entries may follow those before it.
+    Legal,
+    /// The first line whose entry may not, and the first rule that it breaks. Lines count from 1, and
+    /// the first one is the header.
+    Illegal { line: u64, rule: Rule },
+}

@@ -1,0 +1,204 @@
+//! Tracks: what is kept of an object while a journal is judged, beside its books.
+ghost use Rattle.std.specs.Prelude.{◌≡◌, ◌<◌, ℕ, [], IfOk, IfSome, IfNone, None, OnOk, length, map, option_map, replicate, slice_get};
+ghost use Rattle.std.specs.Arc.{arc_value};
+ghost use Rattle.std.specs.List.{filter_map};
+ghost use Rattle.smi_entry.specs.Words.{Saw, Sent};
+ghost use Rattle.smi_meaning.specs.Params.{first_value};
+ghost use Rattle.smi_audit.specs.Tracks as says;
+
+use crate::calls::{Call, Calls};
+use smi_entry::args::{Args, Reading};
+use smi_entry::entry::Verdict;
+use smi_entry::letter::Letter;
+use smi_follower::follower::Follower;
+use smi_interp::task::Ready;
+use sml_domain::domain::Domain;
+use sml_domain::ids::{ActionId, ObjId, StateId};
+use sml_domain::param::Param;
+use sml_domain::value::Value;
+use std::alloc::{AllocError, Global};
+use std::marker::Model;
+use std::sync::Arc;
+
+/// What is kept of an object: its parameters, the follower of what runs there, and for each object what
+/// it asked of it.
+#[derive(Drop)]
+pub(crate) struct Track {
+    params: Vec<Value>,
+    follower: Option<Follower>,
+    calls: Vec<Calls>,
+}
+
+impl Model for Track {
+    ghost use Rattle.std.specs.Coded.{codes};
+    ghost use Rattle.sml_domain.specs.Codes.{formula_code};
+    ghost use Rattle.smi_audit.specs.Views.{TrackView};
+
+    ghost Value = { TrackView };
+
+    ghost coded = { Prim.hlevel (codes, formula_code) };
+
+    ghost view = { λ t. record {
+      params = t.params.items;
+      follower = t.follower;
+      calls = t.calls.items;
+    } };
+}
+
+// The values with which parameters begin.
+fn first_values(alloc: Global, params: &[Param]) -> Result<Vec<Value>, AllocError>
+    ensures { IfOk result (λ values. values.items ≡ filter_map first_value params.now) }
+{
+    let mut values = Vec::new(alloc);
+    for param in params {
+        if let Some(value) = &param.value {
+            values.push(value.share()?)?;
+        }
+    }
+    Ok(values)
+}
+
+// Nothing was asked of so many objects.
+fn no_calls(alloc: Global, objects: usize) -> Result<Vec<Calls>, AllocError>
+    ensures { IfOk result (λ calls. calls.items ≡ replicate objects []) }
+{
+    let mut calls = Vec::with_capacity(alloc, objects)?;
+    for _ in 0..objects {
+        calls.push_reserved(Calls::new(alloc));
+    }
+    Ok(calls)
+}
+
+// Notes a post, where it was accepted.
+fn note(
+    calls: &mut Vec<Calls>,
+    target: ObjId,
+    verdict: &Verdict,
+    action: ActionId,
+    args: &Args,
+) -> Result<(), AllocError>
+    requires { target < length calls.old.items }
+    ensures { OnOk result (calls.new.items ≡ says.calls_with calls.old.items target verdict.now
+        (record { action = action; args = args.now })) }
+{
+    match verdict {
+        Verdict::Accepted(_) => {
+            let args = args.share()?;
+            calls[target.get()].add(Call { action, args })
+        }
+        Verdict::Full | Verdict::Dead => Ok(()),
+    }
+}
+
+impl Track {
+    // The track of an object with these parameters, among so many, before its first entry.
+    pub(crate) fn new(alloc: Global, params: &[Param], objects: usize) -> Result<Track, AllocError>
+        ensures { IfOk result (λ t. t ≡ says.first_track params.now objects) }
+    {
+        Ok(Track {
+            params: first_values(alloc, params)?,
+            follower: None,
+            calls: no_calls(alloc, objects)?,
+        })
+    }
+
+    // The call of a number to an object.
+    pub(crate) fn call(&self, target: ObjId, number: u64) -> Option<&Call>
+        requires { target < length self.now.calls }
+        ensures { option_map (λ c. c.now) result ≡ slice_get (says.calls_to self.now.calls target) number }
+    {
+        self.calls[target.get()].get(number)
+    }
+
+    // The objects that what runs reads next.
+    pub(crate) fn reads(&self) -> Option<&[ObjId]>
+        ensures some { IfSome result (λ objects. says.ReadsNext self.now.follower objects.now) }
+        ensures none { IfNone result (says.CannotRead self.now.follower) }
+    {
+        match &self.follower {
+            Some(follower) => follower.reads(),
+            None => None,
+        }
+    }
+
+    // Follows the action of a letter, where the state declares it.
+    pub(crate) fn start(
+        &mut self,
+        alloc: Global,
+        domain: &Arc<Domain>,
+        o: ObjId,
+        state: StateId,
+        letter: Letter,
+    ) -> Result<(), AllocError>
+        ensures { OnOk result (self.new ≡ record self.old {
+          follower = says.begins_in (arc_value domain.now) o state letter self.old.params;
+        }) }
+    {
+        if !domain.declares(o, state, letter.action) {
+            self.follower = None;
+            return Ok(());
+        }
+        let ready = Ready::new(alloc, Arc::try_clone(domain)?, o, &self.params)?;
+        let follower = Follower::begin(alloc, ready, state, letter)?;
+        self.follower = Some(follower);
+        Ok(())
+    }
+
+    // Goes on with a post, where what runs may make it next.
+    pub(crate) fn post(
+        &mut self,
+        target: ObjId,
+        verdict: &Verdict,
+        action: ActionId,
+        args: &Args,
+    ) -> Result<bool, AllocError>
+        requires { target < length self.old.calls }
+        ensures { IfOk result (says.Shows self.old self.new (Sent target verdict.now action args.now)
+            (says.calls_with self.old.calls target verdict.now (record { action = action; args = args.now }))) }
+    {
+        let Some(follower) = self.follower.take() else {
+            return Ok(false);
+        };
+        let Some(next) = follower.post(target, action, args.values(), *verdict)? else {
+            return Ok(false);
+        };
+        self.follower = Some(next);
+        note(&mut self.calls, target, verdict, action, args)?;
+        Ok(true)
+    }
+
+    // Goes on with what was read, where what runs may read it next.
+    pub(crate) fn see(&mut self, readings: &[Reading]) -> Result<bool, AllocError>
+        ensures { IfOk result (says.Shows self.old self.new (Saw readings.now) self.old.calls) }
+    {
+        let Some(follower) = self.follower.take() else {
+            return Ok(false);
+        };
+        let Some(next) = follower.seen(readings)? else {
+            return Ok(false);
+        };
+        self.follower = Some(next);
+        Ok(true)
+    }
+
+    // Ends what runs, where it may end now: in which state. The parameters are those that it leaves.
+    pub(crate) fn end(&mut self) -> Option<StateId>
+        ensures { says.Ends self.old self.new result }
+    {
+        let Some(follower) = self.follower.take() else {
+            return None;
+        };
+        let Some(ended) = follower.end() else {
+            return None;
+        };
+        self.params = ended.params;
+        Some(ended.state)
+    }
+
+    // Follows nothing more.
+    pub(crate) fn cut(&mut self)
+        ensures { self.new ≡ record self.old { follower = None } }
+    {
+        self.follower = None;
+    }
+}
