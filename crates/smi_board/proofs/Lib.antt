@@ -6,3 +6,4 @@ mod Out
 mod Seen
 mod Sent
 mod Ties
+mod Views

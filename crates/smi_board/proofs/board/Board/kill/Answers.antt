@@ -6,6 +6,7 @@ use Rattle.smi_entry.specs.declared.entry.Entry.TheVariants.{Kill}
 use Rattle.smi_entry.specs.Words.{killed_at}
 use Rattle.smi_ledger.specs.Views.{LedgerView}
 use Rattle.smi_board.proofs.Ties.{keeps_kill}
+use Rattle.smi_board.proofs.Views.{longer_keeping}
 use Rattle.smi_board.proofs.board.Board.kill.Goals as goal
 
 pub invariant_of-self-2 : goal.invariant_of-self-2
@@ -18,3 +19,10 @@ invariant_of-self-2 g c =
     ap (λ (l : LedgerView). l.journal) c.add_kill.ensures ∙ ap (λ (l : LedgerView). l.journal ++ Kill c.args.o (By c.args.session) ∷ []) c.make_room.ensures.same in
     let keeps = keeps_kill d i.ledger.journal c.add_kill.new.self.journal i.params.items i.kept.items c.keep.new.kept.items _ _ _ c.args.o (By c.args.session) c.self.invariant.0 c.self.invariant.1 c.self.invariant.2 within alive tt longer c.keep.ensures in
     (keeps.tied, keeps.all.runs, keeps.all.tasks, ap (λ (l : LedgerView). l.domain) c.add_kill.ensures ∙ ap (λ (l : LedgerView). l.domain) c.make_room.ensures.same ∙ c.self.invariant.3, c.self.invariant.4, λ x lt. absurd (omega (arith, lt)))
+
+pub returns-clause-killed : goal.returns-clause-killed
+returns-clause-killed g c =
+    let i = c.self.inside in
+    longer_keeping (arc_value i.domain) i.most i.ledger.journal c.add_kill.new.self.journal i.params.items i.kept.items c.keep.new.kept.items i.mail c.args.self.now (Kill c.args.o (By c.args.session) ∷ []) c.args.o None
+    c.self.view_is
+    (ap (λ (l : LedgerView). l.journal) c.add_kill.ensures ∙ ap (λ (l : LedgerView). l.journal ++ Kill c.args.o (By c.args.session) ∷ []) c.make_room.ensures.same) c.keep.ensures
