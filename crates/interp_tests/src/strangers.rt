@@ -89,69 +89,109 @@ fn made_by_hand(
     Some(ready.begin(state, envelope))
 }
 
-/// Whether a second task of the first of two equal requests is refused, once the second is started.
-pub fn refuses_second_task(alloc: Global) -> bool {
-    let Some(domain) = domain_of(alloc, COUNTER) else {
-        return false;
-    };
-    let run = Run {
-        text: COUNTER,
-        capacity: 4,
-        most: 100,
-        calls: &[],
-        journal: &[],
-    };
-    let Some(board) = board_of(alloc, &domain, run) else {
-        return false;
-    };
-    let mut board = board;
-    let o = ObjId::new(1);
-    if !domain.has(o)
-        || !asks(alloc, &domain, &mut board, o, SHOW)
-        || !asks(alloc, &domain, &mut board, o, SHOW)
-    {
-        return false;
+// A task that is made by hand as above, and asks for something.
+fn asking_by_hand(
+    alloc: Global,
+    domain: &Arc<Domain>,
+    board: &Board<PlainMail>,
+    o: ObjId,
+    asked: Asked,
+) -> Option<Task>
+    requires { o < length board.now.domain.objects }
+    ensures domain { IfSome result (λ t. t.domain ≡ arc_value domain.now) }
+    ensures object { IfSome result (λ t. t.turn.object ≡ o) }
+    ensures waits { IfSome result (λ t. IsSome t.pending) }
+{
+    let made = made_by_hand(alloc, domain, board, o, asked)?;
+    match advanced(made) {
+        Some((false, task)) => Some(task),
+        _ => None,
     }
-    let Some(second) = made_by_hand(alloc, &domain, &board, o, SHOW) else {
+}
+
+// Whether the second task of a request that an object is to start is refused, once the next one is started.
+fn second_is_refused(
+    alloc: Global,
+    domain: &Arc<Domain>,
+    board: &mut Board<PlainMail>,
+    o: ObjId,
+) -> bool
+    requires within { o < length board.old.domain.objects }
+    requires domain { board.old.domain ≡ arc_value domain.now }
+{
+    let Some(second) = asking_by_hand(alloc, domain, board, o, SHOW) else {
         return false;
     };
-    let Some((false, second)) = advanced(second) else {
-        return false;
-    };
-    if !acts(&mut board, o, &[Made::Posted, Made::Ended]) {
+    if !acts(board, o, &[Made::Posted, Made::Ended]) {
         return false;
     }
     match board.start(o) {
-        Ok(Started::Run(_)) => is_refused(&mut board, second, ContactError::Stranger),
+        Ok(Started::Run(_)) => is_refused(board, second, ContactError::Stranger),
         _ => false,
     }
 }
 
-/// Whether a task is refused whose object was killed while it was out.
-pub fn refuses_killed(alloc: Global) -> bool {
-    let Some(domain) = domain_of(alloc, SUPPLIES) else {
-        return false;
-    };
-    let run = Run {
-        text: SUPPLIES,
-        capacity: 4,
-        most: 100,
-        calls: &[],
-        journal: &[],
-    };
-    let Some(board) = board_of(alloc, &domain, run) else {
-        return false;
-    };
-    let mut board = board;
-    let o = ObjId::new(2);
-    if !domain.has(o) || !asks(alloc, &domain, &mut board, o, CONFIGURE) {
-        return false;
-    }
-    let (Ok(Started::Run(task)), Some(session)) = (board.start(o), SessionId::new(1)) else {
+// Whether the task that an object starts is refused once the object is killed.
+fn killed_is_refused(board: &mut Board<PlainMail>, o: ObjId, session: SessionId) -> bool
+    requires { o < length board.old.domain.objects }
+{
+    let Ok(Started::Run(task)) = board.start(o) else {
         return false;
     };
     let Some((false, task)) = advanced(task) else {
         return false;
     };
-    board.kill(o, session).is_ok() && is_refused(&mut board, task, ContactError::Dead)
+    board.kill(o, session).is_ok() && is_refused(board, task, ContactError::Dead)
+}
+
+// A domain and its board, on which nothing was done.
+#[derive(Drop)]
+struct Fresh {
+    domain: Arc<Domain>,
+    board: Board<PlainMail>,
+}
+
+fn fresh_of(alloc: Global, text: &'static [u8]) -> Option<Fresh>
+    ensures { IfSome result (λ f. f.board.domain ≡ arc_value f.domain) }
+{
+    let domain = domain_of(alloc, text)?;
+    let run = Run {
+        text,
+        capacity: 4,
+        most: 100,
+        calls: &[],
+        journal: &[],
+    };
+    let board = board_of(alloc, &domain, run)?;
+    Some(Fresh { domain, board })
+}
+
+/// Whether a second task of the first of two equal requests is refused, once the second is started.
+pub fn refuses_second_task(alloc: Global) -> bool {
+    let Some(Fresh { domain, board }) = fresh_of(alloc, COUNTER) else {
+        return false;
+    };
+    let mut board = board;
+    let o = ObjId::new(1);
+    domain.has(o)
+        && asks(alloc, &domain, &mut board, o, SHOW)
+        && asks(alloc, &domain, &mut board, o, SHOW)
+        && second_is_refused(alloc, &domain, &mut board, o)
+}
+
+/// Whether a task is refused whose object was killed while it was out.
+pub fn refuses_killed(alloc: Global) -> bool {
+    let Some(Fresh { domain, board }) = fresh_of(alloc, SUPPLIES) else {
+        return false;
+    };
+    let mut board = board;
+    let o = ObjId::new(2);
+    match SessionId::new(1) {
+        Some(session) => {
+            domain.has(o)
+                && asks(alloc, &domain, &mut board, o, CONFIGURE)
+                && killed_is_refused(&mut board, o, session)
+        }
+        None => false,
+    }
 }
