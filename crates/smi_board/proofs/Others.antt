@@ -1,15 +1,15 @@
 -- What a board keeps of the objects other than one, while entries of that one are added.
-use Rattle.std.proofs.Common.{◌≡◌, ◌≢◌, ◌<◌, ◌==◌, ℕ, zero, suc, Bool, true, false, List, [], ◌∷◌, ◌++◌, length, Option, Some, None, map, refl, sym, ap, ◌∙◌, subst, ⊎_elim}
+use Rattle.std.proofs.Common.{◌≡◌, ◌≢◌, ◌<◌, ℕ, zero, suc, true, List, [], ◌∷◌, ◌++◌, length, Option, Some, None, map, refl, sym, ap, ◌∙◌, subst, ⊎_elim}
 use Rattle.std.specs.Prelude.{is_some, option_map, IfSome, slice_set}
 use Rattle.std.specs.Option.{option_and_then}
-use Rattle.std.proofs.lemmas.Bool.{cases_eq, eqb-true, ne_eqb}
+use Rattle.std.proofs.lemmas.Bool.{cases_eq, ne_eqb}
 use Rattle.std.proofs.lemmas.List.{get_or-set_same, get_or-set_other, length-set}
 use Rattle.sml_domain.specs.declared.value.Value.{Value}
 use Rattle.sml_domain.specs.Domain.{Domain}
-use Rattle.sml_domain.specs.Lookups.{members_at, program_at}
+use Rattle.sml_domain.specs.Lookups.{program_at}
 use Rattle.smi_entry.specs.declared.letter.Letter.{Letter}
 use Rattle.smi_entry.specs.declared.entry.Entry.{Entry}
-use Rattle.smi_entry.specs.Words.{answer_of, answers_of, dead_of, initial_of, is_open, object_of, open_at, shown_of, state_of}
+use Rattle.smi_entry.specs.Words.{answer_of, dead_of, initial_of, is_open, object_of, open_at, shown_of, state_of}
 use Rattle.smi_entry.proofs.OneMore.{open_more, shown_more, state_more}
 use Rattle.smi_meaning.specs.Params.{Running, run_with, running_at}
 use Rattle.smi_interp.specs.Turn.{TurnView}

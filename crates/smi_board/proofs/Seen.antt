@@ -1,14 +1,13 @@
 -- A journal with what an `if` reads, or waits for.
-use Rattle.std.proofs.Common.{◌≡◌, ◌≢◌, ◌<◌, ◌==◌, ℕ, Bool, true, false, cond, List, [], ◌∷◌, ◌++◌, length, map, Option, Some, None, All, IfSome, slice_get, refl, sym, ap, ◌∙◌, subst, ⊎_elim, append-nil}
+use Rattle.std.proofs.Common.{◌≡◌, ◌<◌, ◌==◌, ℕ, Bool, true, false, cond, List, [], ◌∷◌, ◌++◌, length, map, Option, Some, None, All, IfSome, slice_get, refl, sym, ap, ◌∙◌, subst, ⊎_elim}
 use Rattle.std.specs.Prelude.{is_some, slice_set}
 use Rattle.std.specs.Option.{option_map_or}
-use Rattle.std.proofs.lemmas.Bool.{cases_eq, cases_Bool, eq-eqb}
+use Rattle.std.proofs.lemmas.Bool.{cases_eq, eq-eqb}
 use Rattle.std.proofs.lemmas.List.{get_or-set_same, get_or-set_other, length-set}
 use Rattle.std.proofs.lemmas.List.Elements.{All-append, All-cons, All-filter, All-nil}
 use Rattle.sml_domain.specs.declared.value.Value.{Value}
-use Rattle.sml_domain.specs.Asking.{asked_of}
-use Rattle.sml_domain.specs.Program.{Asked, OfOne, OfEach, OfAny, Formula, Both, Either, Not, Test, Program, Nothing, SetThen, SendThen, SendNoneThen, IfThen, EndIn, TerminateIn}
-use Rattle.sml_domain.specs.Domain.{Domain, Class, Group, Param}
+use Rattle.sml_domain.specs.Program.{OfOne, OfEach, OfAny, Formula, Both, Either, Not, Test, Program, Nothing, SetThen, SendThen, SendNoneThen, IfThen, EndIn, TerminateIn}
+use Rattle.sml_domain.specs.Domain.{Domain, Group}
 use Rattle.sml_domain.specs.Fits.{FormulaFits, ProgramFits}
 use Rattle.sml_domain.specs.Lookups.{members_at, members_of_group}
 use Rattle.sml_domain.specs.Sound.{GroupFits, IsObject, IsSound}
@@ -18,15 +17,14 @@ use Rattle.smi_entry.specs.declared.entry.Sender.{Sender}
 use Rattle.smi_entry.specs.declared.entry.Entry.{Entry}
 use Rattle.smi_entry.specs.declared.entry.Entry.TheVariants.{Seen, Wait}
 use Rattle.smi_entry.specs.Requests.{Request}
-use Rattle.smi_entry.specs.Words.{Saw, answer_of, dead_of, initial_of, is_clear, open_at, shown_of, state_of, waits_at}
+use Rattle.smi_entry.specs.Words.{Saw, answer_of, dead_of, initial_of, open_at, shown_of, state_of, waits_at}
 use Rattle.smi_entry.proofs.OneMore.{open_more, shown_more, state_more}
 use Rattle.smi_meaning.specs.Conditions.{firsts, named_by, object_read, objects_of, without, is_true_over}
 use Rattle.smi_meaning.specs.EntryLaws.{IsBeforeIf, ReadsObjects, are_clear, reading_of}
 use Rattle.smi_meaning.specs.Environment.{Env}
 use Rattle.smi_meaning.specs.Legal.{IsLegal, IsLegalAt}
-use Rattle.smi_meaning.specs.Meaning.{Move, DidRead}
+use Rattle.smi_meaning.specs.Meaning.{DidRead}
 use Rattle.smi_meaning.specs.Params.{running_at}
-use Rattle.smi_meaning.specs.Shown.{items_of, shown_moves}
 use Rattle.smi_meaning.specs.Steps.{After, Leads, with_rest}
 use Rattle.smi_meaning.proofs.Blocks.{leads_more}
 use Rattle.smi_meaning.proofs.LeftKept.{left_fits}
@@ -41,7 +39,7 @@ use Rattle.smi_interp.specs.Task.{TaskView, LeftAsks, body, env_before, env_now}
 use Rattle.smi_board.specs.Boards.{IsTied, IsLed, EachRuns, own_at, kept_at}
 use Rattle.smi_board.specs.Reading.{states_now, waited}
 use Rattle.smi_board.specs.Turns.{IsItsTurn, IsOf, IsOut, EachKept}
-use Rattle.smi_board.proofs.Others.{KeepsAll, KeepsBut, and_one, but_more, but_one, runs_in}
+use Rattle.smi_board.proofs.Others.{and_one, but_more, but_one, runs_in}
 use Rattle.smi_board.proofs.Out.{IsShown, is_shown, run_of}
 use Rattle.smi_board.proofs.Ties.{Keeps, none_of, tied_quiet}
 

@@ -1,5 +1,5 @@
 -- A journal with the posts of a `do`.
-use Rattle.std.proofs.Common.{◌≡◌, ◌≢◌, ◌<◌, ◌==◌, ℕ, Bool, true, false, cond, List, [], ◌∷◌, ◌++◌, length, map, option_map, Option, Some, None, refl, sym, ap, ◌∙◌, subst, arith, ⊎_elim, append-nil, append_assoc}
+use Rattle.std.proofs.Common.{◌≡◌, ◌≢◌, ◌<◌, ◌==◌, ℕ, Bool, true, false, cond, List, [], ◌∷◌, ◌++◌, length, map, Option, Some, refl, sym, ap, ◌∙◌, subst, arith, ⊎_elim, append-nil, append_assoc}
 use Rattle.std.specs.Prelude.{is_some}
 use Rattle.std.specs.List.{All}
 use Rattle.std.proofs.lemmas.Bool.{cases_eq, eq-eqb, ne_eqb}
@@ -15,7 +15,7 @@ use Rattle.smi_entry.specs.declared.entry.Verdict.{Verdict}
 use Rattle.smi_entry.specs.declared.entry.Verdict.TheVariants.{Accepted, Full, Dead}
 use Rattle.smi_entry.specs.declared.entry.Entry.{Entry}
 use Rattle.smi_entry.specs.Requests.{Request}
-use Rattle.smi_entry.specs.Words.{Item, dead_of, initial_of, is_killed, open_at, posts_between, shown_of, starts_at, state_of}
+use Rattle.smi_entry.specs.Words.{Item, dead_of, initial_of, open_at, posts_between, shown_of, starts_at, state_of}
 use Rattle.smi_entry.proofs.OneMore.{open_more, posts_more, shown_more, starts_more, state_more}
 use Rattle.smi_meaning.specs.Environment.{Env}
 use Rattle.smi_meaning.specs.Items.{Post, item_of}
@@ -28,7 +28,7 @@ use Rattle.smi_meaning.proofs.Blocks.{leads_more}
 use Rattle.smi_meaning.proofs.Journals.{legal_more, next_is_legal}
 use Rattle.smi_meaning.proofs.Parameters.{params_more}
 use Rattle.smi_meaning.proofs.Showing.{shown-append}
-use Rattle.smi_meaning.proofs.ValuesKept.{RunFits, legal_fits, run_fits}
+use Rattle.smi_meaning.proofs.ValuesKept.{legal_fits, run_fits}
 use Rattle.smi_meaning.proofs.LeftKept.{left_fits}
 use Rattle.smi_interp.specs.declared.contact.Contact.TheVariants.{Send}
 use Rattle.smi_interp.specs.Cursor.{first_contact}
@@ -38,7 +38,7 @@ use Rattle.smi_board.specs.Boards.{IsTied, IsLed, EachRuns, own_at}
 use Rattle.smi_board.specs.Posting.{Lists, ParcelView, Sends, IsJudged, AreJudged, IsPostable, entry_of, parcel_of, post_in, request_by}
 use Rattle.smi_board.specs.Turns.{IsOut, EachKept}
 use Rattle.smi_board.proofs.Fitting.{CanBeSent, can_be_sent}
-use Rattle.smi_board.proofs.Others.{KeepsAll, KeepsBut, and_one, but_more, but_one, runs_in}
+use Rattle.smi_board.proofs.Others.{KeepsBut, and_one, but_more, but_one, runs_in}
 use Rattle.smi_board.proofs.Out.{IsShown, is_shown, run_of}
 use Rattle.smi_board.proofs.Ties.{Keeps, none_of, tied_quiet}
 

@@ -1,6 +1,5 @@
 -- What is read may be read.
-use Rattle.std.proofs.Common.{arith, ◌≡◌, ◌<◌, ◌++◌, ◌∷◌, ◌∙◌, [], List, Some, true, false, length, map, ap, subst, sym}
-use Rattle.std.specs.Prelude.{slice_set}
+use Rattle.std.proofs.Common.{arith, ◌≡◌, ◌<◌, ◌++◌, ◌∷◌, ◌∙◌, [], List, true, length, map, ap, subst, sym}
 use Rattle.std.specs.Arc.{arc_value}
 use Rattle.smi_entry.specs.declared.entry.Entry.{Entry}
 use Rattle.smi_entry.specs.declared.entry.Entry.TheVariants.{Seen}
@@ -8,7 +7,7 @@ use Rattle.smi_ledger.specs.Views.{LedgerView}
 use Rattle.smi_meaning.specs.EntryLaws.{are_clear, reading_of}
 use Rattle.smi_interp.specs.Turn.{TurnView, readings_of}
 use Rattle.smi_board.specs.Boards.{BoardView}
-use Rattle.smi_board.specs.Reading.{states_now, waited}
+use Rattle.smi_board.specs.Reading.{states_now}
 use Rattle.smi_board.specs.Turns.{IsOut}
 use Rattle.smi_board.proofs.Seen.{keeps_seen, read_now}
 use Rattle.smi_board.proofs.board.Board.see.Goals as goal

@@ -1,15 +1,12 @@
 -- The posts can be sent, and leave journal and mail tied.
-use Rattle.std.proofs.Common.{arith, ◌≡◌, ◌<◌, ◌∙◌, ℕ, List, All, Some, true, length, map, ap, subst, sym}
+use Rattle.std.proofs.Common.{arith, ◌≡◌, ◌<◌, ◌∙◌, List, All, true, length, map, ap, subst, sym}
 use Rattle.std.specs.Prelude.{IsSomeAnd}
 use Rattle.std.specs.Arc.{arc_value}
 use Rattle.sml_domain.specs.Domain.{Domain}
 use Rattle.sml_domain.specs.Sound.{IsSound}
 use Rattle.smi_entry.specs.declared.entry.Sender.TheVariants.{Object}
 use Rattle.smi_entry.specs.declared.entry.Verdict.{Verdict}
-use Rattle.smi_entry.specs.declared.entry.Entry.{Entry}
-use Rattle.smi_ledger.specs.Views.{LedgerView}
 use Rattle.smi_meaning.specs.Items.{Post}
-use Rattle.smi_interp.specs.declared.contact.Contact.TheVariants.{Send}
 use Rattle.smi_interp.specs.Turn.{TurnView}
 use Rattle.smi_interp.specs.Task.{WantsVerdicts, with_verdicts}
 use Rattle.smi_board.specs.Boards.{BoardView, IsTied}

@@ -1,14 +1,11 @@
 -- A wait may be added, and the task be kept.
-use Rattle.std.proofs.Common.{arith, ◌≡◌, ◌<◌, ◌++◌, ◌∷◌, ◌∙◌, [], List, Some, true, false, length, map, ap, subst, sym}
+use Rattle.std.proofs.Common.{arith, ◌≡◌, ◌<◌, ◌∙◌, Some, false, length, ap, subst, sym}
 use Rattle.std.specs.Prelude.{slice_set}
 use Rattle.std.specs.Arc.{arc_value}
-use Rattle.smi_entry.specs.declared.entry.Entry.{Entry}
-use Rattle.smi_entry.specs.declared.entry.Entry.TheVariants.{Seen}
-use Rattle.smi_ledger.specs.Views.{LedgerView}
-use Rattle.smi_meaning.specs.EntryLaws.{are_clear, reading_of}
-use Rattle.smi_interp.specs.Turn.{TurnView, readings_of}
+use Rattle.smi_meaning.specs.EntryLaws.{are_clear}
+use Rattle.smi_interp.specs.Turn.{TurnView}
 use Rattle.smi_board.specs.Boards.{BoardView}
-use Rattle.smi_board.specs.Reading.{states_now, waited}
+use Rattle.smi_board.specs.Reading.{waited}
 use Rattle.smi_board.specs.Turns.{IsOut}
 use Rattle.smi_board.proofs.Seen.{keeps_waited}
 use Rattle.smi_board.proofs.board.Board.wait.Goals as goal
