@@ -1,5 +1,5 @@
 -- How the posts of a `do` are judged, one after another.
-use Rattle.std.specs.Prelude.{◌≡◌, ◌≢◌, ◌<◌, ◌++◌, ◌∷◌, ℕ, Bool, true, false, List, [], length, Option, Some, None, IfSome, map}
+use Rattle.std.specs.Prelude.{◌≡◌, ◌≢◌, ◌<◌, ◌++◌, ◌∷◌, ℕ, true, false, List, [], length, Option, IfSome}
 use Rattle.std.specs.List.{All}
 use Rattle.sml_domain.specs.Domain.{Domain}
 use Rattle.smi_entry.specs.declared.entry.Sender.{Sender}
