@@ -1,13 +1,12 @@
 //! Long blocks: a task makes each move of them, in a time that grows with their count alone.
 
+use crate::beginnings::task_of;
+use crate::boards::envelope_of;
 use crate::domain_of::domain_of;
-use smi_entry::args::Args;
-use smi_entry::entry::Sender;
-use smi_entry::envelope::Envelope;
-use smi_entry::session::SessionId;
+use crate::lines::Asked;
 use smi_interp::contact::Contact;
-use smi_interp::task::{Ready, Task};
-use sml_domain::ids::{ActionId, ObjId, StateId};
+use smi_interp::task::Task;
+use sml_domain::ids::{ObjId, StateId};
 use sml_domain::value::Value;
 use std::alloc::Global;
 use std::test::*;
@@ -21,6 +20,12 @@ const HEAD: &[u8] = b"class: K
 const TAIL: &[u8] = b"object: X is_of_class K
 objectset: E { }
 ";
+
+const GO: Asked = Asked {
+    session: 1,
+    action: 0,
+    given: &[],
+};
 
 // An instruction, how often it stands in the block, and how many moves it makes.
 const ROWS: &[(&[u8], usize, usize)] = &[
@@ -42,18 +47,16 @@ fn text_of(alloc: Global, piece: &[u8], count: usize) -> Option<Vec<u8>> {
 
 fn begun(alloc: Global, text: &[u8]) -> Option<Task> {
     let domain = domain_of(alloc, text)?;
-    let object = ObjId::new(0);
-    let state = StateId::new(0);
-    let action = ActionId::new(0);
-    if !domain.declares(object, state, action) {
-        return None;
-    }
-    let args = Args::new(alloc, Vec::new(alloc)).ok()?;
-    let sender = Sender::Operator(SessionId::new(1)?);
-    let envelope = Envelope::new(sender, action, args).ok()?;
+    let envelope = envelope_of(alloc, GO)?;
     let params = vec![in alloc; Value::Int(0)].ok()?;
-    let ready = Ready::new(alloc, domain, object, &params).ok()?;
-    Some(ready.begin(state, envelope))
+    task_of(
+        alloc,
+        domain,
+        ObjId::new(0),
+        StateId::new(0),
+        &params,
+        envelope,
+    )
 }
 
 // Makes a move that asks nobody, and tells whether the action goes on.

@@ -4,6 +4,7 @@ ghost use Rattle.std.specs.Arc.{arc_value};
 ghost use Rattle.smi_board.specs.Refusals.{is_operator};
 
 use crate::acts::{Made, acts, advanced};
+use crate::beginnings::task_of;
 use crate::boards::{Run, board_of, envelope_of};
 use crate::domain_of::domain_of;
 use crate::lines::Asked;
@@ -12,7 +13,7 @@ use smi_board::board::Board;
 use smi_board::errors::ContactError;
 use smi_board::starting::Started;
 use smi_entry::session::SessionId;
-use smi_interp::task::{Ready, Task};
+use smi_interp::task::Task;
 use smi_mail::plain::PlainMail;
 use sml_domain::domain::Domain;
 use sml_domain::ids::ObjId;
@@ -80,13 +81,8 @@ fn made_by_hand(
     ensures { IfSome result (λ t. (t.domain ≡ arc_value domain.now) × (t.turn.object ≡ o)) }
 {
     let envelope = envelope_of(alloc, asked)?;
-    let state = board.state(o);
-    if !domain.declares(o, state, envelope.letter().action) {
-        return None;
-    }
     let shared = Arc::try_clone(domain).ok()?;
-    let ready = Ready::new(alloc, shared, o, board.params(o)).ok()?;
-    Some(ready.begin(state, envelope))
+    task_of(alloc, shared, o, board.state(o), board.params(o), envelope)
 }
 
 // A task that is made by hand as above, and asks for something.

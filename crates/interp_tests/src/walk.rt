@@ -1,15 +1,16 @@
 //! Walks of a task: its contacts in order, and how each is answered.
 
+use crate::beginnings::task_of;
+use crate::boards::envelope_of;
 use crate::domain_of::domain_of;
-use smi_entry::args::{Args, Reading};
-use smi_entry::entry::{Sender, Verdict};
-use smi_entry::envelope::Envelope;
-use smi_entry::session::SessionId;
+use crate::lines::Asked;
+use smi_entry::args::Reading;
+use smi_entry::entry::Verdict;
 use smi_interp::contact::{Contact, Post};
-use smi_interp::task::{Ready, Task};
+use smi_interp::task::Task;
 use smi_interp::turn::{Move, TurnRecord};
 use sml_domain::domain::Domain;
-use sml_domain::ids::{ActionId, ObjId, StateId};
+use sml_domain::ids::{ObjId, StateId};
 use sml_domain::text::Text;
 use sml_domain::value::Value;
 use std::alloc::Global;
@@ -262,18 +263,16 @@ fn handed(task: Task) -> Task {
 
 // The task of the walk, begun for the first session.
 fn begun(alloc: Global, domain: Arc<Domain>, walk: &Walk) -> Option<Task> {
+    let asked = Asked {
+        session: 1,
+        action: walk.action,
+        given: walk.given,
+    };
+    let envelope = envelope_of(alloc, asked)?;
+    let params = values_of(alloc, walk.params)?;
     let object = ObjId::new(walk.object);
     let state = StateId::new(walk.state);
-    let action = ActionId::new(walk.action);
-    let args = Args::new(alloc, values_of(alloc, walk.given)?).ok()?;
-    let params = values_of(alloc, walk.params)?;
-    let sender = Sender::Operator(SessionId::new(1)?);
-    let envelope = Envelope::new(sender, action, args).ok()?;
-    if !domain.declares(object, state, action) {
-        return None;
-    }
-    let ready = Ready::new(alloc, domain, object, &params).ok()?;
-    Some(ready.begin(state, envelope))
+    task_of(alloc, domain, object, state, &params, envelope)
 }
 
 /// Whether the task of a walk makes its steps, each in the hands of another worker, records them, and
