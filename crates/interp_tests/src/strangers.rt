@@ -105,6 +105,22 @@ fn asking_by_hand(
     }
 }
 
+// Whether a task is refused once its object did what it asks for, and started the next request.
+fn is_refused_behind(board: &mut Board<PlainMail>, o: ObjId, second: Task) -> bool
+    requires object { o < length board.old.domain.objects }
+    requires domain { second.domain ≡ board.old.domain }
+    requires within { second.turn.object < length board.old.domain.objects }
+    requires waits { IsSome second.pending }
+{
+    if !acts(board, o, &[Made::Posted, Made::Ended]) {
+        return false;
+    }
+    match board.start(o) {
+        Ok(Started::Run(_)) => is_refused(board, second, ContactError::Stranger),
+        _ => false,
+    }
+}
+
 // Whether the second task of a request that an object is to start is refused, once the next one is started.
 fn second_is_refused(
     alloc: Global,
@@ -115,15 +131,9 @@ fn second_is_refused(
     requires within { o < length board.old.domain.objects }
     requires domain { board.old.domain ≡ arc_value domain.now }
 {
-    let Some(second) = asking_by_hand(alloc, domain, board, o, SHOW) else {
-        return false;
-    };
-    if !acts(board, o, &[Made::Posted, Made::Ended]) {
-        return false;
-    }
-    match board.start(o) {
-        Ok(Started::Run(_)) => is_refused(board, second, ContactError::Stranger),
-        _ => false,
+    match asking_by_hand(alloc, domain, board, o, SHOW) {
+        Some(second) => is_refused_behind(board, o, second),
+        None => false,
     }
 }
 
