@@ -12,6 +12,8 @@ mod counters;
 #[cfg(test)]
 mod domain_of;
 #[cfg(test)]
+mod follows;
+#[cfg(test)]
 mod lines;
 #[cfg(test)]
 mod long_blocks;
