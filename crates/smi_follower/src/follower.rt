@@ -240,7 +240,8 @@ impl Follower {
         Ok(Some(next))
     }
 
-    /// Ends the action, or gives None where it may not end now. Takes no memory. The cost is constant.
+    /// Ends the action, or gives None where it may not end now. Takes no memory. The cost is the count of
+    /// the moves made, which are let go.
     pub fn end(self) -> Option<Ended>
         ensures { Ends self result }
     {
