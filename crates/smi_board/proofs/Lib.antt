@@ -1,9 +1,9 @@
 mod Answered
 mod Fans
-mod Fitting
-mod Others
-mod Out
-mod Seen
-mod Sent
-mod Ties
+pub mod Fitting
+pub mod Others
+pub mod Out
+pub mod Seen
+pub mod Sent
+pub mod Ties
 mod Views

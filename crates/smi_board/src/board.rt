@@ -8,7 +8,8 @@ ghost use Rattle.smi_entry.specs.Requests.{from_sender};
 ghost use Rattle.smi_entry.specs.Words as says;
 ghost use Rattle.smi_meaning.specs.Params.{initial_params, ParamsAfter};
 ghost use Rattle.smi_meaning.specs.Legal.{IsLegal};
-ghost use Rattle.smi_board.specs.Boards.{kept_at, own_at};
+ghost use Rattle.smi_board.specs.Boards.{EachRuns, IsTied, kept_at, own_at};
+ghost use Rattle.smi_board.specs.Turns.{EachKept};
 
 use crate::kept::no_tasks;
 use crate::params::{Params, first_params};
@@ -134,14 +135,26 @@ impl<M: Mail> Board<M> {
         }
     }
 
-    /// A law, whose function does nothing: the journal is legal, and is tied to the mail.
+    /// The domain.
+    pub fn domain(&self) -> &Domain
+        ensures { result.now ≡ self.now.domain }
+    {
+        &self.domain
+    }
+
+    /// A law, whose function does nothing: the journal is legal, and is tied to the mail; it shows what each
+    /// open action did; and each task that is kept is that of its object's open action.
     pub fn tells(&self)
+        ensures tied { IsTied self.now.domain self.now.journal self.now.params (M.serves self.now.mail)
+            (M.taken self.now.mail) (M.sent self.now.mail) }
         ensures legal { IsLegal self.now.domain self.now.journal }
         ensures taken { (o : ℕ) → M.taken self.now.mail o ≡ says.starts_at o self.now.journal }
         ensures sent { (a o : ℕ) → a < length self.now.domain.objects →
             M.sent self.now.mail (Object a) o ≡ says.posts_between a o self.now.journal }
         ensures domain { M.domain self.now.mail ≡ self.now.domain }
         ensures serves { (a : ℕ) → a < length self.now.domain.objects → M.serves self.now.mail (Object a) ≡ true }
+        ensures runs { EachRuns self.now.domain self.now.journal self.now.params }
+        ensures kept { EachKept self.now.domain self.now.journal self.now.params self.now.kept }
     {
         let _board = &self.ledger;
     }
@@ -154,6 +167,14 @@ impl<M: Mail> Board<M> {
             IsPrefix (from_sender s (says.starts_at o self.now.journal)) (M.sent self.now.mail s o) }
     {
         self.mail.in_order(o);
+    }
+
+    /// Whether an action is open at an object.
+    pub fn is_open(&self, o: ObjId) -> bool
+        requires { o < length self.now.domain.objects }
+        ensures { result ≡ says.is_open o self.now.journal }
+    {
+        self.ledger.is_open(o)
     }
 
     /// The place of the kill of an object in the journal, or None where it is not killed.

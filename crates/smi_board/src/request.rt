@@ -1,5 +1,5 @@
 //! Requests of operators, on the mail of one thread.
-ghost use Rattle.std.specs.Prelude.{◌≡◌, ◌≢◌, ◌<◌, ◌++◌, ◌∷◌, ℕ, [], IfErr, IfOk, OnErr, OnOk, None, length, true};
+ghost use Rattle.std.specs.Prelude.{◌≡◌, ◌≢◌, ◌<◌, ◌≤◌, ◌++◌, ◌∷◌, ℕ, [], IfErr, IfOk, OnErr, OnOk, None, length, true};
 ghost use Rattle.smi_entry.specs.declared.entry.Sender.{Sender};
 ghost use Rattle.smi_entry.specs.Fits.{letter_fits};
 ghost use Rattle.smi_entry.specs.Requests.{request_of};
@@ -16,6 +16,14 @@ use smi_mail::plain::PlainMail;
 use sml_domain::ids::ObjId;
 
 impl Board<PlainMail> {
+    /// A law, whose function does nothing: each object has a mailbox, and no more requests wait there than may.
+    pub fn limits(&self)
+        ensures few { (o : ℕ) → length (waiting_at self.now.mail o) ≤ self.now.mail.capacity }
+        ensures count { length self.now.mail.boxes ≡ length self.now.mail.domain.objects }
+    {
+        self.mail.limits();
+    }
+
     /// Takes a request of an operator, and tells its number: how many of the same operator's were
     /// accepted for the object before it. A refused one comes back. The cost is constant on average.
     pub fn request(

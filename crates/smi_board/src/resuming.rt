@@ -1,5 +1,6 @@
 //! What can go on.
 ghost use Rattle.std.specs.Prelude.{◌≡◌, ◌<◌, ℕ, IfNone, IfSome, None, false, length, slice_set, true};
+ghost use Rattle.smi_interp.specs.Task.{IsNext, LeftAsks};
 ghost use Rattle.smi_board.specs.Boards.{kept_at};
 ghost use Rattle.smi_board.specs.Contacts.{Resumes, ResumesTaskOf};
 ghost use Rattle.smi_board.specs.Turns.{can_go_on};
@@ -32,6 +33,17 @@ impl<M: Mail> Board<M> {
         match task.pending() {
             Some(Contact::Read(objects)) => are_clear(&self.ledger, o, objects.list()),
             _ => true,
+        }
+    }
+
+    /// A law, whose function does nothing: what the task that is kept of an object waits for comes next.
+    pub fn waits_next(&self, o: ObjId)
+        requires { o < length self.now.domain.objects }
+        ensures next { IfSome (kept_at self.now.kept o) (λ t. IfSome t.pending (IsNext t)) }
+        ensures left { IfSome (kept_at self.now.kept o) (λ t. IfSome t.pending (LeftAsks t)) }
+    {
+        if let Some(task) = &self.kept[o.get()] {
+            let _waits = task.pending();
         }
     }
 

@@ -1,5 +1,5 @@
 -- The mailboxes of a domain, when one changes.
-use Rattle.std.proofs.Common.{◌≡◌, ◌≢◌, ◌<◌, ℕ, zero, suc, true, false, List, [], ◌∷◌, ◌++◌, length, get_or, Option, Some, None, IfSome, IfNone, sym, ap, ◌∙◌, subst, arith, ⊎_elim, length-append, append_assoc, refl}
+use Rattle.std.proofs.Common.{◌≡◌, ◌≢◌, ◌<◌, ◌≤◌, ℕ, zero, suc, true, false, List, [], ◌∷◌, ◌++◌, length, get_or, Option, Some, None, IfSome, IfNone, sym, ap, ◌∙◌, subst, arith, ⊎_elim, length-append, append_assoc, refl}
 use Rattle.std.specs.Prelude.{slice_set}
 use Rattle.std.specs.List.{All}
 use Rattle.std.proofs.lemmas.Bool.{cases_eq}
@@ -105,3 +105,12 @@ some_fits d i o (Some l) is h = subst (λ x. letter_fits d x l ≡ true) is h.1
 pub some_sender : (d : Domain) (i : ℕ) (result : Option Letter) → IfSome result (λ l. IsMail d i (request_of l)) → IfSome result (λ l. is_sender d l.sender ≡ true)
 some_sender d i None h = tt
 some_sender d i (Some l) h = h.0
+
+-- no more wait at an object than may, and at what is no object none
+few_there : (n : ℕ) (boxes : List BoxView) (o : ℕ) → ((k : ℕ) → k < length boxes → length (box_at boxes k).waiting ≤ n) → length (box_at boxes o).waiting ≤ n
+few_there n [] o h = omega arith
+few_there n (b ∷ boxes) zero h = h zero (omega arith)
+few_there n (b ∷ boxes) (suc o) h = few_there n boxes o (λ k lt. h (suc k) (omega (arith, lt)))
+
+pub few_wait : (d : Domain) (n : ℕ) (boxes : List BoxView) (o : ℕ) → AreBoxes d n boxes → length (box_at boxes o).waiting ≤ n
+few_wait d n boxes o h = few_there n boxes o (λ k lt. (h.each k lt).few)

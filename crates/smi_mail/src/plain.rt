@@ -1,5 +1,5 @@
 //! The mail of one thread.
-ghost use Rattle.std.specs.Prelude.{◌≡◌, ◌≤◌, ℕ, [], IfOk};
+ghost use Rattle.std.specs.Prelude.{◌≡◌, ◌≤◌, ℕ, [], IfOk, length};
 ghost use Rattle.std.specs.Arc.{arc_value};
 ghost use Rattle.smi_entry.specs.declared.entry.Sender.{Sender};
 ghost use Rattle.smi_mail.specs.Boxes.{sent_at, taken_at, waiting_at};
@@ -84,6 +84,15 @@ impl Mail for PlainMail {
 }
 
 impl PlainMail {
+    /// A law, whose function does nothing: each object has a mailbox, and no more requests wait there than may.
+    #[tactic(auto, using(crate::proofs::Boxes::few_wait))]
+    pub fn limits(&self)
+        ensures few { (o : ℕ) → length (waiting_at self.now o) ≤ self.now.capacity }
+        ensures count { length self.now.boxes ≡ length self.now.domain.objects }
+    {
+        let _boxes = &self.boxes;
+    }
+
     /// Empty mailboxes for the objects of a domain, in each of which so many requests may wait, 1 to 1,024.
     /// The cost is the square of the count of objects.
     pub fn new(alloc: Global, domain: Arc<Domain>, capacity: usize) -> Result<PlainMail, AllocError>

@@ -1,9 +1,9 @@
-mod Lists
+pub mod Lists
 mod Going
-mod Books
+pub mod Books
 mod Free
 mod Sending
-mod Ranks
+pub mod Ranks
 mod Made
 mod Limits
 mod Told
