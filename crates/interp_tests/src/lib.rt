@@ -20,8 +20,6 @@ mod long_blocks;
 #[cfg(test)]
 mod memory;
 #[cfg(test)]
-mod schedules;
-#[cfg(test)]
 mod sends;
 #[cfg(test)]
 mod strangers;
@@ -33,8 +31,6 @@ mod switches;
 mod tests_of_boards;
 #[cfg(test)]
 mod tests_of_contacts;
-#[cfg(test)]
-mod tests_of_schedules;
 #[cfg(test)]
 mod tests_of_walks;
 #[cfg(test)]
