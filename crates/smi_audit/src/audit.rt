@@ -5,8 +5,8 @@ ghost use Rattle.smi_journal.specs.HasText.{HasText};
 ghost use Rattle.smi_journal.specs.ReadJournal.{IsRefused, NoHeader};
 ghost use Rattle.smi_audit.specs.Audit.{IsJudged, Judges};
 
-use crate::judge::Judge;
 use crate::judgement::Judgement;
+use crate::past::{Past, PastError};
 use smi_entry::entry::Entry;
 use smi_journal::read::{JournalError, read_journal};
 use sml_domain::domain::Domain;
@@ -19,19 +19,11 @@ fn judged(alloc: Global, domain: Arc<Domain>, entries: &[Entry]) -> Result<Judge
     requires few { length entries.now + 2 < 2 ^ 64 }
     ensures { IfOk result (IsJudged (arc_value domain) entries.now) }
 {
-    let mut judge = Judge::new(alloc, domain)?;
-    for (i, entry) in entries.iter().enumerate() {
-        match judge.take(entry)? {
-            Some(rule) => {
-                return Ok(Judgement::Illegal {
-                    line: i as u64 + 2,
-                    rule,
-                });
-            }
-            None => {}
-        }
+    match Past::of(alloc, domain, entries) {
+        Ok(_) => Ok(Judgement::Legal),
+        Err(PastError::Illegal { line, rule }) => Ok(Judgement::Illegal { line, rule }),
+        Err(PastError::Memory) => Err(AllocError),
     }
-    Ok(Judgement::Legal)
 }
 
 /// Judges the text of a journal of a domain: whether each entry may follow those before it, or else which

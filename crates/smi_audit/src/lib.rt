@@ -7,6 +7,7 @@ mod calls;
 mod judge;
 pub mod judgement;
 mod judging;
+pub mod past;
 mod track;
 mod tracks;
 

@@ -4,13 +4,14 @@ ghost use Rattle.std.specs.Arc.{arc_value};
 ghost use Rattle.std.specs.List.{filter_map};
 ghost use Rattle.smi_entry.specs.Words.{Saw, Sent};
 ghost use Rattle.smi_meaning.specs.Params.{first_value};
+ghost use Rattle.smi_audit.specs.Pasts.{TrackShows};
 ghost use Rattle.smi_audit.specs.Tracks as says;
 
 use crate::calls::{Call, Calls};
 use smi_entry::args::{Args, Reading};
 use smi_entry::entry::Verdict;
 use smi_entry::letter::Letter;
-use smi_follower::follower::Follower;
+use smi_follower::follower::{Expected, Follower};
 use smi_interp::task::Ready;
 use sml_domain::domain::Domain;
 use sml_domain::ids::{ActionId, ObjId, StateId};
@@ -117,6 +118,17 @@ impl Track {
     {
         match &self.follower {
             Some(follower) => follower.reads(),
+            None => None,
+        }
+    }
+
+    // What it shows next, where something runs.
+    pub(crate) fn next(&self) -> Option<Expected<'_>>
+        ensures some { IfSome result (TrackShows self.now.follower) }
+        ensures none { IfNone result (self.now.follower ≡ None) }
+    {
+        match &self.follower {
+            Some(follower) => Some(follower.expected()),
             None => None,
         }
     }

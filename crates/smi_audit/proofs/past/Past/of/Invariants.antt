@@ -3,7 +3,7 @@ use Rattle.std.proofs.Common.{◌≡◌, take}
 use Rattle.std.specs.Arc.{arc_value}
 use Rattle.smi_meaning.specs.Legal.{IsLegal}
 use Rattle.smi_audit.specs.Judges.{IsKept}
-use Rattle.smi_audit.proofs.audit.judged.Given as goal
+use Rattle.smi_audit.proofs.past.Past.of.Given as goal
 
 abbrev pub invariant-loop-i : goal.invariant-loop-i
 invariant-loop-i l = record {

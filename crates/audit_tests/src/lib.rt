@@ -1,0 +1,25 @@
+//! What the judge says of journals that were written by hand.
+#![tactic(auto)]
+
+#[cfg(test)]
+mod changed;
+#[cfg(test)]
+mod domain_of;
+#[cfg(test)]
+mod domains;
+#[cfg(test)]
+mod ends;
+#[cfg(test)]
+mod exchanged;
+#[cfg(test)]
+mod judged;
+#[cfg(test)]
+mod posts;
+#[cfg(test)]
+mod reads;
+#[cfg(test)]
+mod standard;
+#[cfg(test)]
+mod starts;
+#[cfg(test)]
+mod values;

@@ -1,0 +1,97 @@
+//! What legal entries leave behind: their books, and what each open action shows next.
+ghost use Rattle.std.specs.Prelude.{◌≡◌, ◌<◌, ◌+◌, ◌^◌, All, IfErr, IfNone, IfOk, IfSome, None, length};
+ghost use Rattle.std.specs.Arc.{arc_value};
+ghost use Rattle.smi_journal.specs.HasText.{HasText};
+ghost use Rattle.smi_meaning.specs.Legal.{IsLegal};
+ghost use Rattle.smi_meaning.specs.Params.{running_at};
+ghost use Rattle.smi_audit.specs.Pasts.{IsNone, Shows};
+
+use crate::judge::Judge;
+use smi_entry::entry::Entry;
+use smi_follower::follower::Expected;
+use smi_ledger::ledger::Ledger;
+use smi_rules::rule::Rule;
+use sml_domain::domain::Domain;
+use sml_domain::ids::ObjId;
+use std::alloc::Global;
+use std::marker::Model;
+use std::sync::Arc;
+
+/// Why entries have no past.
+#[derive(Clone, Copy, Debug, Eq, PartialEq)]
+pub enum PastError {
+    /// The first line whose entry may not stand, and the first rule that it breaks, as in a `Judgement`.
+    Illegal { line: u64, rule: Rule },
+    /// Out of memory.
+    Memory,
+}
+
+/// The entries of a legal journal with their books, and what each open action shows next. So it can be told
+/// what could have stood in the place of a line that may not stand there.
+#[derive(Drop)]
+pub struct Past {
+    judge: Judge,
+}
+
+impl Model for Past {
+    ghost use Rattle.std.specs.Coded.{codes};
+    ghost use Rattle.sml_domain.specs.Codes.{formula_code};
+    ghost use Rattle.smi_ledger.specs.Views.{LedgerView};
+    ghost use Rattle.smi_audit.specs.Judges.{IsKept};
+
+    ghost Value = { LedgerView };
+
+    ghost coded = { Prim.hlevel (codes, formula_code) };
+
+    ghost view = { λ p. p.judge.ledger };
+
+    ghost invariant = { λ p. IsKept p.judge };
+}
+
+impl Past {
+    /// Enters entries, one after another. The time grows with their count and with what their actions do, and
+    /// the memory with their count. The square of the count of objects is spent once.
+    pub fn of(alloc: Global, domain: Arc<Domain>, entries: &[Entry]) -> Result<Past, PastError>
+        requires texts { All (HasText (arc_value domain)) entries.now }
+        requires few { length entries.now + 2 < 2 ^ 64 }
+        ensures legal { IfOk result (λ p. IsLegal (arc_value domain) entries.now) }
+        ensures journal { IfOk result (λ p. p.journal ≡ entries.now) }
+        ensures domain { IfOk result (λ p. p.domain ≡ arc_value domain) }
+        ensures none { IfErr result (IsNone (arc_value domain) entries.now) }
+    {
+        let Ok(mut judge) = Judge::new(alloc, domain) else {
+            return Err(PastError::Memory);
+        };
+        for (i, entry) in entries.iter().enumerate() {
+            let Ok(broken) = judge.take(entry) else {
+                return Err(PastError::Memory);
+            };
+            match broken {
+                Some(rule) => {
+                    return Err(PastError::Illegal {
+                        line: i as u64 + 2,
+                        rule,
+                    });
+                }
+                None => {}
+            }
+        }
+        Ok(Past { judge })
+    }
+
+    /// The entries with their books. The cost is constant.
+    pub fn ledger(&self) -> &Ledger
+        ensures { result.now ≡ self.now }
+    {
+        &self.judge.ledger
+    }
+
+    /// What the action that runs at an object shows next, or None where none runs there. The cost is constant.
+    pub fn next(&self, o: ObjId) -> Option<Expected<'_>>
+        requires { o < length self.now.domain.objects }
+        ensures some { IfSome result (Shows self.now.domain self.now.journal o) }
+        ensures none { IfNone result (running_at self.now.domain o self.now.journal ≡ None) }
+    {
+        self.judge.tracks[o.get()].next()
+    }
+}

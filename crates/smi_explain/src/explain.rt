@@ -1,0 +1,150 @@
+//! The explanation of a line.
+ghost use Rattle.std.specs.Prelude.{◌+◌, ◌<◌, ◌^◌, All, length};
+ghost use Rattle.std.specs.Arc.{arc_value};
+ghost use Rattle.smi_journal.specs.HasText.{HasText};
+
+use crate::earlier::{last_end, last_kill, last_post, last_start, last_start_of, owner, post_of};
+use crate::sentence::{first_busy, first_misread, tell_sentence};
+use smi_audit::past::{Past, PastError};
+use smi_entry::entry::{Entry, Sender, Verdict};
+use smi_journal::journal_text::tell_lines;
+use smi_rules::rule::Rule;
+use sml_domain::domain::Domain;
+use sml_domain::ids::ObjId;
+use sml_text::decimal::tell_u64;
+use sml_text::writing::{Sink, tell};
+use std::alloc::{AllocError, Global};
+use std::sync::Arc;
+
+// The line of a journal in which the entry of a place stands, with its number in front.
+fn tell_numbered<W: Sink>(
+    writer: &mut W,
+    failed: &mut bool,
+    domain: &Domain,
+    entries: &[Entry],
+    place: usize,
+) {
+    if place < entries.len() {
+        tell(writer, failed, b"line ");
+        tell_u64(writer, failed, (place as u64).saturating_add(2));
+        tell(writer, failed, b": ");
+        tell_lines(writer, failed, domain, &entries[place..place + 1]);
+    }
+}
+
+// What an object sent to another and has not ended: what is open there, or else the first post not started.
+fn busy_since(past: &Past, o: ObjId, busy: ObjId) -> Option<usize> {
+    let ledger = past.ledger();
+    if !ledger.domain().has(o) || !ledger.domain().has(busy) {
+        return None;
+    }
+    if ledger.is_open(busy) {
+        return last_start(ledger.journal(), busy);
+    }
+    let started = ledger.started(&Sender::Object(o), busy);
+    post_of(ledger.journal(), o, busy, started as u64)
+}
+
+// The earlier entry that a number follows.
+fn counted_from(past: &Past, entry: &Entry) -> Option<usize> {
+    let entries = past.ledger().journal();
+    match entry {
+        Entry::Start { object, sender, .. } => last_start_of(entries, sender, *object),
+        Entry::Post { sender, target, .. } => last_post(entries, *sender, *target),
+        _ => None,
+    }
+}
+
+// The earlier entry of a request that was sent under the number of a start.
+fn sent_as(past: &Past, entry: &Entry) -> Option<usize> {
+    match entry {
+        Entry::Start {
+            object,
+            sender: Sender::Object(a),
+            number,
+            ..
+        } => post_of(past.ledger().journal(), *a, *object, *number),
+        _ => None,
+    }
+}
+
+// The earlier kill of the target of a post.
+fn target_killed(past: &Past, entry: &Entry) -> Option<usize> {
+    match entry {
+        Entry::Post {
+            target,
+            verdict: Verdict::Accepted(_) | Verdict::Full,
+            ..
+        } => last_kill(past.ledger().journal(), *target),
+        _ => None,
+    }
+}
+
+// The earlier entry for which an object that was read is busy, or which gave it another state.
+fn read_against(past: &Past, entry: &Entry, is_busy: bool) -> Option<usize> {
+    let Entry::Seen { object, readings } = entry else {
+        return None;
+    };
+    if is_busy {
+        let busy = first_busy(past, *object, readings.list())?;
+        busy_since(past, *object, busy)
+    } else {
+        let misread = first_misread(past, readings.list())?;
+        last_end(past.ledger().journal(), misread)
+    }
+}
+
+// The earlier entry that stands against an entry which breaks a rule.
+fn rests_on(past: &Past, entry: &Entry, rule: Rule) -> Option<usize> {
+    let entries = past.ledger().journal();
+    let o = owner(entry);
+    match rule {
+        Rule::Killed => last_kill(entries, o),
+        Rule::Open | Rule::Meaning | Rule::Clear | Rule::NotAState => last_start(entries, o),
+        Rule::Number => counted_from(past, entry),
+        Rule::NotSent => sent_as(past, entry),
+        Rule::BadRequest => None,
+        Rule::NotOpen => last_end(entries, o),
+        Rule::Dead => target_killed(past, entry),
+        Rule::Busy => read_against(past, entry, true),
+        Rule::Reading => read_against(past, entry, false),
+    }
+}
+
+/// Writes what stands against a line of a journal: its text, one sentence, and the earlier line that this
+/// rests on, if there is one. Line and rule are those of a `Judgement` of these entries; for another line
+/// nothing is written.
+///
+/// It is text for people, and no part of a format. What is written is not promised, and only tests hold it. The
+/// time and the memory are those of judging the entries before the line.
+pub fn explain<W: Sink>(
+    alloc: Global,
+    domain: Arc<Domain>,
+    entries: &[Entry],
+    line: u64,
+    rule: Rule,
+    writer: &mut W,
+    failed: &mut bool,
+) -> Result<(), AllocError>
+    requires texts { All (HasText (arc_value domain)) entries.now }
+    requires few { length entries.now + 2 < 2 ^ 64 }
+{
+    let place = line.saturating_sub(2) as usize;
+    if place >= entries.len() {
+        return Ok(());
+    }
+    let (before, rest) = entries.split_at(place);
+    let past = match Past::of(alloc, domain, before) {
+        Ok(past) => past,
+        Err(PastError::Illegal { .. }) => return Ok(()),
+        Err(PastError::Memory) => return Err(AllocError),
+    };
+    let entry = &rest[0];
+    tell_numbered(writer, failed, past.ledger().domain(), entries, place);
+    tell_sentence(writer, failed, &past, entry, rule);
+    tell(writer, failed, b".\n");
+    if let Some(earlier) = rests_on(&past, entry, rule) {
+        tell_numbered(writer, failed, past.ledger().domain(), entries, earlier);
+    }
+    Ok(())
+}

@@ -1,0 +1,290 @@
+//! One sentence: what stands against a line, or what could have stood in its place.
+ghost use Rattle.std.specs.Prelude.{IsTrue, length};
+ghost use Rattle.smi_ledger.specs.Tables.{IsKnown};
+
+use crate::earlier::owner;
+use smi_audit::past::Past;
+use smi_entry::args::Reading;
+use smi_entry::entry::{Entry, Sender, Verdict};
+use smi_follower::follower::Expected;
+use smi_interp::contact::Objects;
+use smi_journal::call_text::{tell_call, tell_object};
+use smi_journal::entry_text::{tell_number, tell_session};
+use smi_rules::rule::Rule;
+use sml_domain::domain::Domain;
+use sml_domain::ids::{ObjId, StateId};
+use sml_text::writing::{Sink, tell};
+
+fn tell_state<W: Sink>(writer: &mut W, failed: &mut bool, domain: &Domain, state: StateId) {
+    if let Some(name) = domain.state_name(state) {
+        tell(writer, failed, b" ");
+        tell(writer, failed, name.as_bytes());
+    }
+}
+
+fn tell_sender<W: Sink>(writer: &mut W, failed: &mut bool, domain: &Domain, sender: &Sender) {
+    match sender {
+        Sender::Operator(session) => tell_session(writer, failed, *session),
+        Sender::Object(object) => tell_object(writer, failed, domain, *object),
+    }
+}
+
+// The words of one object.
+fn tell_of<W: Sink>(
+    writer: &mut W,
+    failed: &mut bool,
+    domain: &Domain,
+    before: &[u8],
+    o: ObjId,
+    behind: &[u8],
+) {
+    tell(writer, failed, before);
+    tell_object(writer, failed, domain, o);
+    tell(writer, failed, behind);
+}
+
+fn tell_objects<W: Sink>(writer: &mut W, failed: &mut bool, domain: &Domain, objects: &Objects) {
+    for object in objects.list() {
+        tell_object(writer, failed, domain, *object);
+    }
+}
+
+fn tell_expected<W: Sink>(
+    writer: &mut W,
+    failed: &mut bool,
+    domain: &Domain,
+    o: ObjId,
+    expected: &Expected<'_>,
+) {
+    tell_of(writer, failed, domain, b"next the action of", o, b"");
+    match expected {
+        Expected::Post(post) => {
+            tell(writer, failed, b" posts to");
+            tell_object(writer, failed, domain, post.target);
+            tell_call(
+                writer,
+                failed,
+                domain,
+                post.target,
+                post.action,
+                post.args.values(),
+            );
+        }
+        Expected::Read(objects) => {
+            tell(writer, failed, b" reads");
+            tell_objects(writer, failed, domain, objects);
+        }
+        Expected::End(state) => {
+            tell(writer, failed, b" ends in");
+            tell_state(writer, failed, domain, *state);
+        }
+    }
+}
+
+// What the open action of an object does next.
+fn tell_next<W: Sink>(writer: &mut W, failed: &mut bool, past: &Past, o: ObjId) {
+    let domain = past.ledger().domain();
+    if !domain.has(o) {
+        return;
+    }
+    if domain.associated(o) {
+        tell_of(
+            writer,
+            failed,
+            domain,
+            b"the device of",
+            o,
+            b" ends the action, if the state declares it",
+        );
+        return;
+    }
+    match past.next(o) {
+        Some(expected) => tell_expected(writer, failed, domain, o, &expected),
+        None => tell_of(
+            writer,
+            failed,
+            domain,
+            b"the state of",
+            o,
+            b" does not declare the action, which is skipped",
+        ),
+    }
+}
+
+// The number that would be right.
+fn tell_right_number<W: Sink>(writer: &mut W, failed: &mut bool, past: &Past, entry: &Entry) {
+    let ledger = past.ledger();
+    let domain = ledger.domain();
+    match entry {
+        Entry::Start { object, sender, .. } => {
+            if !domain.has(*object) || !is_known(domain, sender) {
+                return;
+            }
+            tell(writer, failed, b"the next start of");
+            tell_sender(writer, failed, domain, sender);
+            tell_of(writer, failed, domain, b" at", *object, b" has the number");
+            tell_number(writer, failed, ledger.started(sender, *object) as u64);
+        }
+        Entry::Post { sender, target, .. } => {
+            if !domain.has(*sender) || !domain.has(*target) {
+                return;
+            }
+            tell_of(
+                writer,
+                failed,
+                domain,
+                b"the next accepted post of",
+                *sender,
+                b" to",
+            );
+            tell_of(writer, failed, domain, b"", *target, b" has the number");
+            tell_number(writer, failed, ledger.posted(*sender, *target) as u64);
+        }
+        _ => {}
+    }
+}
+
+// Whether a sender is one of the domain.
+fn is_known(domain: &Domain, sender: &Sender) -> bool
+    ensures { IsTrue result → IsKnown (length domain.now.objects) sender.now }
+{
+    match sender {
+        Sender::Operator(_) => true,
+        Sender::Object(object) => domain.has(*object),
+    }
+}
+
+// Whether an object is killed that a post is told is not, or the other way round.
+fn tell_dead<W: Sink>(writer: &mut W, failed: &mut bool, domain: &Domain, entry: &Entry) {
+    if let Entry::Post {
+        target,
+        verdict,
+        ..
+    } = entry
+    {
+        let behind: &[u8] = match verdict {
+            Verdict::Dead => b" is not killed",
+            Verdict::Accepted(_) | Verdict::Full => b" is killed",
+        };
+        tell_of(writer, failed, domain, b"", *target, behind);
+    }
+}
+
+/// The object of the first reading that another object has to wait for.
+pub(crate) fn first_busy(past: &Past, o: ObjId, readings: &[Reading]) -> Option<ObjId> {
+    let ledger = past.ledger();
+    if !ledger.domain().has(o) {
+        return None;
+    }
+    for reading in readings {
+        if ledger.domain().has(reading.object) && !ledger.is_clear(o, reading.object) {
+            return Some(reading.object);
+        }
+    }
+    None
+}
+
+fn tell_busy<W: Sink>(
+    writer: &mut W,
+    failed: &mut bool,
+    past: &Past,
+    o: ObjId,
+    readings: &[Reading],
+) {
+    let ledger = past.ledger();
+    let domain = ledger.domain();
+    let Some(busy) = first_busy(past, o, readings) else {
+        return;
+    };
+    if domain.has(busy) && ledger.is_open(busy) {
+        tell_of(writer, failed, domain, b"an action is open at", busy, b"");
+        return;
+    }
+    tell_of(writer, failed, domain, b"what", o, b" sent to");
+    tell_of(writer, failed, domain, b"", busy, b" has not ended");
+}
+
+/// The object of the first reading whose state is another.
+pub(crate) fn first_misread(past: &Past, readings: &[Reading]) -> Option<ObjId> {
+    let ledger = past.ledger();
+    for reading in readings {
+        if ledger.domain().has(reading.object)
+            && ledger.state(reading.object).get() != reading.state.get()
+        {
+            return Some(reading.object);
+        }
+    }
+    None
+}
+
+fn tell_misread<W: Sink>(writer: &mut W, failed: &mut bool, past: &Past, readings: &[Reading]) {
+    let ledger = past.ledger();
+    let domain = ledger.domain();
+    if let Some(object) = first_misread(past, readings) {
+        if domain.has(object) {
+            tell_of(writer, failed, domain, b"the state of", object, b" is");
+            tell_state(writer, failed, domain, ledger.state(object));
+        }
+    }
+}
+
+// What is said where objects were read.
+fn tell_readings<W: Sink>(
+    writer: &mut W,
+    failed: &mut bool,
+    past: &Past,
+    entry: &Entry,
+    is_busy: bool,
+) {
+    if let Entry::Seen { object, readings } = entry {
+        if is_busy {
+            tell_busy(writer, failed, past, *object, readings.list());
+        } else {
+            tell_misread(writer, failed, past, readings.list());
+        }
+    }
+}
+
+/// What stands against an entry that breaks a rule first, behind the entries of a past.
+pub(crate) fn tell_sentence<W: Sink>(
+    writer: &mut W,
+    failed: &mut bool,
+    past: &Past,
+    entry: &Entry,
+    rule: Rule,
+) {
+    let domain = past.ledger().domain();
+    let o = owner(entry);
+    match rule {
+        Rule::Killed => tell_of(writer, failed, domain, b"", o, b" is killed"),
+        Rule::Open => tell_of(writer, failed, domain, b"an action is open at", o, b""),
+        Rule::Number => tell_right_number(writer, failed, past, entry),
+        Rule::NotSent => tell(
+            writer,
+            failed,
+            b"its sender posted no such request under this number",
+        ),
+        Rule::BadRequest => tell_of(
+            writer,
+            failed,
+            domain,
+            b"",
+            o,
+            b" has no such action with these arguments",
+        ),
+        Rule::NotOpen => tell_of(writer, failed, domain, b"no action is open at", o, b""),
+        Rule::Meaning => tell_next(writer, failed, past, o),
+        Rule::Dead => tell_dead(writer, failed, domain, entry),
+        Rule::Clear => tell_of(
+            writer,
+            failed,
+            domain,
+            b"",
+            o,
+            b" need not wait: all that it reads next is clear",
+        ),
+        Rule::Busy => tell_readings(writer, failed, past, entry, true),
+        Rule::Reading => tell_readings(writer, failed, past, entry, false),
+        Rule::NotAState => tell_of(writer, failed, domain, b"", o, b" has no such state"),
+    }
+}
