@@ -1,65 +1,10 @@
 //! Calls of `drive` that check. The expected texts are those of docs/FORMATS.md and docs/LANGUAGE.md.
 
+use crate::example_texts::DETECTOR;
 use crate::runs::{enter, expect, expect_each, leave};
-use crate::texts::{FIRST, SUPPLIES};
+use crate::texts::{ASKS_ITSELF, COUNTER, EMPTY_SET, FIRST, PAIR, SUPPLIES};
 use std::fs;
 use std::test::Fail;
-
-const COUNTER: &str = "\
-class: SINK /associated
-  state: READY
-    action: TAKE (int V, string W = \"none\")
-class: COUNTER
-  parameters: int N = 3, string P = \"x\"
-  state: IDLE
-    action: PUT (int T = 5, string M)
-      set N = T
-      set P = M
-      do TAKE (W = P, V = N) OUT
-    action: SHOW
-      do TAKE (V = N) OUT
-object: OUT is_of_class SINK
-object: C is_of_class COUNTER
-";
-
-const PAIR: &str = "\
-class: LEFT
-  state: S
-    action: GO
-      if ( B in_state S ) then
-      endif
-class: RIGHT
-  state: S
-    action: GO
-      if ( A in_state S ) then
-      endif
-object: A is_of_class LEFT
-object: B is_of_class RIGHT
-";
-
-const EMPTY_SET: &str = "\
-class: T
-  state: S
-    action: GO
-      if ( any_in E in_state S or not all_in E in_state S ) then
-        move_to BAD
-      endif
-      move_to GOOD
-  state: GOOD
-  state: BAD
-object: X is_of_class T
-objectset: E { }
-";
-
-const ASKS_ITSELF: &str = "\
-class: K
-  state: S
-    action: GO
-      if ( all_in G in_state S ) then
-      endif
-object: X is_of_class K
-objectset: G { X }
-";
 
 const CHECK: &[&str] = &["smirun", "check", "domain.sml"];
 
@@ -73,6 +18,7 @@ fn checks_example_domains(rt: HostRuntime) -> Result<(), Fail> {
         (COUNTER, 0, "domain.sml ok\n", ""),
         (PAIR, 0, "domain.sml ok\n", ""),
         (EMPTY_SET, 0, "domain.sml ok\n", ""),
+        (DETECTOR, 0, "domain.sml ok\n", ""),
     ];
     expect_each(&rt, CHECK, &rows)?;
     leave(&rt)

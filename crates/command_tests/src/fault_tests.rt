@@ -1,59 +1,63 @@
-//! What is made and written where a schedule ends before its end.
+//! What is made and written where a schedule ends before its end: the reader or the writer fails, or the
+//! text is too long.
 ghost use Rattle.std.specs.Prelude.{◌≤◌, IfOk, length};
 
-use crate::domain_of::{FIRST, core_of};
-use crate::schedule_tests::{FIRST_OUTPUT, FIRST_PATH, OneByte};
-use smi_core::{Core, ScheduleFault, run_schedule};
+use crate::domain_of::core_of;
+use crate::schedule_tests::written;
+use crate::supply_rows::CONFIGURE_READY;
+use crate::texts::SUPPLIES;
+use crate::transcript::{part_of, whole_of};
+use smi_core::{ScheduleFault, run_schedule};
 use std::alloc::{AllocError, Global};
-use std::io::{Error, Read};
+use std::io::{Error, Read, Write};
+use std::test::Fail;
 
-// A core of the first path, of whose lines each writes one line.
-fn first_core(alloc: Global) -> Option<Core> {
-    core_of(alloc, FIRST, 16, 1_000_000)
-}
-
-// The text up to the end of so many lines, and what is behind it.
-fn parted(text: &[u8], lines: usize) -> (&[u8], &[u8]) {
-    let mut left = lines;
-    for (at, byte) in text.iter().enumerate() {
-        if left == 0 {
-            return text.split_at(at);
-        }
-        if *byte == b'\n' {
-            left = left.saturating_sub(1);
-        }
-    }
-    (text, b"")
-}
-
-// How many lines end in a text.
-fn line_count(text: &[u8]) -> usize {
-    text.iter().filter(|byte| **byte == b'\n').count()
-}
-
-// Gives some bytes, one a call, and then fails or gives line feeds for ever.
+// Takes one byte a call, and fails at a call.
 #[derive(Drop)]
-struct Ending {
-    text: &'static [u8],
-    given: usize,
+struct OneByte {
+    taken: Vec<u8>,
+    good_calls: usize,
+}
+
+impl Write for OneByte {
+    fn write(&mut self, buf: &[u8]) -> std::io::Result<usize> {
+        if self.taken.len() >= self.good_calls {
+            return Err(Error::from(AllocError));
+        }
+        let [first, ..] = buf else {
+            return Ok(0);
+        };
+        self.taken.push(*first)?;
+        Ok(1)
+    }
+
+    fn flush(&mut self) -> std::io::Result<()> {
+        Ok(())
+    }
+}
+
+// Gives the first bytes of a text, one a call, and then fails or gives line feeds for ever.
+#[derive(Drop)]
+struct Ending<'a> {
+    text: &'a [u8],
     fails: bool,
 }
 
-impl Read for Ending {
+impl<'a> Read for Ending<'a> {
     fn read(&mut self, buf: &mut [u8]) -> std::io::Result<usize> {
-        let Some(byte) = self.text.get(self.given) else {
+        let Some((byte, rest)) = self.text.split_first() else {
             return self.end(buf);
         };
         let Some(place) = buf.first_mut() else {
             return Ok(0);
         };
         *place = *byte;
-        self.given = self.given.saturating_add(1);
+        self.text = rest;
         Ok(1)
     }
 }
 
-impl Ending {
+impl<'a> Ending<'a> {
     // What comes behind the bytes.
     fn end(&self, buf: &mut [u8]) -> std::io::Result<usize>
         ensures { IfOk result (λ n. n ≤ length buf.new) }
@@ -66,100 +70,87 @@ impl Ending {
     }
 }
 
-// What a core writes for a schedule, or nothing where that fails.
-fn written(alloc: Global, core: &mut Core, schedule: &[u8]) -> Vec<u8> {
-    let mut reader = schedule;
+// What a new core writes for a text behind which its reader ends so.
+fn written_before(alloc: Global, text: &[u8], fails: bool) -> Option<(Vec<u8>, ScheduleFault)> {
+    let mut core = core_of(alloc, SUPPLIES)?;
+    let mut reader = Ending { text, fails };
     let mut output = Vec::new(alloc);
-    match run_schedule(alloc, core, &mut reader, &mut output) {
-        Ok(()) => output,
-        Err(_) => Vec::new(alloc),
+    match run_schedule(alloc, &mut core, &mut reader, &mut output) {
+        Ok(()) => None,
+        Err(fault) => Some((output, fault)),
     }
 }
 
-// Whether a writer that fails behind so many bytes leaves the core behind the step whose line it cut.
-fn goes_on_behind_the_cut(alloc: Global, room: usize) -> bool {
-    let Some(core) = first_core(alloc) else {
-        return false;
-    };
-    let mut core = core;
-    let mut reader = FIRST_PATH;
+// Whether all that a prefix of the schedule writes are the lines of its whole lines, where the reader
+// fails behind it.
+fn makes_whole_lines(alloc: Global, length: usize) -> Option<bool> {
+    let whole = whole_of(alloc, CONFIGURE_READY).ok()?;
+    let text = whole.schedule.as_bytes().get(..length)?;
+    let lines = text.iter().filter(|byte| **byte == b'\n').count();
+    let expected = part_of(alloc, CONFIGURE_READY, 0, lines).ok()?;
+    let (output, fault) = written_before(alloc, text, true)?;
+    Some(fault == ScheduleFault::Read && output.as_slice() == expected.output.as_bytes())
+}
+
+// How many steps are made where the output ends behind so many bytes.
+fn steps_made(alloc: Global, length: usize) -> Option<usize> {
+    for steps in 0..100 {
+        let part = part_of(alloc, CONFIGURE_READY, 0, steps).ok()?;
+        if part.output.len() > length {
+            return Some(steps);
+        }
+    }
+    None
+}
+
+// Whether a writer that fails behind so many bytes is given those, and leaves the core behind the step
+// whose lines it cut.
+fn goes_on_behind_the_cut(alloc: Global, room: usize) -> Option<bool> {
+    let whole = whole_of(alloc, CONFIGURE_READY).ok()?;
+    let rest = part_of(alloc, CONFIGURE_READY, steps_made(alloc, room)?, usize::MAX).ok()?;
+    let mut core = core_of(alloc, SUPPLIES)?;
+    let mut reader = whole.schedule.as_bytes();
     let mut writer = OneByte {
         taken: Vec::new(alloc),
         good_calls: room,
     };
     let ran = run_schedule(alloc, &mut core, &mut reader, &mut writer);
-    let made = line_count(writer.taken.as_slice()).saturating_add(1);
-    let (_, rest) = parted(FIRST_PATH, made);
-    let (_, expected) = parted(FIRST_OUTPUT, made);
-    let again = written(alloc, &mut core, rest);
-    matches!(ran, Err(ScheduleFault::Write)) && again.as_slice() == expected
-}
-
-// What is written of a front of the path, behind which the reader fails.
-fn written_of_front(alloc: Global, text: &'static [u8]) -> Option<Vec<u8>> {
-    let mut core = first_core(alloc)?;
-    let mut reader = Ending {
-        text,
-        given: 0,
-        fails: true,
-    };
-    let mut output = Vec::new(alloc);
-    match run_schedule(alloc, &mut core, &mut reader, &mut output) {
-        Err(ScheduleFault::Read) => Some(output),
-        _ => None,
-    }
-}
-
-// Whether all that a front of the path writes are the lines of its whole lines.
-fn makes_whole_lines(alloc: Global, length: usize) -> bool {
-    let Some(text) = FIRST_PATH.get(..length) else {
-        return false;
-    };
-    let (expected, _) = parted(FIRST_OUTPUT, line_count(text));
-    match written_of_front(alloc, text) {
-        Some(output) => output.as_slice() == expected,
-        None => false,
-    }
-}
-
-// What is written before the limit of a schedule's length.
-fn written_before_the_limit(alloc: Global) -> Option<Vec<u8>> {
-    let mut core = first_core(alloc)?;
-    let mut reader = Ending {
-        text: FIRST_PATH,
-        given: 0,
-        fails: false,
-    };
-    let mut output = Vec::new(alloc);
-    match run_schedule(alloc, &mut core, &mut reader, &mut output) {
-        Err(ScheduleFault::TooLong) => Some(output),
-        _ => None,
-    }
-}
-
-// Whether the output of the first path is written before the limit.
-fn is_written_before_the_limit(alloc: Global) -> bool {
-    match written_before_the_limit(alloc) {
-        Some(output) => output.as_slice() == FIRST_OUTPUT,
-        None => false,
-    }
+    let is_cut = writer.taken.as_slice() == whole.output.as_bytes().get(..room)?;
+    let again = written(alloc, &mut core, rest.schedule.as_str())?;
+    let goes_on = again.as_slice() == rest.output.as_bytes();
+    Some(ran == Err(ScheduleFault::Write) && is_cut && goes_on)
 }
 
 #[test]
-fn a_core_goes_on_behind_a_fault_of_the_writer(rt: HostRuntime) {
-    for room in 0..FIRST_OUTPUT.len() {
-        assert!(rt; goes_on_behind_the_cut(rt.alloc(), room));
+fn faults_of_the_writer(rt: HostRuntime) -> Result<(), Fail> {
+    let length = whole_of(rt.alloc(), CONFIGURE_READY)?.output.len();
+    for room in 0..length {
+        assert!(rt;
+            goes_on_behind_the_cut(rt.alloc(), room) == Some(true),
+            "at {room}"
+        );
     }
+    Ok(())
 }
 
+// Nor is a line made that was cut.
 #[test]
-fn a_cut_line_is_not_made(rt: HostRuntime) {
-    for length in 0..FIRST_PATH.len() {
-        assert!(rt; makes_whole_lines(rt.alloc(), length));
+fn faults_of_the_reader(rt: HostRuntime) -> Result<(), Fail> {
+    let length = whole_of(rt.alloc(), CONFIGURE_READY)?.schedule.len();
+    for at in 0..length {
+        assert!(rt; makes_whole_lines(rt.alloc(), at) == Some(true), "at {at}");
     }
+    Ok(())
+}
+
+// Whether what stands before the limit of a schedule's length is made and written.
+fn is_written_before_the_limit(alloc: Global) -> Option<bool> {
+    let whole = whole_of(alloc, CONFIGURE_READY).ok()?;
+    let (output, fault) = written_before(alloc, whole.schedule.as_bytes(), false)?;
+    Some(fault == ScheduleFault::TooLong && output.as_slice() == whole.output.as_bytes())
 }
 
 #[test]
 fn what_is_before_the_limit_is_written(rt: HostRuntime) {
-    assert!(rt; is_written_before_the_limit(rt.alloc()));
+    assert!(rt; is_written_before_the_limit(rt.alloc()) == Some(true));
 }

@@ -6,7 +6,7 @@ use std::fs::{File, Files, Metadata, OpenOptions};
 use std::io;
 use std::test::Fail;
 
-// Files that are never opened for want of memory.
+// Files that are never opened, as there is no memory.
 #[derive(Drop)]
 struct NoMemory;
 
@@ -60,7 +60,7 @@ impl Files for NoMemory {
     }
 }
 
-// Whether a command ends so for want of memory, with nothing on its output.
+// Whether a command ends as out of memory, with nothing on its output.
 fn ends_for_memory(alloc: Global, words: &[&str]) -> Result<bool, Fail> {
     let rt = (NoMemory, alloc);
     let outcome = call(&rt, words)?;
@@ -72,11 +72,12 @@ fn ends_for_memory(alloc: Global, words: &[&str]) -> Result<bool, Fail> {
 }
 
 #[test]
-fn want_of_memory_ends_a_command(rt: HostRuntime) -> Result<(), Fail> {
-    let rows: [&[&str]; 3] = [
+fn out_of_memory_ends_a_command(rt: HostRuntime) -> Result<(), Fail> {
+    let rows: [&[&str]; 4] = [
         &["smirun", "check", "a.sml", "b.sml"],
         &["smirun", "print", "a.sml"],
         &["smirun", "step", "a.sml", "a.schedule"],
+        &["smirun", "audit", "a.sml", "a.journal"],
     ];
     for words in rows {
         assert!(rt; ends_for_memory(rt.alloc(), words)?);

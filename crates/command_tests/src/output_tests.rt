@@ -4,10 +4,10 @@ use crate::runs::{enter, leave, strings, write_inputs};
 use crate::texts::FIRST;
 use smi_words::drive::drive;
 use std::fs::Files;
-use std::io;
 use std::io::{ErrorKind, Write};
 use std::process::Abort;
 use std::test::Fail;
+use std::{fs, io};
 
 // A writer that fails.
 #[derive(Drop)]
@@ -59,8 +59,8 @@ fn expect_output_fault<R: Files + AllocGlobal + Abort, W: Write>(
     let list = strings(rt, words)?;
     let mut errors = Vec::new(rt.alloc());
     let status = drive(rt, list.as_slice(), output, &mut errors);
-    let given = (status, errors.as_slice());
-    assert_eq!(rt; given, (1, b"output fault\n".as_slice()), "in {words:?}");
+    let is_told = errors.as_slice() == b"output fault\n".as_slice();
+    assert!(rt; status == 1 && is_told, "in {words:?}");
     Ok(())
 }
 
@@ -68,11 +68,13 @@ fn expect_output_fault<R: Files + AllocGlobal + Abort, W: Write>(
 fn output_faults(rt: HostRuntime) -> Result<(), Fail> {
     enter(&rt, "output_faults")?;
     write_inputs(&rt, FIRST, "start L\n")?;
-    let lines: [&[&str]; 4] = [
+    fs::write(&rt, "journal", b"smi-journal 1\n")?;
+    let lines: [&[&str]; 5] = [
         &["smirun", "step", "domain.sml", "schedule"],
         &["smirun", "--help"],
         &["smirun", "print", "domain.sml"],
         &["smirun", "check", "domain.sml"],
+        &["smirun", "audit", "domain.sml", "journal"],
     ];
     for words in lines {
         expect_output_fault(&rt, words, &mut Fails)?;

@@ -1,7 +1,9 @@
 //! Calls of `drive`. Each test works in a folder of its own.
 
 use smi_words::drive::drive;
+use std::alloc::Global;
 use std::fs::Files;
+use std::io::Write;
 use std::process::Abort;
 use std::test::Fail;
 use std::{env, fs, process, str};
@@ -41,6 +43,34 @@ pub struct Outcome {
     pub errors: Vec<u8>,
 }
 
+// Writes a file of `blocks` times 4,096 bytes, and behind them `rest`.
+pub fn write_many(
+    rt: &HostRuntime,
+    path: &str,
+    byte: u8,
+    blocks: usize,
+    rest: &[u8],
+) -> Result<(), Fail> {
+    let mut file = fs::create(rt, path)?;
+    let block = [byte; 4_096];
+    for _ in 0..blocks {
+        file.write_all(&block)?;
+    }
+    file.write_all(rest)?;
+    Ok(())
+}
+
+// The words of a command line, and some more.
+pub fn words_of<'a>(
+    alloc: Global,
+    first: &[&'a str],
+    more: &[&'a str],
+) -> Result<Vec<&'a str>, Fail> {
+    let mut words = first.to_vec(alloc)?;
+    words.extend_from_slice(more)?;
+    Ok(words)
+}
+
 pub fn strings<R: AllocGlobal>(rt: &R, words: &[&str]) -> Result<Vec<String>, Fail> {
     let mut list = Vec::new(rt.alloc());
     for word in words {
@@ -69,12 +99,13 @@ pub fn expect<R: Files + AllocGlobal + Abort>(
     errors: &str,
 ) -> Result<(), Fail> {
     let outcome = call(rt, words)?;
-    let given = (
-        outcome.status,
-        str::from_utf8(outcome.output.as_slice())?,
-        str::from_utf8(outcome.errors.as_slice())?,
+    let told = str::from_utf8(outcome.output.as_slice())?;
+    let told_of_faults = str::from_utf8(outcome.errors.as_slice())?;
+    let is_told = told == output && told_of_faults == errors;
+    assert!(rt;
+        outcome.status == status && is_told,
+        "{words:?} gives {told:?}, {told_of_faults:?}"
     );
-    assert_eq!(rt; given, (status, output, errors), "in {words:?}");
     Ok(())
 }
 

@@ -19,14 +19,23 @@ fn expect_wrong_words<R: Files + AllocGlobal + Abort>(rt: &R, words: &[&str]) ->
 
 #[test]
 fn wrong_command_lines(rt: HostRuntime) -> Result<(), Fail> {
-    let step_lines: [&[&str]; 4] = [&[], &["a"], &["a", "b", "c"], &["a", "b", "--workers", "2"]];
-    let other_lines: [&[&str]; 7] = [
+    let step_lines: [&[&str]; 5] = [
+        &[],
+        &["a"],
+        &["a", "b", "c"],
+        &["a", "b", "--workers", "2"],
+        &["a", "b", "--journal"],
+    ];
+    let other_lines: [&[&str]; 10] = [
         &[],
         &["smirun"],
         &["smirun", "print"],
         &["smirun", "print", "a", "b"],
         &["smirun", "check"],
+        &["smirun", "audit"],
         &["smirun", "audit", "a"],
+        &["smirun", "audit", "a", "b", "c"],
+        &["smirun", "run", "a", "b"],
         &["smirun", "--x"],
     ];
     for words in other_lines {
@@ -71,21 +80,90 @@ fn options_in_and_out_of_range(rt: HostRuntime) -> Result<(), Fail> {
     leave(&rt)
 }
 
+// A command line, and what stands in the text that it is given.
+type Help = (&'static [&'static str], &'static [&'static str]);
+
+const HELP: &[Help] = &[
+    (&["smirun", "--help"], &["Exit status: 0 done", "audit"]),
+    (&["smirun", "-h"], &["Usage: smirun <COMMAND>"]),
+    (&["smirun", "help"], &["Usage: smirun <COMMAND>"]),
+    (&["smirun", "--version"], &["smirun 0.1.0\n"]),
+    (&["smirun", "step", "--help"], STEPS),
+    (
+        &["smirun", "help", "step"],
+        &["[default: 1000000]", "--journal"],
+    ),
+    (&["smirun", "audit", "--help"], RULES),
+    (
+        &["smirun", "check", "--help"],
+        &["6 TooMany", "15 AssociatedBody"],
+    ),
+    (&["smirun", "print", "--help"], &["class:lamp state:off"]),
+];
+
+// All steps, all lines that they write, and all that they are refused for.
+const STEPS: &[&str] = &[
+    "request @S OBJECT ACTION (NAME = VALUE",
+    "start OBJECT ",
+    "go OBJECT ",
+    "answer OBJECT STATE ",
+    "fault OBJECT ",
+    "kill OBJECT @S ",
+    "accept @S OBJECT NUMBER ACTION ARGS ",
+    "start OBJECT SENDER NUMBER ACTION ARGS ",
+    "set OBJECT PARAMETER=VALUE ",
+    "post OBJECT TARGET NUMBER ACTION ARGS ",
+    "post OBJECT TARGET refused full ACTION ARGS ",
+    "post OBJECT TARGET refused dead ACTION ARGS ",
+    "wait OBJECT ",
+    "still OBJECT ",
+    "seen OBJECT OBJECT1=STATE1 OBJECT2=STATE2 ",
+    "end OBJECT STATE ",
+    "end OBJECT skipped ",
+    "kill OBJECT fault ",
+    "refused KIND ",
+    "BadLine ",
+    "UnknownObject ",
+    "UnknownAction ",
+    "BadArgs ",
+    "Dead ",
+    "Full ",
+    "Limit ",
+    "AlreadyOpen ",
+    "Empty ",
+    "Associated ",
+    "NotAssociated ",
+    "NotOpen ",
+    "NotAState ",
+    "AlreadyDead ",
+];
+
+// What a judge says, and all rules.
+const RULES: &[&str] = &[
+    "Legal ",
+    "Illegal LINE RULE ",
+    "Killed ",
+    "Open ",
+    "Number ",
+    "NotSent ",
+    "BadRequest ",
+    "NotOpen ",
+    "Meaning ",
+    "Dead ",
+    "Clear ",
+    "Busy ",
+    "Reading ",
+    "NotAState ",
+];
+
 #[test]
 fn help_is_given(rt: HostRuntime) -> Result<(), Fail> {
-    let lines: [(&[&str], &str); 6] = [
-        (&["smirun", "--help"], "smirun step --help"),
-        (&["smirun", "-h"], "Exit status: 0 done"),
-        (&["smirun", "help"], "Usage: smirun <COMMAND>"),
-        (&["smirun", "step", "--help"], "request @S OBJECT ACTION"),
-        (&["smirun", "help", "step"], "[default: 1000000]"),
-        (&["smirun", "print", "--help"], "class:lamp state:off"),
-    ];
-    for (words, part) in lines {
+    for (words, parts) in HELP {
         let outcome = call(&rt, words)?;
         let text = std::str::from_utf8(outcome.output.as_slice())?;
-        let is_told = outcome.errors.is_empty() && text.contains(part);
-        assert!(rt; outcome.status == 0 && is_told, "no {part:?} in {words:?}");
+        let missing = parts.iter().find(|part| !text.contains(**part));
+        let is_told = outcome.status == 0 && outcome.errors.is_empty();
+        assert!(rt; is_told && missing.is_none(), "no {missing:?} in {words:?}");
     }
     Ok(())
 }

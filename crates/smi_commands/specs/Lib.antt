@@ -1,2 +1,4 @@
 pub mod Status
 pub mod Judgement
+pub mod Loading
+pub mod Ruling

@@ -4,15 +4,17 @@ use Rattle.std.specs.Fmt.{decimal}
 use Rattle.sml_read.specs.Refusal.{number_of, name_of}
 use Rattle.sml_faults.specs.KindText as check
 use Rattle.smi_commands.specs.declared.fault.Fault.{Fault}
-use Rattle.smi_commands.specs.declared.fault.Fault.TheVariants.{Read, Check, NotYet, Unreadable, TooLong, Output, Memory}
+use Rattle.smi_commands.specs.declared.fault.Fault.TheVariants.{Read, Check, WrongNumbers, Unreadable, TooLong, BadHeader, BadLine, Output, Memory}
 
 -- the exit status of a fault
 abbrev pub fault_status : Fault → ℕ
 fault_status (Read _ _) = 1
 fault_status (Check _ _) = 1
-fault_status (NotYet _) = 1
+fault_status WrongNumbers = 2
 fault_status (Unreadable _) = 1
 fault_status (TooLong _) = 1
+fault_status (BadHeader _) = 1
+fault_status (BadLine _ _) = 1
 fault_status Output = 1
 fault_status Memory = 3
 
@@ -22,8 +24,10 @@ fault_line (Read file e) = Some (file.now ++ codes " read " ++ decimal (number_o
     ++ codes " at " ++ decimal e.offset)
 fault_line (Check file e) = Some (file.now ++ codes " check " ++ decimal (check.number_of e.kind) ++ codes " " ++ check.name_of e.kind
     ++ codes " " ++ e.name)
-fault_line (NotYet file) = Some (file.now ++ codes " not yet")
+fault_line WrongNumbers = Some (codes "capacity is 1 to 1024, max-starts 1 to 1000000")
 fault_line (Unreadable file) = Some (file.now ++ codes " unreadable")
 fault_line (TooLong file) = Some (file.now ++ codes " too long")
+fault_line (BadHeader file) = Some (file.now ++ codes " bad header")
+fault_line (BadLine file n) = Some (file.now ++ codes " bad line " ++ decimal n)
 fault_line Output = Some (codes "output fault")
 fault_line Memory = Some (codes "memory")

@@ -1,20 +1,17 @@
 //! From what is asked to an exit status.
-ghost use Rattle.std.specs.Prelude.{◌≡◌, ◌≢◌, ◌≤◌};
+ghost use Rattle.std.specs.Prelude.{◌≡◌, ◌≢◌, ◌≤◌, IfErr, IfOk};
 ghost use Rattle.std.specs.IoError.{error_kind};
+ghost use Rattle.smi_commands.specs.Status.{fault_status};
 
+use crate::audit::{AuditOptions, run_audit};
 use crate::check::run_check;
 use crate::fault::Fault;
 use crate::print::run_print;
+use crate::status::{DONE, WRONG_WORDS};
 use crate::step::{StepOptions, run_step};
 use std::fs::Files;
 use std::io;
 use std::io::{ErrorKind, Write};
-
-/// The status of a command that did what it was asked.
-pub const DONE: u8 = 0;
-
-/// The status of a command line that is none of the program.
-pub const WRONG_WORDS: u8 = 2;
 
 /// What the program is asked to do.
 #[derive(Drop)]
@@ -25,6 +22,8 @@ pub enum Asked<'a> {
     Step(StepOptions<'a>),
     /// To print the canonical text of the domain file of this path.
     Print(&'a str),
+    /// To judge a journal by a domain.
+    Audit(AuditOptions<'a>),
 }
 
 /// Does what is asked, and gives the exit status.
@@ -37,7 +36,7 @@ pub fn perform<R: Files + AllocGlobal, W: Write, E: Write>(
     output: &mut W,
     errors: &mut E,
 ) -> u8
-    ensures { result ≤ 3 }
+    ensures { result ≤ 4 }
 {
     match asked {
         Asked::Check(files) => match run_check(rt, files.as_slice(), output) {
@@ -46,12 +45,18 @@ pub fn perform<R: Files + AllocGlobal, W: Write, E: Write>(
         },
         Asked::Print(file) => ended(&run_print(rt, file, output), errors),
         Asked::Step(options) => ended(&run_step(rt, options, output), errors),
+        Asked::Audit(options) => match run_audit(rt, options, output, errors) {
+            Ok(status) => status,
+            Err(fault) => fault.tell(errors),
+        },
     }
 }
 
-// The status of a command that did what it was asked, or its fault.
+// The status of a command that did what it was asked, or that of its fault, which is told.
 fn ended<E: Write>(outcome: &Result<(), Fault<'_>>, errors: &mut E) -> u8
-    ensures { result ≤ 3 }
+    ensures ok { IfOk outcome.now (λ _. result ≡ 0) }
+    ensures err { IfErr outcome.now (λ fault. result ≡ fault_status fault) }
+    ensures range { result ≤ 3 }
 {
     match outcome {
         Ok(()) => DONE,

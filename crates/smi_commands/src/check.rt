@@ -12,8 +12,8 @@ use std::fs::Files;
 use std::io::{BufWriter, Write};
 
 /// Tells of each file whether it is well-formed, or why not, and gives the exit status. A refused or
-/// unreadable file is told, and the next follows; want of memory and a fault of the output end it. Each
-/// tree lies in an arena that is emptied for the next file.
+/// unreadable file is told, and the next follows; a fault of the output, or being out of memory, ends it.
+/// Each tree lies in an arena that is emptied for the next file.
 pub fn run_check<R: Files + AllocGlobal, W: Write>(
     rt: &R,
     files: &[&str],
@@ -59,8 +59,8 @@ fn tell_files<R: Files + AllocGlobal, W: Write>(
     Ok(worst)
 }
 
-// Judges the file of a path. The error is want of memory, to hold the text (`Judgement::of_input`) or to
-// judge it.
+// Judges the file of a path. The error is out of memory, while the text is read (`Judgement::of_input`) or
+// judged.
 fn judge_file<R: Files + AllocGlobal, A: Allocator + Clone>(
     rt: &R,
     alloc: A,

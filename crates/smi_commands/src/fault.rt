@@ -1,9 +1,11 @@
 //! Why a command ends before it is done.
-ghost use Rattle.std.specs.Prelude.{◌≡◌, ◌≢◌, ◌≤◌};
+ghost use Rattle.std.specs.Prelude.{◌≡◌, ◌≢◌, ◌≤◌, ℕ};
 ghost use Rattle.std.specs.IoError.{error_kind};
 ghost use Rattle.smi_commands.specs.Status.{fault_status};
 
 use crate::judgement::Judgement;
+use crate::status::{NO_MEMORY, REFUSED, WRONG_WORDS};
+use smi_audit::JournalError;
 use smi_core::{CoreError, ScheduleFault};
 use sml_faults::{CheckError, CheckKind};
 use sml_read::{ReadError, ReadErrorKind};
@@ -20,15 +22,19 @@ pub enum Fault<'a> {
     Read(&'a str, ReadError),
     /// The file is not well-formed.
     Check(&'a str, CheckError),
-    /// The file uses a form that is not executed yet.
-    NotYet(&'a str),
+    /// The capacity or the limit of starts is out of range. The numbers of a command line never are.
+    WrongNumbers,
     /// The file cannot be opened or read.
     Unreadable(&'a str),
-    /// The schedule is past its limit.
+    /// The schedule or the journal is past its limit.
     TooLong(&'a str),
-    /// Standard output cannot be written.
+    /// The journal does not begin with the first line of journals.
+    BadHeader(&'a str),
+    /// A line of the journal is no entry's. Lines count from 1.
+    BadLine(&'a str, u64),
+    /// Standard output, or the file of the journal, cannot be written.
     Output,
-    /// Want of memory.
+    /// Out of memory.
     Memory,
 }
 
@@ -39,9 +45,11 @@ impl<'a> Fault<'a> {
         ensures range { result ≤ 3 }
     {
         match *self {
-            Fault::Read(..) | Fault::Check(..) => 1,
-            Fault::NotYet(_) | Fault::Unreadable(_) | Fault::TooLong(_) | Fault::Output => 1,
-            Fault::Memory => 3,
+            Fault::Read(..) | Fault::Check(..) | Fault::BadHeader(_) | Fault::BadLine(..) =>
+                REFUSED,
+            Fault::Unreadable(_) | Fault::TooLong(_) | Fault::Output => REFUSED,
+            Fault::WrongNumbers => WRONG_WORDS,
+            Fault::Memory => NO_MEMORY,
         }
     }
 
@@ -88,14 +96,13 @@ impl<'a> Fault<'a> {
         }
     }
 
-    /// The fault of a core that could not be made for the domain of a file. The numbers of a command line are
-    /// in range, so it is the domain's form that is wrong.
-    pub fn of_core(file: &'a str, error: CoreError) -> Fault<'a>
-        ensures not_yet { error ≡ CoreError.BadConfig → result ≡ Fault.NotYet file.entry }
+    /// The fault of a core that could not be made.
+    pub fn of_core(error: CoreError) -> Fault<'a>
+        ensures numbers { error ≡ CoreError.BadConfig → result ≡ Fault.WrongNumbers }
         ensures memory { error ≡ CoreError.Memory → result ≡ Fault.Memory }
     {
         match error {
-            CoreError::BadConfig => Fault::NotYet(file),
+            CoreError::BadConfig => Fault::WrongNumbers,
             CoreError::Memory => Fault::Memory,
         }
     }
@@ -114,6 +121,20 @@ impl<'a> Fault<'a> {
             ScheduleFault::Memory => Fault::Memory,
         }
     }
+
+    /// The fault of a journal that could not be judged.
+    pub fn of_journal(journal: &'a str, error: JournalError) -> Fault<'a>
+        ensures header { error ≡ JournalError.BadHeader → result ≡ Fault.BadHeader journal.entry }
+        ensures line { (number : ℕ) → error ≡ JournalError.BadLine number
+            → result ≡ Fault.BadLine journal.entry number }
+        ensures memory { error ≡ JournalError.Memory → result ≡ Fault.Memory }
+    {
+        match error {
+            JournalError::BadHeader => Fault::BadHeader(journal),
+            JournalError::BadLine(number) => Fault::BadLine(journal, number),
+            JournalError::Memory => Fault::Memory,
+        }
+    }
 }
 
 impl fmt::Display for Fault<'_> {
@@ -125,9 +146,11 @@ impl fmt::Display for Fault<'_> {
         match self {
             Fault::Read(file, error) => write!(f, "{file} {}", Judgement::Read(*error)),
             Fault::Check(file, error) => write!(f, "{file} {}", Judgement::Check(*error)),
-            Fault::NotYet(file) => write!(f, "{file} not yet"),
+            Fault::WrongNumbers => f.write_str("capacity is 1 to 1024, max-starts 1 to 1000000"),
             Fault::Unreadable(file) => write!(f, "{file} unreadable"),
             Fault::TooLong(file) => write!(f, "{file} too long"),
+            Fault::BadHeader(file) => write!(f, "{file} bad header"),
+            Fault::BadLine(file, number) => write!(f, "{file} bad line {number}"),
             Fault::Output => f.write_str("output fault"),
             Fault::Memory => f.write_str("memory"),
         }

@@ -4,6 +4,7 @@ ghost use Rattle.std.specs.IoError.{error_kind};
 ghost use Rattle.sml_tree.specs.Content.{file_content};
 ghost use Rattle.smi_commands.specs.Judgement.{IsJudged, IsJudgedFile, judgement_status};
 
+use crate::status::{DONE, REFUSED};
 use sml_faults::{CheckError, CheckKind, first_fault};
 use sml_read::{ReadError, ReadErrorKind, read};
 use sml_tree::file::SmlFile;
@@ -26,7 +27,7 @@ pub enum Judgement {
 }
 
 impl Judgement {
-    /// What is told of a file that could not be opened or read. The error is want of memory.
+    /// What is told of a file that could not be opened or read. The error is out of memory.
     pub fn of_input(error: &io::Error) -> Result<Judgement, AllocError>
         ensures memory { error_kind error.now ≡ ErrorKind.OutOfMemory → IsErr result }
         ensures unreadable { error_kind error.now ≢ ErrorKind.OutOfMemory
@@ -44,8 +45,8 @@ impl Judgement {
         ensures range { result ≤ 1 }
     {
         match self {
-            Judgement::Good => 0,
-            Judgement::Unreadable | Judgement::Read(_) | Judgement::Check(_) => 1,
+            Judgement::Good => DONE,
+            Judgement::Unreadable | Judgement::Read(_) | Judgement::Check(_) => REFUSED,
         }
     }
 }

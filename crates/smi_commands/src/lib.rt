@@ -1,18 +1,25 @@
-//! The commands of the state manager: to check domains, to print one, and to run a schedule on one. Each is a
-//! function over a runtime, what it is asked and the streams that it writes.
+//! The commands of the state manager: to check domains, to print one, to run a schedule on one, and to judge a
+//! journal of one. Each is a function over a runtime, what it is asked and the streams that it writes.
 #![tactic(auto)]
 
 mod asked;
+mod audit;
 mod check;
 mod fault;
 mod judgement;
+mod loading;
 mod print;
+mod ruling;
+mod status;
 mod step;
 mod text;
 
-pub use asked::{Asked, DONE, WRONG_WORDS, perform, refuse_words};
+pub use asked::{Asked, perform, refuse_words};
+pub use audit::{AuditOptions, run_audit};
 pub use check::run_check;
 pub use fault::Fault;
 pub use judgement::{Judgement, judge};
 pub use print::run_print;
+pub use ruling::Ruling;
+pub use status::{DONE, ILLEGAL, NO_MEMORY, REFUSED, WRONG_WORDS};
 pub use step::{StepOptions, run_step};

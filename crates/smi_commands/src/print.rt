@@ -14,7 +14,7 @@ use std::fs::Files;
 use std::io::{BufWriter, Write};
 
 /// Prints the canonical text of a domain file, which is read and not checked. At a fault of the
-/// output a front of the text is written.
+/// output a prefix of the text is written.
 pub fn run_print<'a, R: Files + AllocGlobal, W: Write>(
     rt: &R,
     file: &'a str,

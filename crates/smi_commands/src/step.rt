@@ -1,16 +1,20 @@
 //! The command `step`: a domain and a schedule go in, and what was done comes out.
+ghost use Rattle.std.specs.Prelude.{◌≤◌, ℕ, List, OnOk, length};
+ghost use Rattle.std.specs.Io.KnownBytes.{Appends, Consumes, IsAtEnd};
+ghost use Rattle.sml_text.specs.Written.{Wrote};
+ghost use Rattle.smi_journal.specs.JournalText.{journal_text};
+ghost use Rattle.smi_core.specs.Feeds.{Outputs, lines_of};
+ghost use Rattle.smi_core.specs.Output.{LineWrites};
 
 use crate::fault::Fault;
-use crate::text::load_text;
-use smi_core::{Core, run_schedule};
-use sml_check::check;
-use sml_checkable::laws::laws_of_read_files;
-use sml_domain::domain::Domain;
+use crate::loading::load_domain;
+use smi_core::{Core, Input, run_schedule};
+use smi_journal::journal_text::write_journal;
+use sml_text::writing::Sink;
 use std::alloc::Global;
 use std::fs;
 use std::fs::Files;
 use std::io::{BufWriter, Read, Write};
-use std::sync::Arc;
 
 /// What `step` is asked to do. The texts are words of a command line.
 #[derive(Drop)]
@@ -23,10 +27,13 @@ pub struct StepOptions<'a> {
     pub capacity: usize,
     /// How many actions are started at most, 1 to 1,000,000.
     pub max_starts: usize,
+    /// The path that the journal is written to, if it is.
+    pub journal: Option<&'a str>,
 }
 
-/// Runs the schedule on the domain. The domain is read and checked before the schedule is opened,
-/// and the schedule is read as it runs, so at a fault a front of the output is written.
+/// Runs the schedule on the domain, and then writes the journal where that is asked for. The domain is read
+/// and checked before the schedule is opened, and the schedule is read as it runs, so at a fault a prefix of
+/// the output is written. The file of the journal is made, or emptied, when all the output is written.
 pub fn run_step<'a, R: Files + AllocGlobal, W: Write>(
     rt: &R,
     options: &StepOptions<'a>,
@@ -36,30 +43,12 @@ pub fn run_step<'a, R: Files + AllocGlobal, W: Write>(
         Ok(core) => core,
         Err(fault) => return Err(fault),
     };
-    match fs::open(rt, options.schedule) {
-        Ok(mut reader) => run_steps(rt.alloc(), &mut core, options.schedule, &mut reader, output),
-        Err(error) => Err(Fault::of_input(options.schedule, &error)),
+    if let Err(fault) = run_file(rt, &mut core, options.schedule, output) {
+        return Err(fault);
     }
-}
-
-// Runs the steps of a schedule that was opened.
-fn run_steps<'a, I: Read, W: Write>(
-    heap: Global,
-    core: &mut Core,
-    schedule: &'a str,
-    reader: &mut I,
-    output: &mut W,
-) -> Result<(), Fault<'a>> {
-    let Ok(mut writer) = BufWriter::new(heap, &mut *output) else {
-        return Err(Fault::Memory);
-    };
-    let ran = run_schedule(heap, core, reader, &mut writer);
-    // After a fault too: what was done before it is told.
-    let flushed = writer.flush();
-    match (ran, flushed) {
-        (Err(fault), _) => Err(Fault::of_schedule(schedule, fault)),
-        (Ok(()), Err(_)) => Err(Fault::Output),
-        (Ok(()), Ok(())) => Ok(()),
+    match options.journal {
+        Some(path) => keep_journal(rt, &core, path),
+        None => Ok(()),
     }
 }
 
@@ -74,38 +63,91 @@ fn load_core<'a, R: Files + AllocGlobal>(
     };
     match Core::new(rt.alloc(), domain, options.capacity, options.max_starts) {
         Ok(core) => Ok(core),
-        Err(error) => Err(Fault::of_core(options.file, error)),
+        Err(error) => Err(Fault::of_core(error)),
     }
 }
 
-// The domain of a file.
-fn load_domain<'a, R: Files + AllocGlobal>(
+// Runs the schedule of a file.
+fn run_file<'a, R: Files + AllocGlobal, W: Write>(
     rt: &R,
-    file: &'a str,
-) -> Result<Arc<Domain>, Fault<'a>> {
-    match load_text(rt, file) {
-        Ok(text) => domain_of(rt.alloc(), file, text.as_slice()),
-        Err(error) => Err(Fault::of_input(file, &error)),
+    core: &mut Core,
+    schedule: &'a str,
+    output: &mut W,
+) -> Result<(), Fault<'a>> {
+    match fs::open(rt, schedule) {
+        Ok(mut reader) => run_all(rt.alloc(), core, schedule, &mut reader, output),
+        Err(error) => Err(Fault::of_input(schedule, &error)),
     }
 }
 
-// The domain of the text of a file.
-fn domain_of<'a>(heap: Global, file: &'a str, text: &[u8]) -> Result<Arc<Domain>, Fault<'a>> {
-    // What was read has the strings of a text.
-    laws_of_read_files();
-    let tree = match sml_read::read(heap, text) {
-        Ok(tree) => tree,
-        Err(error) => return Err(Fault::of_text(file, error)),
+// Runs a schedule that was opened, and writes all of what it writes.
+fn run_all<'a, I: Read, W: Write>(
+    heap: Global,
+    core: &mut Core,
+    schedule: &'a str,
+    reader: &mut I,
+    output: &mut W,
+) -> Result<(), Fault<'a>> {
+    let Ok(mut writer) = BufWriter::new(heap, &mut *output) else {
+        return Err(Fault::Memory);
     };
-    match check(heap, &tree) {
-        Ok(domain) => shared(heap, domain),
-        Err(error) => Err(Fault::of_file(file, error)),
+    let ran = run_steps(heap, core, schedule, reader, &mut writer);
+    // After a fault too: what was done before it is told.
+    let flushed = writer.flush();
+    match (ran, flushed) {
+        (Err(fault), _) => Err(fault),
+        (Ok(()), Err(_)) => Err(Fault::Output),
+        (Ok(()), Ok(())) => Ok(()),
     }
 }
 
-fn shared(heap: Global, domain: Domain) -> Result<Arc<Domain>, Fault<'static>> {
-    match Arc::new(heap, domain) {
-        Ok(domain) => Ok(domain),
-        Err(_) => Err(Fault::Memory),
+// Runs the steps of a schedule.
+fn run_steps<'a, I: Input, W: Sink>(
+    heap: Global,
+    core: &mut Core,
+    schedule: &'a str,
+    reader: &mut I,
+    writer: &mut W,
+) -> Result<(), Fault<'a>>
+    ensures { OnOk result ((text : List ℕ) × Consumes (I.remaining reader.old) (I.remaining reader.new) text
+        × IsAtEnd (I.remaining reader.new) × (length text ≤ 16777216)
+        × ((out : List ℕ) × Appends (W.contents writer.old) (W.contents writer.new) out
+        × Outputs LineWrites core.old (lines_of text) out core.new)) }
+{
+    match run_schedule(heap, core, reader, writer) {
+        Ok(()) => Ok(()),
+        Err(fault) => Err(Fault::of_schedule(schedule, fault)),
+    }
+}
+
+// Writes the journal to a file, in place of what that holds.
+fn keep_journal<R: Files + AllocGlobal>(
+    rt: &R,
+    core: &Core,
+    path: &str,
+) -> Result<(), Fault<'static>> {
+    let Ok(mut file) = fs::create(rt, path) else {
+        return Err(Fault::Output);
+    };
+    let Ok(mut writer) = BufWriter::new(rt.alloc(), &mut file) else {
+        return Err(Fault::Memory);
+    };
+    if let Err(fault) = tell_journal(core, &mut writer) {
+        return Err(fault);
+    }
+    match writer.flush() {
+        Ok(()) => Ok(()),
+        Err(_) => Err(Fault::Output),
+    }
+}
+
+// Writes the text of the journal.
+fn tell_journal<W: Sink>(core: &Core, writer: &mut W) -> Result<(), Fault<'static>>
+    ensures { OnOk result (Wrote (W.contents writer.old) (W.contents writer.new)
+        (journal_text core.now.setup.domain core.now.world.journal)) }
+{
+    match write_journal(core.domain(), core.journal(), writer) {
+        Ok(()) => Ok(()),
+        Err(_) => Err(Fault::Output),
     }
 }

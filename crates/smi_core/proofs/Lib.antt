@@ -1,19 +1,7 @@
-pub mod Lists
-pub mod Ranges
-pub mod Snoc
-pub mod Keeps
-pub mod Steps
-pub mod Ranks
-pub mod Reached
-pub mod Moves
-pub mod One
-pub mod Told
-pub mod Limits
-pub mod Fed
-pub mod Io
-pub mod JoinedLines
-pub mod OneOutput
-pub mod Parts
-pub mod Tolds
-pub mod Executed
-pub mod Rests
+mod Fed
+mod Io
+mod JoinedLines
+mod OneOutput
+mod Parts
+mod Tolds
+mod Extended

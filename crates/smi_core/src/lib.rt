@@ -1,31 +1,16 @@
-//! The machine over steps: requests, starts and moves of a domain's objects, with their journal.
+//! The machine over steps: one step, a list of them, and schedules, which are steps as text. What a step
+//! and its answer consist of, and the core itself, are re-exported from the crates that define them.
 #![tactic(auto)]
 
-mod answer_text;
-mod entry;
-mod entry_text;
-mod error;
-mod forms;
-mod instr;
-mod journal;
-mod kept;
-pub mod laws;
-mod line;
-mod machine;
 mod runs;
 mod schedule;
 mod schedule_laws;
-mod session;
-mod step;
-mod walk;
 
-pub use entry::{ActionEnd, Args, Entry, Move, Request, Sender, Value, Verdict};
-pub use error::{CoreError, StepError};
-pub use journal::Journal;
-pub use line::{LineError, read_step};
-pub use machine::Core;
 pub use runs::run;
 pub use schedule::{Input, ScheduleFault, run_schedule};
 pub use schedule_laws::every_schedule;
-pub use session::SessionId;
-pub use step::{Answer, Step};
+pub use smi_entry::session::SessionId;
+pub use smi_lines::line::{LineError, read_step};
+pub use smi_machine::stepper::{Core, CoreError};
+pub use smi_world::refusal::StepError;
+pub use smi_world::step::{Answer, Arguments, Step};

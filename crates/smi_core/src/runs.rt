@@ -1,22 +1,23 @@
 //! A list of steps from the opening world.
-
 ghost use Rattle.std.specs.Prelude.{◌≡◌, ◌↔◌, IfOk, Ok, Err};
 ghost use Rattle.std.specs.Arc.{arc_value};
-ghost use Rattle.smi_core.specs.Legal.{IsLegal};
-ghost use Rattle.smi_core.specs.World.{FrontOk, IsRun};
-ghost use Rattle.smi_core.specs.Laws.{Reaches};
+ghost use Rattle.smi_meaning.specs.Legal.{IsLegal};
+ghost use Rattle.smi_world.specs.World.{FrontOk};
+ghost use Rattle.smi_world.specs.Runs.{Reaches};
+ghost use Rattle.smi_machine.specs.Machines.{AreLimits};
 
-use crate::error::{CoreError, StepError};
-use crate::machine::Core;
-use crate::step::{Answer, Step};
+use smi_machine::stepper::{Core, CoreError};
+use smi_world::laws::every_run;
+use smi_world::refusal::StepError;
+use smi_world::step::{Answer, Step};
 use sml_domain::domain::Domain;
 use std::alloc::Global;
 use std::sync::Arc;
 
 /// Makes steps in order on a new core, and gives the core with their answers.
 ///
-/// Want of memory of a step is one of the answers; that of the core or of the list is the error.
-/// For the numbers see [`Core::new`], for the cost of a step [`Core::step`].
+/// Where a step is out of memory, that is one of the answers; the error is for the core or the list. For
+/// the numbers see [`Core::new`], for the cost of a step [`Core::step`].
 pub fn run(
     alloc: Global,
     domain: Arc<Domain>,
@@ -24,7 +25,7 @@ pub fn run(
     max_starts: usize,
     steps: &[Step],
 ) -> Result<(Core, Vec<Result<Answer, StepError>>), CoreError>
-    ensures bad_config { (result ≡ Err CoreError.BadConfig) ↔ ¬ IsRun (arc_value domain) capacity max_starts }
+    ensures bad_config { (result ≡ Err CoreError.BadConfig) ↔ ¬ AreLimits capacity max_starts }
     ensures setup { IfOk result (λ made. made.0.setup ≡ record {
       domain = arc_value domain;
       capacity = capacity;
@@ -34,6 +35,8 @@ pub fn run(
     ensures legal { IfOk result (λ made. IsLegal made.0.setup.domain made.0.world.journal) }
     ensures front { IfOk result (λ made. FrontOk made.0.world) }
 {
+    every_run();
+    let _sound = domain.objects();
     let mut core = Core::new(alloc, domain, capacity, max_starts)?;
     let mut answers = Vec::new(alloc);
     for step in steps {

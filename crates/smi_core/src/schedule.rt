@@ -2,18 +2,22 @@
 ghost use Rattle.std.specs.Prelude.{◌≡◌, ℕ, List, [], ◌++◌, ◌∷◌, ◌<◌, ◌≤◌, ◌⊎◌, length, take, drop, Option, IfSome, IfNone, OnOk, OnErr, Ok, Err, Some, codes};
 ghost use Rattle.std.specs.Io.KnownBytes.{Appends, Consumes, IsAtEnd, Keeps};
 ghost use Rattle.sml_text.specs.Written.{Told, StaysDue};
+ghost use Rattle.smi_lines.specs.Answers.{refused_text};
+ghost use Rattle.smi_lines.specs.Line.{LineReads};
 ghost use Rattle.smi_core.specs.Feeds.{Outputs, IsPending, Torn, Went, Halted, FirstLines, WholeLines, lines_of};
-ghost use Rattle.smi_core.specs.Line.{LineReads};
-ghost use Rattle.smi_core.specs.Output.{Writes, LineWrites, refused_text};
+ghost use Rattle.smi_core.specs.Output.{Writes, LineWrites};
+ghost use Rattle.smi_core.specs.FaultText.{schedule_fault_text};
 
-use crate::answer_text::{tell_answer, tell_refused};
-use crate::entry::Entry;
-use crate::error::StepError;
-use crate::line::{LONGEST_LINE, LineError, read_step};
-use crate::machine::Core;
-use crate::step::Step;
+use smi_entry::entry::Entry;
+use smi_lines::answer::{tell_answer, tell_refused};
+use smi_lines::line::{LONGEST_LINE, LineError, read_step};
+use smi_machine::stepper::Core;
+use smi_world::refusal::StepError;
+use smi_world::step::Step;
 use sml_text::writing::Sink;
 use std::alloc::{AllocError, Global};
+use std::error::Error;
+use std::fmt;
 use std::io::{Read, Write};
 
 /// Why a schedule was not run to its end.
@@ -25,9 +29,24 @@ pub enum ScheduleFault {
     Write,
     /// The text has more than 16,777,216 bytes.
     TooLong,
-    /// Want of memory.
+    /// Out of memory.
     Memory,
 }
+
+impl fmt::Display for ScheduleFault {
+    ghost output = { λ e. Some (schedule_fault_text e) };
+
+    fn fmt<W: fmt::Write>(&self, f: &mut fmt::Formatter<W>) -> fmt::Result {
+        f.write_str(match *self {
+            ScheduleFault::Read => "the schedule can't be read",
+            ScheduleFault::Write => "the output can't be written",
+            ScheduleFault::TooLong => "the schedule has more than 16777216 bytes",
+            ScheduleFault::Memory => "out of memory",
+        })
+    }
+}
+
+impl Error for ScheduleFault {}
 
 // Why a line was not ended.
 enum LineFault {
@@ -75,13 +94,13 @@ impl Pending {
     }
 
     // What the line asks.
-    fn read(&self) -> Result<Option<Step>, LineError>
+    fn read(&self, alloc: Global) -> Result<Option<Step>, LineError>
         ensures { (line : List ℕ) → IsPending self.now.kept.items self.now.over line → LineReads line result }
     {
         if self.over {
             Err(LineError::BadLine)
         } else {
-            read_step(&self.kept)
+            read_step(alloc, &self.kept)
         }
     }
 
@@ -105,7 +124,7 @@ fn behind(entries: &[Entry], first: usize) -> &[Entry]
     }
 }
 
-// Makes a step and writes its lines. Want of memory changes nothing and writes nothing.
+// Makes a step and writes its lines. One that is out of memory changes nothing and writes nothing.
 fn make_step<W: Sink>(
     core: &mut Core,
     writer: &mut W,
@@ -121,7 +140,7 @@ fn make_step<W: Sink>(
     if let Err(StepError::Memory) = answer {
         return Err(AllocError);
     }
-    let added = behind(core.journal().entries(), first);
+    let added = behind(core.journal(), first);
     tell_answer(writer, failed, core.domain(), step, &answer, added);
     Ok(())
 }
@@ -180,6 +199,7 @@ fn make_line<W: Sink>(
 
 // Ends the line: does what it asks, writes what it writes, and begins the next line.
 fn end_line<W: Sink>(
+    alloc: Global,
     core: &mut Core,
     writer: &mut W,
     pending: &mut Pending,
@@ -190,7 +210,7 @@ fn end_line<W: Sink>(
         (Torn LineWrites core.old line (result ≡ Err LineFault.Write) (W.contents writer.old) (W.contents writer.new) core.new) }
     ensures write { result ≡ Err LineFault.Write → W.has_refused writer.new }
 {
-    let asked = pending.read();
+    let asked = pending.read(alloc);
     if let Err(fault) = make_line(core, writer, asked) {
         return Err(fault);
     }
@@ -199,6 +219,7 @@ fn end_line<W: Sink>(
 }
 
 fn feed_byte<W: Sink>(
+    alloc: Global,
     core: &mut Core,
     writer: &mut W,
     pending: &mut Pending,
@@ -211,7 +232,7 @@ fn feed_byte<W: Sink>(
     ensures write { result ≡ Err LineFault.Write → W.has_refused writer.new }
 {
     if b == b'\n' {
-        return end_line(core, writer, pending);
+        return end_line(alloc, core, writer, pending);
     }
     let Ok(()) = pending.add(b) else {
         return Err(LineFault::Memory);
@@ -220,6 +241,7 @@ fn feed_byte<W: Sink>(
 }
 
 fn feed_chunk<W: Sink>(
+    alloc: Global,
     core: &mut Core,
     writer: &mut W,
     pending: &mut Pending,
@@ -232,7 +254,7 @@ fn feed_chunk<W: Sink>(
     ensures write { result ≡ Err LineFault.Write → W.has_refused writer.new }
 {
     for b in chunk {
-        if let Err(fault) = feed_byte(core, writer, pending, *b) {
+        if let Err(fault) = feed_byte(alloc, core, writer, pending, *b) {
             return Err(fault);
         }
     }
@@ -313,11 +335,11 @@ pub fn run_schedule<R: Input, W: Sink>(
             return Err(ScheduleFault::TooLong);
         }
         total += n;
-        if let Err(fault) = feed_chunk(core, writer, &mut pending, &buf[..n]) {
+        if let Err(fault) = feed_chunk(alloc, core, writer, &mut pending, &buf[..n]) {
             return Err(fault.of_schedule());
         }
     }
-    match end_line(core, writer, &mut pending) {
+    match end_line(alloc, core, writer, &mut pending) {
         Ok(()) => Ok(()),
         Err(fault) => Err(fault.of_schedule()),
     }

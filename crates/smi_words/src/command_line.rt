@@ -1,13 +1,20 @@
 //! The command line.
 
 use crate::help;
+use crate::help::audit::{AUDIT, AUDIT_MORE, EXPLAIN, JOURNAL};
+use crate::help::check::{CHECK, CHECK_MORE, FILES};
+use crate::help::print::{PRINT, PRINT_MORE};
+use crate::help::step::{CAPACITY, KEPT_JOURNAL, MAX_STARTS, SCHEDULE, STEP, STEP_MORE};
 use clap::error::ErrorKind;
-use clap::{Arg, ArgMatches, Command, Error, value_parser};
-use smi_commands::{Asked, StepOptions};
+use clap::{Arg, ArgAction, ArgMatches, Command, Error, value_parser};
+use smi_commands::{Asked, AuditOptions, StepOptions};
 use std::alloc::{AllocError, Global};
 
-/// Reads the words of a command line, the program's name first. A request for help is an `Err` too,
-/// and the error tells the two apart.
+// The version of the program, which `--version` gives.
+const VERSION: &str = "0.1.0";
+
+/// Reads the words of a command line, the program's name first. A request for help or for the version is an
+/// `Err` too, and the error tells which it is.
 pub fn parse<'a>(alloc: Global, words: &'a [String]) -> Result<Asked<'a>, Error> {
     let mut command = smirun_command(alloc)?;
     read_words(alloc, &mut command, words)
@@ -35,6 +42,9 @@ fn asked_of<'a>(alloc: Global, matches: &ArgMatches<'a>) -> Result<Option<Asked<
     if let Some(step) = matches.subcommand_matches("step") {
         return Ok(step_options(step).map(Asked::Step));
     }
+    if let Some(audit) = matches.subcommand_matches("audit") {
+        return Ok(audit_options(audit).map(Asked::Audit));
+    }
     match matches.subcommand_matches("print") {
         Some(print) => Ok(print.get_str("FILE").map(Asked::Print)),
         None => Ok(None),
@@ -47,17 +57,28 @@ fn step_options<'a>(step: &ArgMatches<'a>) -> Option<StepOptions<'a>> {
         schedule: step.get_str("SCHEDULE")?,
         capacity: step.get_one::<usize>("capacity")?,
         max_starts: step.get_one::<usize>("max-starts")?,
+        journal: step.get_str("journal"),
+    })
+}
+
+fn audit_options<'a>(audit: &ArgMatches<'a>) -> Option<AuditOptions<'a>> {
+    Some(AuditOptions {
+        file: audit.get_str("FILE")?,
+        journal: audit.get_str("JOURNAL")?,
+        explain: audit.get_flag("explain"),
     })
 }
 
 fn smirun_command<'a>(alloc: Global) -> Result<Command<'a>, AllocError> {
     let command = Command::new(alloc, "smirun")
+        .version(VERSION)
         .about(help::ABOUT)
         .after_help(help::STATUSES)
         .subcommand_required(true);
     let command = with_subcommand(command, check_command(alloc))?;
     let command = with_subcommand(command, print_command(alloc))?;
-    with_subcommand(command, step_command(alloc))
+    let command = with_subcommand(command, step_command(alloc))?;
+    with_subcommand(command, audit_command(alloc))
 }
 
 // Adds a command that was made.
@@ -70,26 +91,36 @@ fn with_subcommand<'a>(
 
 fn check_command<'a>(alloc: Global) -> Result<Command<'a>, AllocError> {
     Command::new(alloc, "check")
-        .about(help::CHECK)
-        .after_help(help::CHECK_MORE)
-        .arg(file(alloc).num_args(1..).help(help::FILES))
+        .about(CHECK)
+        .after_help(CHECK_MORE)
+        .arg(file(alloc).num_args(1..).help(FILES))
 }
 
 fn print_command<'a>(alloc: Global) -> Result<Command<'a>, AllocError> {
     Command::new(alloc, "print")
-        .about(help::PRINT)
-        .after_help(help::PRINT_MORE)
+        .about(PRINT)
+        .after_help(PRINT_MORE)
         .arg(file(alloc))
 }
 
 fn step_command<'a>(alloc: Global) -> Result<Command<'a>, AllocError> {
     Command::new(alloc, "step")
-        .about(help::STEP)
-        .after_help(help::STEP_MORE)
+        .about(STEP)
+        .after_help(STEP_MORE)
         .arg(file(alloc))?
         .arg(schedule(alloc))?
         .arg(capacity(alloc))?
-        .arg(max_starts(alloc))
+        .arg(max_starts(alloc))?
+        .arg(kept_journal(alloc))
+}
+
+fn audit_command<'a>(alloc: Global) -> Result<Command<'a>, AllocError> {
+    Command::new(alloc, "audit")
+        .about(AUDIT)
+        .after_help(AUDIT_MORE)
+        .arg(file(alloc))?
+        .arg(journal(alloc))?
+        .arg(explain(alloc))
 }
 
 fn file<'a>(alloc: Global) -> Arg<'a> {
@@ -97,9 +128,25 @@ fn file<'a>(alloc: Global) -> Arg<'a> {
 }
 
 fn schedule<'a>(alloc: Global) -> Arg<'a> {
-    Arg::new(alloc, "SCHEDULE")
-        .required(true)
-        .help(help::SCHEDULE)
+    Arg::new(alloc, "SCHEDULE").required(true).help(SCHEDULE)
+}
+
+fn journal<'a>(alloc: Global) -> Arg<'a> {
+    Arg::new(alloc, "JOURNAL").required(true).help(JOURNAL)
+}
+
+fn explain<'a>(alloc: Global) -> Arg<'a> {
+    Arg::new(alloc, "explain")
+        .long("explain")
+        .action(ArgAction::SetTrue)
+        .help(EXPLAIN)
+}
+
+fn kept_journal<'a>(alloc: Global) -> Arg<'a> {
+    Arg::new(alloc, "journal")
+        .long("journal")
+        .value_name("PATH")
+        .help(KEPT_JOURNAL)
 }
 
 fn capacity<'a>(alloc: Global) -> Arg<'a> {
@@ -108,7 +155,7 @@ fn capacity<'a>(alloc: Global) -> Arg<'a> {
         .value_name("C")
         .value_parser(value_parser!(usize).range(1..=1024))
         .default_value("16")
-        .help(help::CAPACITY)
+        .help(CAPACITY)
 }
 
 fn max_starts<'a>(alloc: Global) -> Arg<'a> {
@@ -117,5 +164,5 @@ fn max_starts<'a>(alloc: Global) -> Arg<'a> {
         .value_name("M")
         .value_parser(value_parser!(usize).range(1..=1_000_000))
         .default_value("1000000")
-        .help(help::MAX_STARTS)
+        .help(MAX_STARTS)
 }

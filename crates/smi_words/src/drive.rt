@@ -10,8 +10,8 @@ use std::io::Write;
 
 /// Does what the words ask for, and gives the exit status.
 ///
-/// The first word is the program's name. What a command gives, and help that was asked for, goes to
-/// `output`; a fault line (docs/FORMATS.md, "Fault lines and exit statuses") and what is said of a
+/// The first word is the program's name. What a command gives, and help or the version where they are asked
+/// for, goes to `output`; a fault line (docs/FORMATS.md, "Fault lines and exit statuses") and what is said of a
 /// wrong command line go to `errors`. A fault of `errors` changes nothing, since there is no place
 /// left to tell it.
 pub fn drive<R: Files + AllocGlobal, W: Write, E: Write>(
@@ -20,7 +20,7 @@ pub fn drive<R: Files + AllocGlobal, W: Write, E: Write>(
     output: &mut W,
     errors: &mut E,
 ) -> u8
-    ensures { result ≤ 3 }
+    ensures { result ≤ 4 }
 {
     match parse(rt.alloc(), words) {
         Ok(asked) => perform(rt, &asked, output, errors),
@@ -28,7 +28,7 @@ pub fn drive<R: Files + AllocGlobal, W: Write, E: Write>(
     }
 }
 
-// Shows what the parser of command lines has to say: help, or what is wrong with the words.
+// Shows what the parser of command lines has to say: help, the version, or what is wrong with the words.
 fn answer<W: Write, E: Write>(error: &clap::Error, output: &mut W, errors: &mut E) -> u8
     ensures memory { kind_of error.now ≡ ErrorKind.OutOfMemory → result ≡ 3 }
     ensures mistake { kind_of error.now ≢ ErrorKind.OutOfMemory → kind_of error.now ≢ ErrorKind.DisplayHelp

@@ -1,8 +1,8 @@
 use Rattle.std.proofs.Common.{◌≡◌, ◌∙◌, ap, Ok, Err, sym, subst, List, ℕ, [], ◌++◌, Result, Option}
 use Rattle.std.specs.Prelude.{◌⊎◌, OnErr}
 use Rattle.std.specs.Io.KnownBytes.{Appends}
-use Rattle.smi_core.specs.declared.step.Step.{Step}
-use Rattle.smi_core.specs.declared.line.LineError.{LineError}
+use Rattle.smi_world.specs.declared.step.Step.{Step}
+use Rattle.smi_lines.specs.declared.line.LineError.{LineError}
 use Rattle.smi_core.specs.declared.schedule.LineFault.TheVariants.{Write}
 use Rattle.smi_core.specs.Output.{Writes}
 use Rattle.smi_core.proofs.schedule.make_line.Goals as goal

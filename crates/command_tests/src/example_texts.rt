@@ -1,0 +1,599 @@
+//! The texts of the folder examples/, which tests can't read: who changes one there changes it here too.
+
+/// A boss asks a lamp to light up. (Its domain is `FIRST`.)
+pub const FIRST_SCHEDULE: &str = "\
+! The steps of first.sml. What is written: accept @1 B 0 GO, start B @1 0 GO, post B L 0 LIGHT, end B DONE,
+! start L B 0 LIGHT, end L ON, refused Empty.
+request @1 B GO
+start B
+go B
+go B
+start L
+go L
+start L
+";
+
+/// What the boss and the lamp write.
+pub const FIRST_OUTPUT: &str = "\
+accept @1 B 0 GO
+start B @1 0 GO
+post B L 0 LIGHT
+end B DONE
+start L B 0 LIGHT
+end L ON
+refused Empty
+";
+
+/// A detector with two subsystems and ten devices.
+pub const DETECTOR: &str = "\
+! A detector in small: DETECTOR commands two subsystems, and each of these its own cooler, high voltage
+! supplies and readout crates. A class marked /associated is equipment, whose devices do its actions.
+
+class: COOLER /associated
+  state: WARM /initial_state
+    action: COOL (int DEGREES)
+  state: COLD
+    action: COOL (int DEGREES)
+    action: WARM_UP
+
+class: SUPPLY /associated
+  state: OFF /initial_state
+    action: SWITCH_ON (int VOLTS)
+  state: ON
+    action: SWITCH_OFF
+  state: TRIPPED
+    action: SWITCH_OFF
+
+class: CRATE /associated
+  state: EMPTY /initial_state
+    action: LOAD (string SETTINGS = \"default\")
+  state: LOADED
+    action: LOAD (string SETTINGS = \"default\")
+
+! The tracker gets no high voltage before it is cold.
+class: TRACKER_TYPE
+  parameters: int VOLTAGE = 300
+  state: OFF /initial_state
+    action: TUNE (int TO)
+      set VOLTAGE = TO
+    action: SWITCH_ON (string MODE)
+      do COOL (DEGREES = -10) TRACKER_COOLER
+      do LOAD (SETTINGS = MODE) all_in TRACKER_CRATES
+      if ( TRACKER_COOLER not_in_state COLD ) then
+        terminate_action /state=ERROR
+      endif
+      do SWITCH_ON (VOLTS = VOLTAGE) all_in TRACKER_SUPPLIES
+      if ( all_in TRACKER_SUPPLIES in_state ON and all_in TRACKER_CRATES in_state LOADED ) then
+        move_to READY
+      endif
+      do SWITCH_OFF all_in TRACKER_SUPPLIES
+      move_to ERROR
+  state: READY
+    action: SWITCH_OFF
+      do SWITCH_OFF all_in TRACKER_SUPPLIES
+      if ( any_in TRACKER_SUPPLIES not_in_state OFF ) then
+        move_to ERROR
+      endif
+      move_to OFF
+  state: ERROR
+    action: SWITCH_OFF
+      do SWITCH_OFF all_in TRACKER_SUPPLIES
+      if ( any_in TRACKER_SUPPLIES not_in_state OFF ) then
+        move_to ERROR
+      endif
+      move_to OFF
+
+class: CALORIMETER_TYPE
+  parameters: int VOLTAGE = 1500, string LOADED_FOR = \"nothing\"
+  state: OFF /initial_state
+    action: SWITCH_ON (string MODE)
+      do COOL (DEGREES = 18) CALORIMETER_COOLER
+      do SWITCH_ON (VOLTS = VOLTAGE) all_in CALORIMETER_SUPPLIES
+      ! The crate has the same settings in every mode.
+      do LOAD CALORIMETER_CRATE
+      set LOADED_FOR = MODE
+      if ( not ( all_in CALORIMETER_SUPPLIES in_state ON and CALORIMETER_CRATE in_state LOADED )
+          or CALORIMETER_COOLER in_state { WARM, DEAD } ) then
+        do SWITCH_OFF all_in CALORIMETER_SUPPLIES
+        move_to ERROR
+      else
+        move_to READY
+      endif
+  state: READY
+    action: SWITCH_OFF
+      do SWITCH_OFF all_in CALORIMETER_SUPPLIES
+      if ( all_in CALORIMETER_SUPPLIES in_state OFF ) then
+        move_to OFF
+      endif
+      move_to ERROR
+  state: ERROR
+    action: SWITCH_OFF
+      do SWITCH_OFF all_in CALORIMETER_SUPPLIES
+      if ( all_in CALORIMETER_SUPPLIES in_state OFF ) then
+        move_to OFF
+      endif
+      move_to ERROR
+
+class: DETECTOR_TYPE
+  parameters: string MODE = \"none\"
+  state: OFF /initial_state
+    action: SWITCH_ON (string PURPOSE = \"physics\")
+      set MODE = PURPOSE
+      do SWITCH_ON (MODE = MODE) all_in SUBSYSTEMS
+      if ( all_in SUBSYSTEMS in_state READY ) then
+        move_to READY
+      endif
+      if ( any_in SUBSYSTEMS in_state ERROR ) then
+        ! The error path: what did come up is switched off again.
+        set MODE = \"none\"
+        do SWITCH_OFF all_in SUBSYSTEMS
+        if ( any_in SUBSYSTEMS in_state { READY, ERROR } ) then
+          terminate_action /state=ERROR
+        endif
+        terminate_action /state=OFF
+      endif
+      move_to PARTIAL
+  state: READY
+    action: SWITCH_OFF
+      do SWITCH_OFF all_in SUBSYSTEMS
+      if ( any_in SUBSYSTEMS in_state { READY, ERROR } ) then
+        move_to ERROR
+      endif
+      move_to OFF
+  state: PARTIAL
+    action: SWITCH_OFF
+      do SWITCH_OFF all_in SUBSYSTEMS
+      if ( any_in SUBSYSTEMS in_state { READY, ERROR } ) then
+        move_to ERROR
+      endif
+      move_to OFF
+  state: ERROR
+
+object: TRACKER_COOLER is_of_class COOLER
+object: TRACKER_HV1 is_of_class SUPPLY
+object: TRACKER_HV2 is_of_class SUPPLY
+object: TRACKER_HV3 is_of_class SUPPLY
+object: TRACKER_CRATE1 is_of_class CRATE
+object: TRACKER_CRATE2 is_of_class CRATE
+object: CALORIMETER_COOLER is_of_class COOLER
+object: CALORIMETER_HV1 is_of_class SUPPLY
+object: CALORIMETER_HV2 is_of_class SUPPLY
+object: CALORIMETER_CRATE is_of_class CRATE
+object: TRACKER is_of_class TRACKER_TYPE
+object: CALORIMETER is_of_class CALORIMETER_TYPE
+object: DETECTOR is_of_class DETECTOR_TYPE
+
+objectset: TRACKER_SUPPLIES { TRACKER_HV1, TRACKER_HV2, TRACKER_HV3 }
+objectset: TRACKER_CRATES { TRACKER_CRATE1, TRACKER_CRATE2 }
+objectset: CALORIMETER_SUPPLIES { CALORIMETER_HV1, CALORIMETER_HV2 }
+objectset: SUBSYSTEMS { TRACKER, CALORIMETER }
+";
+
+/// The detector is switched on.
+pub const SWITCH_ON: &str = "\
+! Two operators: @2 tunes the tracker, and @1 switches the detector on for physics. @2 asks for it too, too late.
+request @2 TRACKER TUNE (TO = 280)
+start TRACKER
+go TRACKER
+go TRACKER
+request @1 DETECTOR SWITCH_ON
+request @2 DETECTOR SWITCH_ON (PURPOSE = \"cosmics\")
+start DETECTOR
+go DETECTOR
+go DETECTOR
+go DETECTOR
+
+! The tracker: its cooler and crates first, and the high voltage once it is cold.
+start TRACKER
+go TRACKER
+go TRACKER
+go TRACKER
+start TRACKER_CRATE1
+start TRACKER_CRATE2
+start TRACKER_COOLER
+answer TRACKER_CRATE2 LOADED
+go TRACKER
+answer TRACKER_COOLER COLD
+go TRACKER
+go TRACKER
+go TRACKER
+start TRACKER_HV1
+start TRACKER_HV2
+start TRACKER_HV3
+answer TRACKER_HV3 ON
+answer TRACKER_HV1 ON
+answer TRACKER_HV2 ON
+go TRACKER
+answer TRACKER_CRATE1 LOADED
+go TRACKER
+go TRACKER
+go DETECTOR
+
+! The calorimeter, whose voltage is another.
+start CALORIMETER
+go CALORIMETER
+go CALORIMETER
+go CALORIMETER
+go CALORIMETER
+start CALORIMETER_COOLER
+start CALORIMETER_HV1
+start CALORIMETER_HV2
+start CALORIMETER_CRATE
+answer CALORIMETER_COOLER COLD
+answer CALORIMETER_HV1 ON
+answer CALORIMETER_HV2 ON
+answer CALORIMETER_CRATE LOADED
+go CALORIMETER
+go CALORIMETER
+
+! Both are ready, and so is the detector.
+go DETECTOR
+go DETECTOR
+start DETECTOR
+";
+
+/// What switching it on writes.
+pub const SWITCH_ON_OUTPUT: &str = "\
+accept @2 TRACKER 0 TUNE (TO = 280)
+start TRACKER @2 0 TUNE (TO = 280)
+set TRACKER VOLTAGE=280
+end TRACKER OFF
+accept @1 DETECTOR 0 SWITCH_ON (PURPOSE = \"physics\")
+accept @2 DETECTOR 0 SWITCH_ON (PURPOSE = \"cosmics\")
+start DETECTOR @1 0 SWITCH_ON (PURPOSE = \"physics\")
+set DETECTOR MODE=\"physics\"
+post DETECTOR TRACKER 0 SWITCH_ON (MODE = \"physics\")
+post DETECTOR CALORIMETER 0 SWITCH_ON (MODE = \"physics\")
+wait DETECTOR
+start TRACKER DETECTOR 0 SWITCH_ON (MODE = \"physics\")
+post TRACKER TRACKER_COOLER 0 COOL (DEGREES = -10)
+post TRACKER TRACKER_CRATE1 0 LOAD (SETTINGS = \"physics\")
+post TRACKER TRACKER_CRATE2 0 LOAD (SETTINGS = \"physics\")
+wait TRACKER
+start TRACKER_CRATE1 TRACKER 0 LOAD (SETTINGS = \"physics\")
+start TRACKER_CRATE2 TRACKER 0 LOAD (SETTINGS = \"physics\")
+start TRACKER_COOLER TRACKER 0 COOL (DEGREES = -10)
+end TRACKER_CRATE2 LOADED
+still TRACKER
+end TRACKER_COOLER COLD
+seen TRACKER TRACKER_COOLER=COLD
+post TRACKER TRACKER_HV1 0 SWITCH_ON (VOLTS = 280)
+post TRACKER TRACKER_HV2 0 SWITCH_ON (VOLTS = 280)
+post TRACKER TRACKER_HV3 0 SWITCH_ON (VOLTS = 280)
+wait TRACKER
+start TRACKER_HV1 TRACKER 0 SWITCH_ON (VOLTS = 280)
+start TRACKER_HV2 TRACKER 0 SWITCH_ON (VOLTS = 280)
+start TRACKER_HV3 TRACKER 0 SWITCH_ON (VOLTS = 280)
+end TRACKER_HV3 ON
+end TRACKER_HV1 ON
+end TRACKER_HV2 ON
+still TRACKER
+end TRACKER_CRATE1 LOADED
+seen TRACKER TRACKER_HV1=ON TRACKER_HV2=ON TRACKER_HV3=ON TRACKER_CRATE1=LOADED TRACKER_CRATE2=LOADED
+end TRACKER READY
+still DETECTOR
+start CALORIMETER DETECTOR 0 SWITCH_ON (MODE = \"physics\")
+post CALORIMETER CALORIMETER_COOLER 0 COOL (DEGREES = 18)
+post CALORIMETER CALORIMETER_HV1 0 SWITCH_ON (VOLTS = 1500)
+post CALORIMETER CALORIMETER_HV2 0 SWITCH_ON (VOLTS = 1500)
+post CALORIMETER CALORIMETER_CRATE 0 LOAD (SETTINGS = \"default\")
+set CALORIMETER LOADED_FOR=\"physics\"
+start CALORIMETER_COOLER CALORIMETER 0 COOL (DEGREES = 18)
+start CALORIMETER_HV1 CALORIMETER 0 SWITCH_ON (VOLTS = 1500)
+start CALORIMETER_HV2 CALORIMETER 0 SWITCH_ON (VOLTS = 1500)
+start CALORIMETER_CRATE CALORIMETER 0 LOAD (SETTINGS = \"default\")
+end CALORIMETER_COOLER COLD
+end CALORIMETER_HV1 ON
+end CALORIMETER_HV2 ON
+end CALORIMETER_CRATE LOADED
+seen CALORIMETER CALORIMETER_HV1=ON CALORIMETER_HV2=ON CALORIMETER_CRATE=LOADED CALORIMETER_COOLER=COLD
+end CALORIMETER READY
+seen DETECTOR TRACKER=READY CALORIMETER=READY
+end DETECTOR READY
+start DETECTOR @2 0 SWITCH_ON (PURPOSE = \"cosmics\")
+end DETECTOR skipped
+";
+
+/// A device fails on the way.
+pub const DEVICE_FAULTS: &str = "\
+! While the detector is switched on, the device of the tracker's second supply fails, and its third supply trips.
+request @1 DETECTOR SWITCH_ON (PURPOSE = \"cosmics\")
+start DETECTOR
+go DETECTOR
+go DETECTOR
+start TRACKER
+go TRACKER
+go TRACKER
+start TRACKER_COOLER
+answer TRACKER_COOLER COLD
+go TRACKER
+go TRACKER
+start TRACKER_HV1
+answer TRACKER_HV1 ON
+start TRACKER_HV2
+fault TRACKER_HV2
+answer TRACKER_HV2 ON
+start TRACKER_HV3
+answer TRACKER_HV3 TRIPPED
+start TRACKER_CRATE1
+answer TRACKER_CRATE1 LOADED
+start TRACKER_CRATE2
+answer TRACKER_CRATE2 LOADED
+
+! The tracker sees both, switches off what is left of its supplies, and ends in ERROR.
+go TRACKER
+go TRACKER
+go TRACKER
+start TRACKER_HV1
+answer TRACKER_HV1 OFF
+start TRACKER_HV3
+answer TRACKER_HV3 OFF
+
+! The calorimeter comes up all the same.
+start CALORIMETER
+go CALORIMETER
+go CALORIMETER
+go CALORIMETER
+go CALORIMETER
+start CALORIMETER_COOLER
+answer CALORIMETER_COOLER COLD
+start CALORIMETER_HV1
+answer CALORIMETER_HV1 ON
+start CALORIMETER_HV2
+answer CALORIMETER_HV2 ON
+start CALORIMETER_CRATE
+answer CALORIMETER_CRATE LOADED
+go CALORIMETER
+go CALORIMETER
+
+! The detector takes its error path, and switches off both subsystems.
+go DETECTOR
+go DETECTOR
+go DETECTOR
+go DETECTOR
+start CALORIMETER
+go CALORIMETER
+start CALORIMETER_HV1
+answer CALORIMETER_HV1 OFF
+start CALORIMETER_HV2
+answer CALORIMETER_HV2 OFF
+go CALORIMETER
+go CALORIMETER
+start TRACKER
+go TRACKER
+start TRACKER_HV1
+start TRACKER_HV3
+go TRACKER
+go TRACKER
+go DETECTOR
+go DETECTOR
+";
+
+/// What is written where a device fails.
+pub const DEVICE_FAULTS_OUTPUT: &str = "\
+accept @1 DETECTOR 0 SWITCH_ON (PURPOSE = \"cosmics\")
+start DETECTOR @1 0 SWITCH_ON (PURPOSE = \"cosmics\")
+set DETECTOR MODE=\"cosmics\"
+post DETECTOR TRACKER 0 SWITCH_ON (MODE = \"cosmics\")
+post DETECTOR CALORIMETER 0 SWITCH_ON (MODE = \"cosmics\")
+start TRACKER DETECTOR 0 SWITCH_ON (MODE = \"cosmics\")
+post TRACKER TRACKER_COOLER 0 COOL (DEGREES = -10)
+post TRACKER TRACKER_CRATE1 0 LOAD (SETTINGS = \"cosmics\")
+post TRACKER TRACKER_CRATE2 0 LOAD (SETTINGS = \"cosmics\")
+start TRACKER_COOLER TRACKER 0 COOL (DEGREES = -10)
+end TRACKER_COOLER COLD
+seen TRACKER TRACKER_COOLER=COLD
+post TRACKER TRACKER_HV1 0 SWITCH_ON (VOLTS = 300)
+post TRACKER TRACKER_HV2 0 SWITCH_ON (VOLTS = 300)
+post TRACKER TRACKER_HV3 0 SWITCH_ON (VOLTS = 300)
+start TRACKER_HV1 TRACKER 0 SWITCH_ON (VOLTS = 300)
+end TRACKER_HV1 ON
+start TRACKER_HV2 TRACKER 0 SWITCH_ON (VOLTS = 300)
+kill TRACKER_HV2 fault
+refused NotOpen
+start TRACKER_HV3 TRACKER 0 SWITCH_ON (VOLTS = 300)
+end TRACKER_HV3 TRIPPED
+start TRACKER_CRATE1 TRACKER 0 LOAD (SETTINGS = \"cosmics\")
+end TRACKER_CRATE1 LOADED
+start TRACKER_CRATE2 TRACKER 0 LOAD (SETTINGS = \"cosmics\")
+end TRACKER_CRATE2 LOADED
+seen TRACKER TRACKER_HV1=ON TRACKER_HV2=DEAD TRACKER_HV3=TRIPPED TRACKER_CRATE1=LOADED TRACKER_CRATE2=LOADED
+post TRACKER TRACKER_HV1 1 SWITCH_OFF
+post TRACKER TRACKER_HV2 refused dead SWITCH_OFF
+post TRACKER TRACKER_HV3 1 SWITCH_OFF
+end TRACKER ERROR
+start TRACKER_HV1 TRACKER 1 SWITCH_OFF
+end TRACKER_HV1 OFF
+start TRACKER_HV3 TRACKER 1 SWITCH_OFF
+end TRACKER_HV3 OFF
+start CALORIMETER DETECTOR 0 SWITCH_ON (MODE = \"cosmics\")
+post CALORIMETER CALORIMETER_COOLER 0 COOL (DEGREES = 18)
+post CALORIMETER CALORIMETER_HV1 0 SWITCH_ON (VOLTS = 1500)
+post CALORIMETER CALORIMETER_HV2 0 SWITCH_ON (VOLTS = 1500)
+post CALORIMETER CALORIMETER_CRATE 0 LOAD (SETTINGS = \"default\")
+set CALORIMETER LOADED_FOR=\"cosmics\"
+start CALORIMETER_COOLER CALORIMETER 0 COOL (DEGREES = 18)
+end CALORIMETER_COOLER COLD
+start CALORIMETER_HV1 CALORIMETER 0 SWITCH_ON (VOLTS = 1500)
+end CALORIMETER_HV1 ON
+start CALORIMETER_HV2 CALORIMETER 0 SWITCH_ON (VOLTS = 1500)
+end CALORIMETER_HV2 ON
+start CALORIMETER_CRATE CALORIMETER 0 LOAD (SETTINGS = \"default\")
+end CALORIMETER_CRATE LOADED
+seen CALORIMETER CALORIMETER_HV1=ON CALORIMETER_HV2=ON CALORIMETER_CRATE=LOADED CALORIMETER_COOLER=COLD
+end CALORIMETER READY
+seen DETECTOR TRACKER=ERROR CALORIMETER=READY
+seen DETECTOR TRACKER=ERROR CALORIMETER=READY
+set DETECTOR MODE=\"none\"
+post DETECTOR TRACKER 1 SWITCH_OFF
+post DETECTOR CALORIMETER 1 SWITCH_OFF
+start CALORIMETER DETECTOR 1 SWITCH_OFF
+post CALORIMETER CALORIMETER_HV1 1 SWITCH_OFF
+post CALORIMETER CALORIMETER_HV2 1 SWITCH_OFF
+start CALORIMETER_HV1 CALORIMETER 1 SWITCH_OFF
+end CALORIMETER_HV1 OFF
+start CALORIMETER_HV2 CALORIMETER 1 SWITCH_OFF
+end CALORIMETER_HV2 OFF
+seen CALORIMETER CALORIMETER_HV1=OFF CALORIMETER_HV2=OFF
+end CALORIMETER OFF
+start TRACKER DETECTOR 1 SWITCH_OFF
+post TRACKER TRACKER_HV1 2 SWITCH_OFF
+post TRACKER TRACKER_HV2 refused dead SWITCH_OFF
+post TRACKER TRACKER_HV3 2 SWITCH_OFF
+start TRACKER_HV1 TRACKER 2 SWITCH_OFF
+end TRACKER_HV1 skipped
+start TRACKER_HV3 TRACKER 2 SWITCH_OFF
+end TRACKER_HV3 skipped
+seen TRACKER TRACKER_HV1=OFF TRACKER_HV2=DEAD TRACKER_HV3=OFF
+end TRACKER ERROR
+seen DETECTOR TRACKER=ERROR CALORIMETER=OFF
+end DETECTOR ERROR
+";
+
+/// An operator kills a subsystem on the way.
+pub const SUBSYSTEM_KILLED: &str = "\
+! The operator @1 switches the detector on, and the tracker asks for its high voltage.
+request @1 DETECTOR SWITCH_ON
+start DETECTOR
+go DETECTOR
+go DETECTOR
+start TRACKER
+go TRACKER
+go TRACKER
+start TRACKER_COOLER
+answer TRACKER_COOLER COLD
+go TRACKER
+go TRACKER
+start TRACKER_HV1
+answer TRACKER_HV1 ON
+start TRACKER_HV2
+go DETECTOR
+
+! The operator @2 kills the tracker in the middle of that. It does nothing from now on.
+kill TRACKER @2
+go TRACKER
+request @1 TRACKER SWITCH_OFF
+kill TRACKER @1
+
+! But what it sent before is done: the second supply comes on, and a crate is loaded.
+answer TRACKER_HV2 ON
+start TRACKER_CRATE1
+answer TRACKER_CRATE1 LOADED
+
+! So the operator sees to the supplies. The third is killed before it starts, and the others are switched off.
+kill TRACKER_HV3 @2
+start TRACKER_HV3
+request @2 TRACKER_HV1 SWITCH_OFF
+request @2 TRACKER_HV2 SWITCH_OFF
+start TRACKER_HV1
+answer TRACKER_HV1 OFF
+start TRACKER_HV2
+answer TRACKER_HV2 OFF
+
+! The detector comes up without its tracker, and is switched off again.
+start CALORIMETER
+go CALORIMETER
+go CALORIMETER
+go CALORIMETER
+go CALORIMETER
+start CALORIMETER_COOLER
+answer CALORIMETER_COOLER COLD
+start CALORIMETER_HV1
+answer CALORIMETER_HV1 ON
+start CALORIMETER_HV2
+answer CALORIMETER_HV2 ON
+start CALORIMETER_CRATE
+answer CALORIMETER_CRATE LOADED
+go CALORIMETER
+go CALORIMETER
+go DETECTOR
+go DETECTOR
+go DETECTOR
+request @1 DETECTOR SWITCH_OFF
+start DETECTOR
+go DETECTOR
+go DETECTOR
+start CALORIMETER
+go CALORIMETER
+start CALORIMETER_HV1
+answer CALORIMETER_HV1 OFF
+start CALORIMETER_HV2
+answer CALORIMETER_HV2 OFF
+go CALORIMETER
+go CALORIMETER
+go DETECTOR
+go DETECTOR
+";
+
+/// What is written where a subsystem is killed.
+pub const SUBSYSTEM_KILLED_OUTPUT: &str = "\
+accept @1 DETECTOR 0 SWITCH_ON (PURPOSE = \"physics\")
+start DETECTOR @1 0 SWITCH_ON (PURPOSE = \"physics\")
+set DETECTOR MODE=\"physics\"
+post DETECTOR TRACKER 0 SWITCH_ON (MODE = \"physics\")
+post DETECTOR CALORIMETER 0 SWITCH_ON (MODE = \"physics\")
+start TRACKER DETECTOR 0 SWITCH_ON (MODE = \"physics\")
+post TRACKER TRACKER_COOLER 0 COOL (DEGREES = -10)
+post TRACKER TRACKER_CRATE1 0 LOAD (SETTINGS = \"physics\")
+post TRACKER TRACKER_CRATE2 0 LOAD (SETTINGS = \"physics\")
+start TRACKER_COOLER TRACKER 0 COOL (DEGREES = -10)
+end TRACKER_COOLER COLD
+seen TRACKER TRACKER_COOLER=COLD
+post TRACKER TRACKER_HV1 0 SWITCH_ON (VOLTS = 300)
+post TRACKER TRACKER_HV2 0 SWITCH_ON (VOLTS = 300)
+post TRACKER TRACKER_HV3 0 SWITCH_ON (VOLTS = 300)
+start TRACKER_HV1 TRACKER 0 SWITCH_ON (VOLTS = 300)
+end TRACKER_HV1 ON
+start TRACKER_HV2 TRACKER 0 SWITCH_ON (VOLTS = 300)
+wait DETECTOR
+kill TRACKER @2
+refused NotOpen
+refused Dead
+refused AlreadyDead
+end TRACKER_HV2 ON
+start TRACKER_CRATE1 TRACKER 0 LOAD (SETTINGS = \"physics\")
+end TRACKER_CRATE1 LOADED
+kill TRACKER_HV3 @2
+refused Dead
+accept @2 TRACKER_HV1 0 SWITCH_OFF
+accept @2 TRACKER_HV2 0 SWITCH_OFF
+start TRACKER_HV1 @2 0 SWITCH_OFF
+end TRACKER_HV1 OFF
+start TRACKER_HV2 @2 0 SWITCH_OFF
+end TRACKER_HV2 OFF
+start CALORIMETER DETECTOR 0 SWITCH_ON (MODE = \"physics\")
+post CALORIMETER CALORIMETER_COOLER 0 COOL (DEGREES = 18)
+post CALORIMETER CALORIMETER_HV1 0 SWITCH_ON (VOLTS = 1500)
+post CALORIMETER CALORIMETER_HV2 0 SWITCH_ON (VOLTS = 1500)
+post CALORIMETER CALORIMETER_CRATE 0 LOAD (SETTINGS = \"default\")
+set CALORIMETER LOADED_FOR=\"physics\"
+start CALORIMETER_COOLER CALORIMETER 0 COOL (DEGREES = 18)
+end CALORIMETER_COOLER COLD
+start CALORIMETER_HV1 CALORIMETER 0 SWITCH_ON (VOLTS = 1500)
+end CALORIMETER_HV1 ON
+start CALORIMETER_HV2 CALORIMETER 0 SWITCH_ON (VOLTS = 1500)
+end CALORIMETER_HV2 ON
+start CALORIMETER_CRATE CALORIMETER 0 LOAD (SETTINGS = \"default\")
+end CALORIMETER_CRATE LOADED
+seen CALORIMETER CALORIMETER_HV1=ON CALORIMETER_HV2=ON CALORIMETER_CRATE=LOADED CALORIMETER_COOLER=COLD
+end CALORIMETER READY
+seen DETECTOR TRACKER=DEAD CALORIMETER=READY
+seen DETECTOR TRACKER=DEAD CALORIMETER=READY
+end DETECTOR PARTIAL
+accept @1 DETECTOR 1 SWITCH_OFF
+start DETECTOR @1 1 SWITCH_OFF
+post DETECTOR TRACKER refused dead SWITCH_OFF
+post DETECTOR CALORIMETER 1 SWITCH_OFF
+wait DETECTOR
+start CALORIMETER DETECTOR 1 SWITCH_OFF
+post CALORIMETER CALORIMETER_HV1 1 SWITCH_OFF
+post CALORIMETER CALORIMETER_HV2 1 SWITCH_OFF
+start CALORIMETER_HV1 CALORIMETER 1 SWITCH_OFF
+end CALORIMETER_HV1 OFF
+start CALORIMETER_HV2 CALORIMETER 1 SWITCH_OFF
+end CALORIMETER_HV2 OFF
+seen CALORIMETER CALORIMETER_HV1=OFF CALORIMETER_HV2=OFF
+end CALORIMETER OFF
+seen DETECTOR TRACKER=DEAD CALORIMETER=OFF
+end DETECTOR OFF
+";

@@ -1,5 +1,0 @@
-use Rattle.smi_core.proofs.Tolds.{then_told}
-use Rattle.smi_core.proofs.answer_text.tell_accepted.Goals as goal
-
-pub returns-clause-told : goal.returns-clause-told
-returns-clause-told g c = then_told c.tell.ensures.told (then_told c.tell_session.ensures.told (then_told c.tell_word.ensures.told (then_told c.tell_number.ensures.told (then_told c.tell_word-2.ensures.told c.tell-2.ensures.told))))

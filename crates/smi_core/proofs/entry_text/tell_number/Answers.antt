@@ -1,5 +1,0 @@
-use Rattle.smi_core.proofs.Tolds.{then_told}
-use Rattle.smi_core.proofs.entry_text.tell_number.Goals as goal
-
-pub returns-clause-told : goal.returns-clause-told
-returns-clause-told g c = then_told c.tell.ensures.told c.tell_u64.ensures.told

@@ -1,9 +1,0 @@
-use Rattle.std.proofs.Common.{◌≡◌, ◌+◌, ◌≤◌, length, drop}
-use Rattle.smi_core.specs.Journal.{starts_at}
-use Rattle.smi_core.proofs.walk.count_starts.Given as goal
-
-abbrev pub invariant-loop-entry : goal.invariant-loop-entry
-invariant-loop-entry l = record {
-  total : l.count + length (starts_at l.o (drop l.entry-index l.journal)) ≡ length (starts_at l.o l.journal);
-  small : l.count ≤ l.entry-index;
-}

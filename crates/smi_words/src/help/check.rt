@@ -1,0 +1,58 @@
+//! The texts of `check --help`.
+
+pub const CHECK: &str = "\
+Tells of domain files whether they are well-formed, one line a file.";
+
+pub const FILES: &str = "The domain files";
+
+pub const CHECK_MORE: &str = "\
+A domain file has at most 1048576 bytes of ASCII, without a byte order mark. It is well-formed where
+every name that it uses is declared and fits where it stands. What is written to standard output, one
+line a file:
+
+  FILE ok                      the file is well-formed
+  FILE read NO KIND at OFFSET  it is no text of the language; OFFSET counts bytes from 0
+  FILE check NO KIND NAME      it is not well-formed; NAME is the name at fault
+  FILE unreadable              it cannot be opened or read
+
+`head -c OFFSET FILE | wc -l` gives the number of lines before the one that OFFSET lies in.
+
+The kinds of `read`. The first three are looked for in this order over the whole text; then the first
+place in the text is told:
+
+  1 TooLong         the text has more than 1048576 bytes
+  2 NotAscii        a byte is above 127, as in letters with accents or in a byte order mark
+  3 BadToken        here begins no word, int, string, sign or comment; a word has at most 64 bytes, an
+                    int 64 bits with its sign, and a string at most 255 bytes and ends on its line
+  4 Unexpected      this word or sign may not stand here, or, at the end, the text ends too early
+  5 TooDeep         an `if` inside sixteen others, or a `not` or bracket inside sixteen of its condition
+  6 TooMany         one more than the language allows of what begins here: 64 classes, 64 objects,
+                    32 sets, 32 states of a class, 32 actions of a state, 16 parameters of a list,
+                    16 arguments of a `do`, 64 members of a set, 32 states of a list, 64 tests of a
+                    condition
+
+The kinds of `check`. Of several faults the one of the lowest NO is told, and of these the first in the
+text:
+
+  1 Duplicate       a name is declared twice: a class, object or set, a state of a class, an action of
+                    a state, a parameter of a list, a member of a set, an argument of a `do`
+  2 NoState         a class has no states
+  3 TwoInitial      two states of a class are marked as initial
+  4 TwoDead         two states of a class are marked as dead
+  5 UnknownClass    an object is of no declared class
+  6 UnknownObject   a member, a target of `do` or a tested object is not declared
+  7 UnknownSet      the name after `all_in` or `any_in` is no set
+  8 UnknownState    an action ends in, or a test names, a state that is none there
+  9 UnknownAction   a target of `do` does not have the action
+  10 UnknownParam   a name is no parameter there
+  11 KindMismatch   a value is of another kind than its parameter
+  12 MissingArg     a `do` leaves a parameter without a value
+  13 ParamsDiffer   an action has two lists of parameters in one class
+  14 SelfInCondition  a condition asks an object of its own class
+  15 AssociatedBody an action of an associated class has instructions
+
+A refused file is told, and the next follows. `output fault` on standard error says that the output
+cannot be written, `memory` that there is not enough memory; both end the program.
+
+Exit status: 0 all files are well-formed; 1 a file was refused or could not be read, or the output not
+be written; 2 a wrong command line; 3 not enough memory.";

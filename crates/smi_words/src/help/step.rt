@@ -1,0 +1,127 @@
+//! The texts of `step --help`.
+
+pub const STEP: &str = "\
+Runs a schedule on a domain, and writes what each of its steps does.";
+
+pub const SCHEDULE: &str = "The schedule: a text with one step a line";
+
+pub const CAPACITY: &str = "How many requests wait at an object at most, 1 to 1024";
+
+pub const MAX_STARTS: &str = "How many actions are started at most, 1 to 1000000";
+
+pub const KEPT_JOURNAL: &str = "Writes the journal to this file, when the schedule is done";
+
+pub const STEP_MORE: &str = "\
+FILE, the domain file, has at most 1048576 bytes of ASCII, without a byte order mark. `!` begins a
+comment. For example:
+
+  class: SUPPLY /associated            ! a device does what a supply is asked for
+    state: OFF
+      action: SWITCH_ON (int VOLTS)
+    state: ON
+  class: CONTROL
+    parameters: int TRIES = 0
+    state: NOT_READY
+      action: CONFIGURE (int VOLTS = 1500)
+        set TRIES = 1
+        do SWITCH_ON (VOLTS = VOLTS) all_in SUPPLIES
+        if ( all_in SUPPLIES in_state ON ) then
+          move_to READY
+        endif
+        move_to ERROR
+    state: READY
+    state: ERROR
+  object: HV is_of_class SUPPLY
+  object: RUN is_of_class CONTROL
+  objectset: SUPPLIES { HV }
+
+An object begins in the state of its class that is marked `/initial_state`, or else in the first. `set`
+gives a parameter of the class a value. `do` sends a request and goes on; `do .. all_in` sends it to each
+member of a set. An `if` waits while an action is open at one of the objects that it asks, or while what
+was sent to one of them by the object itself has not ended; then it reads all their states at once.
+`move_to` and `terminate_action /state=` end the action in a state; one that runs off its end leaves the
+state as it was. The dead state of a class is the one that is marked `/dead_state`, or else DEAD.
+
+SCHEDULE has at most 16777216 bytes of ASCII. Each line is one step, of at most 8192 bytes, or has only
+blanks and a comment. Names may be written in capitals or not. The steps:
+
+  request @S OBJECT ACTION                  session @S, which is @1 to @8, asks OBJECT for ACTION
+  request @S OBJECT ACTION (NAME = VALUE, ..)  the same with arguments, ints or strings in quotes, 16 at
+                                            most; a parameter that is left out has its default
+  start OBJECT                              OBJECT takes the request that waits longest and begins its
+                                            action
+  go OBJECT                                 the action that is open at OBJECT makes its next move: one
+                                            `set`, one `do`, one `if`, or its end
+  answer OBJECT STATE                       the device of OBJECT has done its action, and is in STATE
+  fault OBJECT                              the device of OBJECT fails at its action: OBJECT is killed
+  kill OBJECT @S                            session @S kills OBJECT: its open action is cut off, it is in
+                                            its dead state for good, and nothing starts there any more
+
+What is written to standard output, one line each, with all names in capitals; ARGS is nothing where the
+action has no parameters, else all of them in order, as in (T = 5, M = \"a\"):
+
+  accept @S OBJECT NUMBER ACTION ARGS           the request waits; it is number NUMBER, counted from 0,
+                                                of those that @S has sent to OBJECT
+  start OBJECT SENDER NUMBER ACTION ARGS        the action of that request has begun
+  set OBJECT PARAMETER=VALUE                    a `set` of OBJECT has given it this value
+  post OBJECT TARGET NUMBER ACTION ARGS         a `do` of OBJECT has sent the request to TARGET
+  post OBJECT TARGET refused full ACTION ARGS   a `do` of OBJECT, but as many wait at TARGET as may
+  post OBJECT TARGET refused dead ACTION ARGS   a `do` of OBJECT, but TARGET is killed
+  wait OBJECT                                   an `if` of OBJECT waits: an object that it asks is busy
+  still OBJECT                                  it waits on
+  seen OBJECT OBJECT1=STATE1 OBJECT2=STATE2 ..  an `if` of OBJECT has read these states
+  end OBJECT STATE                              the action has ended, and OBJECT is in STATE
+  end OBJECT skipped                            the state of OBJECT does not declare the action, so it
+                                                ended as it began
+  kill OBJECT @S                                OBJECT is killed, by session @S
+  kill OBJECT fault                             OBJECT is killed, by a fault of its device
+  refused KIND                                  the step was not done, and nothing has changed
+
+A `do` to the members of an empty set writes nothing. The kinds of `refused`:
+
+  BadLine        the line is no step: another form, a byte above 127, or more than 8192 bytes
+  UnknownObject  the domain has no such object
+  UnknownAction  no state of the object's class declares the action
+  BadArgs        an argument is unknown, repeated, missing or of the wrong kind
+  Dead           the object is killed
+  Full           as many requests wait at the object as may
+  Limit          as many actions were started as may be
+  AlreadyOpen    an action is open at the object, so that no other may start
+  Empty          no request waits at the object
+  Associated     a device does the object's actions, so that it makes no moves: `answer` ends them
+  NotAssociated  no device does the object's actions: `go` does them
+  NotOpen        no action is open at the object
+  NotAState      the object's class has no such state
+  AlreadyDead    the object was killed before
+
+With the domain above, the schedule on the left writes what is on the right:
+
+  request @1 RUN CONFIGURE     accept @1 RUN 0 CONFIGURE (VOLTS = 1500)
+  start RUN                    start RUN @1 0 CONFIGURE (VOLTS = 1500)
+  go RUN                       set RUN TRIES=1
+  go RUN                       post RUN HV 0 SWITCH_ON (VOLTS = 1500)
+  go RUN                       wait RUN
+  start HV                     start HV RUN 0 SWITCH_ON (VOLTS = 1500)
+  go RUN                       still RUN
+  answer HV ON                 end HV ON
+  go RUN                       seen RUN HV=ON
+  go RUN                       end RUN READY
+  kill HV @2                   kill HV @2
+  start HV                     refused Dead
+
+With `--journal PATH` the journal is written to PATH when the whole schedule is done, over what stands
+there: the line `smi-journal 1`, and then the lines above but `accept`, `set`, `still` and `refused`.
+`smirun audit FILE PATH` judges it.
+
+A file that is refused is told on standard error, by FILE and one of: `read NO KIND at OFFSET` (no text
+of the language), `check NO KIND NAME` (not well-formed; `smirun check --help` has the kinds),
+`unreadable`, `too long` (the schedule). `output fault` says that the output or the journal cannot be
+written, `memory` that there is not enough memory. What the steps before a fault write is written, and no
+journal.
+
+The time grows with the length of the schedule and of what it writes: a million steps take about a second.
+Memory is taken for one line and for the journal, which is kept whole while the schedule runs: some 100 to
+150 bytes an entry.
+
+Exit status: 0 done, also where steps were refused; 1 an input was refused, or a file could not be
+read or the output not be written; 2 a wrong command line; 3 not enough memory.";
