@@ -41,9 +41,9 @@ pub fn run(
     let mut answers = Vec::new(alloc);
     for step in steps {
         let answer = core.step(step);
-        if answers.push(answer).is_err() {
+        let Ok(()) = answers.push(answer) else {
             return Err(CoreError::Memory);
-        }
+        };
     }
     Ok((core, answers))
 }

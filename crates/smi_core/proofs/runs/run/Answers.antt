@@ -19,7 +19,7 @@ loop-step-preserved c =
     let item : get_or c.args.steps.now i.step-index none ≡ c.step-item.result = grind (arith, common_steps) in
     let w2 = c.step-answer.new.self.world in
     let more = take_more c.args.steps.now i.step-index none (omega arith) in
-    let pushed : c.push.new.self.items ≡ i.answers.items ++ c.step-answer.result ∷ [] = grind (arith, common_steps) in
+    let pushed : c.push.new.self.items ≡ i.answers.items ++ c.step-answer.result ∷ [] = c.in-Ok.ensures.items in
     let P : Setup → Type 0 = λ m. Run m (opening m) (take (i.step-index + 1) c.args.steps.now) c.push.new.self.items w2 in
     record {
       run = subst P (sym c.step-answer.ensures.setup) (rw (more, item, pushed) (run_more i.core.setup (opening i.core.setup) (take i.step-index c.args.steps.now) i.answers.items i.core.world w2 c.step-item.result c.step-answer.result i.invariant.run c.step-answer.ensures.step));
