@@ -11,6 +11,8 @@ pub enum Setting {
     Pair,
     /// An object that asks a set without members.
     Empty,
+    /// A control and a supply, as in the help of `step`.
+    Control,
     /// An object that notes its number, which it sets before and behind, and asks a set without members.
     Notes,
     /// The supplies with what switches them on, the counter with its sink, the two that ask one another, and
@@ -25,6 +27,7 @@ pub fn text_of(setting: Setting) -> &'static [u8] {
         Setting::Counter => COUNTER,
         Setting::Pair => PAIR,
         Setting::Empty => EMPTY,
+        Setting::Control => CONTROL,
         Setting::Notes => NOTES,
         Setting::Plant => PLANT,
     }
@@ -92,6 +95,27 @@ const EMPTY: &[u8] = b"class: T
   state: BAD
 object: X is_of_class T
 objectset: E { }
+";
+
+const CONTROL: &[u8] = b"class: SUPPLY /associated
+  state: OFF
+    action: SWITCH_ON (int VOLTS)
+  state: ON
+class: CONTROL
+  parameters: int TRIES = 0
+  state: NOT_READY
+    action: CONFIGURE (int VOLTS = 1500)
+      set TRIES = 1
+      do SWITCH_ON (VOLTS = VOLTS) all_in SUPPLIES
+      if ( all_in SUPPLIES in_state ON ) then
+        move_to READY
+      endif
+      move_to ERROR
+  state: READY
+  state: ERROR
+object: HV is_of_class SUPPLY
+object: RUN is_of_class CONTROL
+objectset: SUPPLIES { HV }
 ";
 
 const NOTES: &[u8] = b"class: K

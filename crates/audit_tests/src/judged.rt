@@ -54,7 +54,8 @@ pub struct Front {
 /// A row: its name, the first lines of a journal, those behind them, and what is said of it.
 pub type Row = (&'static str, Front, &'static [u8], Said);
 
-fn joined(alloc: Global, front: &[u8], rest: &[u8]) -> Option<Vec<u8>> {
+/// The first lines of a text with those behind them.
+pub fn joined(alloc: Global, front: &[u8], rest: &[u8]) -> Option<Vec<u8>> {
     let mut text = Vec::from_slice(alloc, front).ok()?;
     text.extend_from_slice(rest).ok()?;
     Some(text)

@@ -1,4 +1,4 @@
-//! What the judge says of journals that were written by hand.
+//! What the judge says of journals that were written by hand, and what is said to people.
 #![tactic(auto)]
 
 #[cfg(test)]
@@ -11,6 +11,10 @@ mod domains;
 mod ends;
 #[cfg(test)]
 mod exchanged;
+#[cfg(test)]
+mod explained;
+#[cfg(test)]
+mod explained_rows;
 #[cfg(test)]
 mod judged;
 #[cfg(test)]

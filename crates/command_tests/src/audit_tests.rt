@@ -72,18 +72,21 @@ fn journals_are_judged(rt: HostRuntime) -> Result<(), Fail> {
 #[test]
 fn journals_that_cannot_be_judged(rt: HostRuntime) -> Result<(), Fail> {
     enter(&rt, "journals_that_cannot_be_judged")?;
-    expect(&rt, AUDIT, 1, "", "domain.sml unreadable\n")?;
+    let no_domain = "domain.sml unreadable\ndomain.sml: No such file or directory (os error 2)\n";
+    expect(&rt, AUDIT, 1, "", no_domain)?;
+    let no_journal = "journal unreadable\njournal: No such file or directory (os error 2)\n";
     for (domain, errors) in [
         ("class", "domain.sml read 4 Unexpected at 5\n"),
         ("class: K", "domain.sml check 2 NoState K\n"),
-        (SUPPLIES, "journal unreadable\n"),
+        (SUPPLIES, no_journal),
     ] {
         fs::write(&rt, "domain.sml", domain.as_bytes())?;
         expect(&rt, AUDIT, 1, "", errors)?;
     }
     fs::create_dir(&rt, "folder")?;
     let of_folder = ["smirun", "audit", "domain.sml", "folder"];
-    expect(&rt, &of_folder, 1, "", "folder unreadable\n")?;
+    let no_text = "folder unreadable\nfolder: Is a directory (os error 21)\n";
+    expect(&rt, &of_folder, 1, "", no_text)?;
     // Too long goes before a bad header.
     for (length, errors) in [
         (67_108_864, "journal bad header\n"),

@@ -27,7 +27,13 @@ fn checks_example_domains(rt: HostRuntime) -> Result<(), Fail> {
 #[test]
 fn tells_refused_files(rt: HostRuntime) -> Result<(), Fail> {
     enter(&rt, "tells_refused_files")?;
-    expect(&rt, CHECK, 1, "domain.sml unreadable\n", "")?;
+    expect(
+        &rt,
+        CHECK,
+        1,
+        "domain.sml unreadable\n",
+        "domain.sml: No such file or directory (os error 2)\n",
+    )?;
     let rows = [
         ("class", 1, "domain.sml read 4 Unexpected at 5\n", ""),
         (
@@ -71,7 +77,13 @@ none.sml unreadable
 cut.sml read 4 Unexpected at 16
 first.sml ok
 ";
-    expect(&rt, words, 1, told, "")?;
+    expect(
+        &rt,
+        words,
+        1,
+        told,
+        "none.sml: No such file or directory (os error 2)\n",
+    )?;
     expect(
         &rt,
         &["smirun", "check", "first.sml", "first.sml"],

@@ -12,6 +12,10 @@ mod example_texts;
 #[cfg(test)]
 mod fault_tests;
 #[cfg(test)]
+mod first_calls;
+#[cfg(test)]
+mod input_tests;
+#[cfg(test)]
 mod memory_tests;
 #[cfg(test)]
 mod other_rows;

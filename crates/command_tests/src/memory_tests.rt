@@ -1,6 +1,6 @@
 //! Commands where there is no memory to read a file.
 
-use crate::runs::call;
+use crate::runs::call_with;
 use std::alloc::{Allocator, Global};
 use std::fs::{File, Files, Metadata, OpenOptions};
 use std::io;
@@ -63,7 +63,7 @@ impl Files for NoMemory {
 // Whether a command ends as out of memory, with nothing on its output.
 fn ends_for_memory(alloc: Global, words: &[&str]) -> Result<bool, Fail> {
     let rt = (NoMemory, alloc);
-    let outcome = call(&rt, words)?;
+    let outcome = call_with(&rt, words, "")?;
     Ok(
         outcome.status == 3
             && outcome.output.is_empty()

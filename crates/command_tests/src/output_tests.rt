@@ -4,7 +4,7 @@ use crate::runs::{enter, leave, strings, write_inputs};
 use crate::texts::FIRST;
 use smi_words::drive::drive;
 use std::fs::Files;
-use std::io::{ErrorKind, Write};
+use std::io::{ErrorKind, Input, Write};
 use std::process::Abort;
 use std::test::Fail;
 use std::{fs, io};
@@ -51,7 +51,7 @@ impl Write for FailsLate {
     }
 }
 
-fn expect_output_fault<R: Files + AllocGlobal + Abort, W: Write>(
+fn expect_output_fault<R: Files + AllocGlobal + Input + Abort, W: Write>(
     rt: &R,
     words: &[&str],
     output: &mut W,

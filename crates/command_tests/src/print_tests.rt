@@ -52,7 +52,8 @@ fn prints_the_canonical_text(rt: HostRuntime) -> Result<(), Fail> {
 #[test]
 fn prints_no_refused_file(rt: HostRuntime) -> Result<(), Fail> {
     enter(&rt, "prints_no_refused_file")?;
-    expect(&rt, PRINT, 1, "", "domain.sml unreadable\n")?;
+    let cause = "domain.sml unreadable\ndomain.sml: No such file or directory (os error 2)\n";
+    expect(&rt, PRINT, 1, "", cause)?;
     let rows = [
         ("class: A\u{C4}", 1, "", "domain.sml read 2 NotAscii at 8\n"),
         ("class: 9A", 1, "", "domain.sml read 3 BadToken at 7\n"),

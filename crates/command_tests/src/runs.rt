@@ -1,9 +1,9 @@
 //! Calls of `drive`. Each test works in a folder of its own.
 
-use smi_words::drive::drive;
+use smi_words::drive::{drive, drive_from};
 use std::alloc::Global;
 use std::fs::Files;
-use std::io::Write;
+use std::io::{Input, Write};
 use std::process::Abort;
 use std::test::Fail;
 use std::{env, fs, process, str};
@@ -79,7 +79,7 @@ pub fn strings<R: AllocGlobal>(rt: &R, words: &[&str]) -> Result<Vec<String>, Fa
     Ok(list)
 }
 
-pub fn call<R: Files + AllocGlobal>(rt: &R, words: &[&str]) -> Result<Outcome, Fail> {
+pub fn call<R: Files + AllocGlobal + Input>(rt: &R, words: &[&str]) -> Result<Outcome, Fail> {
     let list = strings(rt, words)?;
     let mut output = Vec::new(rt.alloc());
     let mut errors = Vec::new(rt.alloc());
@@ -91,14 +91,37 @@ pub fn call<R: Files + AllocGlobal>(rt: &R, words: &[&str]) -> Result<Outcome, F
     })
 }
 
-pub fn expect<R: Files + AllocGlobal + Abort>(
+// The same, with a text as standard input.
+pub fn call_with<R: Files + AllocGlobal>(
     rt: &R,
     words: &[&str],
-    status: u8,
-    output: &str,
-    errors: &str,
+    input: &str,
+) -> Result<Outcome, Fail> {
+    let list = strings(rt, words)?;
+    let mut output = Vec::new(rt.alloc());
+    let mut errors = Vec::new(rt.alloc());
+    let status = drive_from(
+        rt,
+        list.as_slice(),
+        &mut input.as_bytes(),
+        &mut output,
+        &mut errors,
+    );
+    Ok(Outcome {
+        status,
+        output,
+        errors,
+    })
+}
+
+// Whether a command ended so.
+fn expect_outcome<R: Abort>(
+    rt: &R,
+    words: &[&str],
+    outcome: &Outcome,
+    wanted: (u8, &str, &str),
 ) -> Result<(), Fail> {
-    let outcome = call(rt, words)?;
+    let (status, output, errors) = wanted;
     let told = str::from_utf8(outcome.output.as_slice())?;
     let told_of_faults = str::from_utf8(outcome.errors.as_slice())?;
     let is_told = told == output && told_of_faults == errors;
@@ -109,11 +132,33 @@ pub fn expect<R: Files + AllocGlobal + Abort>(
     Ok(())
 }
 
-// What is told of a text of a domain: the status, the output and the errors.
+pub fn expect<R: Files + AllocGlobal + Input + Abort>(
+    rt: &R,
+    words: &[&str],
+    status: u8,
+    output: &str,
+    errors: &str,
+) -> Result<(), Fail> {
+    let outcome = call(rt, words)?;
+    expect_outcome(rt, words, &outcome, (status, output, errors))
+}
+
+// Gives a text to a command as its standard input.
+pub fn expect_of_input<R: Files + AllocGlobal + Abort>(
+    rt: &R,
+    words: &[&str],
+    row: &Told<'_>,
+) -> Result<(), Fail> {
+    let (input, status, output, errors) = *row;
+    let outcome = call_with(rt, words, input)?;
+    expect_outcome(rt, words, &outcome, (status, output, errors))
+}
+
+// What is told of a text: the status, the output and the errors.
 pub type Told<'a> = (&'a str, u8, &'a str, &'a str);
 
 // Gives each text in turn to a command that reads `domain.sml`.
-pub fn expect_each<R: Files + AllocGlobal + Abort>(
+pub fn expect_each<R: Files + AllocGlobal + Input + Abort>(
     rt: &R,
     words: &[&str],
     rows: &[Told<'_>],

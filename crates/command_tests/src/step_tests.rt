@@ -11,13 +11,14 @@ use crate::texts::{FIRST, SUPPLIES};
 use crate::transcript::{Row, whole_of};
 use std::fs;
 use std::fs::Files;
+use std::io::Input;
 use std::process::Abort;
 use std::test::Fail;
 
 const STEP: &[&str] = &["smirun", "step", "domain.sml", "schedule"];
 
 // Runs a row, whose schedule has its name: it writes its lines, and a journal that is judged legal.
-fn expect_row<R: Files + AllocGlobal + Abort>(rt: &R, row: &Row) -> Result<(), Fail> {
+fn expect_row<R: Files + AllocGlobal + Input + Abort>(rt: &R, row: &Row) -> Result<(), Fail> {
     let told = whole_of(rt.alloc(), row.told)?;
     fs::write(rt, "domain.sml", row.domain.as_bytes())?;
     fs::write(rt, row.name, told.schedule.as_bytes())?;
@@ -34,7 +35,7 @@ fn expect_row<R: Files + AllocGlobal + Abort>(rt: &R, row: &Row) -> Result<(), F
     expect(rt, AUDIT, 0, "Legal\n", "")
 }
 
-fn expect_rows<R: Files + AllocGlobal + Abort>(rt: &R, rows: &[Row]) -> Result<(), Fail> {
+fn expect_rows<R: Files + AllocGlobal + Input + Abort>(rt: &R, rows: &[Row]) -> Result<(), Fail> {
     for row in rows {
         expect_row(rt, row)?;
     }
@@ -104,7 +105,8 @@ fn journals_are_kept(rt: HostRuntime) -> Result<(), Fail> {
     )?;
     fs::remove_file(&rt, "schedule")?;
     fs::remove_file(&rt, "journal")?;
-    expect(&rt, STEP_AND_KEEP, 1, "", "schedule unreadable\n")?;
+    let cause = "schedule unreadable\nschedule: No such file or directory (os error 2)\n";
+    expect(&rt, STEP_AND_KEEP, 1, "", cause)?;
     assert!(rt; !fs::exists(&rt, "journal")?);
     leave(&rt)
 }
@@ -175,7 +177,9 @@ fn longest_texts(rt: HostRuntime) -> Result<(), Fail> {
 #[test]
 fn refused_inputs(rt: HostRuntime) -> Result<(), Fail> {
     enter(&rt, "refused_inputs")?;
-    expect(&rt, STEP, 1, "", "domain.sml unreadable\n")?;
+    let no_domain = "domain.sml unreadable\ndomain.sml: No such file or directory (os error 2)\n";
+    expect(&rt, STEP, 1, "", no_domain)?;
+    let no_schedule = "schedule unreadable\nschedule: No such file or directory (os error 2)\n";
     let rows = [
         (
             "class: A \u{e9}",
@@ -186,13 +190,17 @@ fn refused_inputs(rt: HostRuntime) -> Result<(), Fail> {
         ("class: A ;", 1, "", "domain.sml read 3 BadToken at 9\n"),
         ("class", 1, "", "domain.sml read 4 Unexpected at 5\n"),
         ("class: K", 1, "", "domain.sml check 2 NoState K\n"),
-        (SUPPLIES, 1, "", "schedule unreadable\n"),
+        (SUPPLIES, 1, "", no_schedule),
     ];
     expect_each(&rt, STEP, &rows)?;
     fs::create_dir(&rt, "folder")?;
     fs::write(&rt, "schedule", b"")?;
     for (file, schedule, errors) in [
-        ("folder", "schedule", "folder unreadable\n"),
+        (
+            "folder",
+            "schedule",
+            "folder unreadable\nfolder: Is a directory (os error 21)\n",
+        ),
         ("domain.sml", "./folder", "./folder unreadable\n"),
     ] {
         expect(&rt, &["smirun", "step", file, schedule], 1, "", errors)?;

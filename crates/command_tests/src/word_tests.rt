@@ -2,15 +2,21 @@
 
 use crate::runs::{call, enter, expect, leave, write_inputs};
 use crate::texts::FIRST;
-use smi_commands::refuse_words;
+use smi_commands::{LONGEST_JOURNAL, MAX_CAPACITY, MAX_STARTS, refuse_words};
+use smi_core::{LONGEST_LINE, LONGEST_SCHEDULE};
+use sml_read::MAX_TEXT;
+use std::alloc::Global;
 use std::fs::Files;
 use std::io;
-use std::io::ErrorKind;
+use std::io::{ErrorKind, Input};
 use std::process::Abort;
 use std::test::Fail;
 
 // The text of what is wrong is the parser's own, and no part of a format.
-fn expect_wrong_words<R: Files + AllocGlobal + Abort>(rt: &R, words: &[&str]) -> Result<(), Fail> {
+fn expect_wrong_words<R: Files + AllocGlobal + Input + Abort>(
+    rt: &R,
+    words: &[&str],
+) -> Result<(), Fail> {
     let outcome = call(rt, words)?;
     let is_told = outcome.output.is_empty() && !outcome.errors.is_empty();
     assert!(rt; outcome.status == 2 && is_told, "in {words:?}");
@@ -26,7 +32,7 @@ fn wrong_command_lines(rt: HostRuntime) -> Result<(), Fail> {
         &["a", "b", "--workers", "2"],
         &["a", "b", "--journal"],
     ];
-    let other_lines: [&[&str]; 10] = [
+    let other_lines: [&[&str]; 13] = [
         &[],
         &["smirun"],
         &["smirun", "print"],
@@ -37,6 +43,9 @@ fn wrong_command_lines(rt: HostRuntime) -> Result<(), Fail> {
         &["smirun", "audit", "a", "b", "c"],
         &["smirun", "run", "a", "b"],
         &["smirun", "--x"],
+        &["smirun", "check", "-", "a", "-"],
+        &["smirun", "step", "-", "-"],
+        &["smirun", "audit", "-", "-"],
     ];
     for words in other_lines {
         expect_wrong_words(&rt, words)?;
@@ -87,7 +96,8 @@ const HELP: &[Help] = &[
     (&["smirun", "--help"], &["Exit status: 0 done", "audit"]),
     (&["smirun", "-h"], &["Usage: smirun <COMMAND>"]),
     (&["smirun", "help"], &["Usage: smirun <COMMAND>"]),
-    (&["smirun", "--version"], &["smirun 0.1.0\n"]),
+    (&["smirun", "--version"], VERSION),
+    (&["smirun", "-V"], VERSION),
     (&["smirun", "step", "--help"], STEPS),
     (
         &["smirun", "help", "step"],
@@ -100,6 +110,9 @@ const HELP: &[Help] = &[
     ),
     (&["smirun", "print", "--help"], &["class:lamp state:off"]),
 ];
+
+// The version, and the line of the toolchain.
+const VERSION: &[&str] = &["smirun 0.1.0 (", "rattle-kit-"];
 
 // All steps, all lines that they write, and all that they are refused for.
 const STEPS: &[&str] = &[
@@ -164,6 +177,41 @@ fn help_is_given(rt: HostRuntime) -> Result<(), Fail> {
         let missing = parts.iter().find(|part| !text.contains(**part));
         let is_told = outcome.status == 0 && outcome.errors.is_empty();
         assert!(rt; is_told && missing.is_none(), "no {missing:?} in {words:?}");
+    }
+    Ok(())
+}
+
+// A command line that asks for help, and the limits that the text tells.
+const LIMITS: &[(&[&str], &[usize])] = &[
+    (&["smirun", "check", "--help"], &[MAX_TEXT]),
+    (&["smirun", "print", "--help"], &[MAX_TEXT]),
+    (&["smirun", "step", "--help"], &[MAX_TEXT, LONGEST_SCHEDULE]),
+    (
+        &["smirun", "step", "-h"],
+        &[LONGEST_LINE, MAX_CAPACITY, MAX_STARTS],
+    ),
+    (&["smirun", "audit", "--help"], &[MAX_TEXT, LONGEST_JOURNAL]),
+];
+
+// Whether a text has each of these numbers.
+fn has_all(alloc: Global, text: &str, numbers: &[usize]) -> Result<bool, Fail> {
+    for number in numbers {
+        if !text.contains(format!(in alloc; " {number}")?.as_str()) {
+            return Ok(false);
+        }
+    }
+    Ok(true)
+}
+
+#[test]
+fn help_tells_the_limits(rt: HostRuntime) -> Result<(), Fail> {
+    for (words, limits) in LIMITS {
+        let outcome = call(&rt, words)?;
+        let text = std::str::from_utf8(outcome.output.as_slice())?;
+        assert!(rt;
+            has_all(rt.alloc(), text, limits)?,
+            "not {limits:?} in {words:?}"
+        );
     }
     Ok(())
 }

@@ -1,5 +1,6 @@
 //! Tasks of a board, followed from contact to contact.
 ghost use Rattle.std.specs.Prelude.{◌≡◌, ◌<◌, IfSome, IsSome, false, length};
+ghost use Rattle.smi_interp.specs.Task.{shown};
 
 use smi_board::board::Board;
 use smi_board::contacts::Reply;
@@ -27,6 +28,16 @@ pub enum Made {
     Shelved,
 }
 
+// What is left of a task, where this holds.
+fn only_if(holds: bool, left: Option<Task>) -> Option<Option<Task>>
+    ensures { IfSome result (λ r. r ≡ left) }
+{
+    if !holds {
+        return None;
+    }
+    Some(left)
+}
+
 // Hands a task in, whose contact waits: where it is answered so, what comes back.
 fn hand_in(board: &mut Board<PlainMail>, task: Task, made: Made) -> Option<Option<Task>>
     requires domain { task.domain ≡ board.old.domain }
@@ -37,11 +48,11 @@ fn hand_in(board: &mut Board<PlainMail>, task: Task, made: Made) -> Option<Optio
         (t.domain ≡ board.old.domain) × (t.turn.object < length board.old.domain.objects))) }
 {
     match board.contact(task) {
-        Ok(Reply::Posted(task)) if made == Made::Posted => Some(Some(task)),
-        Ok(Reply::Seen(task)) if made == Made::Seen => Some(Some(task)),
-        Ok(Reply::Waiting) if made == Made::Waiting => Some(None),
-        Ok(Reply::Ended) if made == Made::Ended => Some(None),
-        _ => None,
+        Ok(Reply::Posted(task)) => only_if(made == Made::Posted, Some(task)),
+        Ok(Reply::Seen(task)) => only_if(made == Made::Seen, Some(task)),
+        Ok(Reply::Waiting) => only_if(made == Made::Waiting, None),
+        Ok(Reply::Ended) => only_if(made == Made::Ended, None),
+        Err(_) => None,
     }
 }
 
@@ -58,6 +69,16 @@ fn hand_back(board: &mut Board<PlainMail>, task: Task) -> Option<Option<Task>>
     }
 }
 
+// The next contact of a task, which is asked for again where memory is refused.
+fn next_contact(task: &mut Task) -> Option<Contact>
+    ensures { IfSome result (λ c. task.new ≡ shown task.old c) }
+{
+    match task.advance() {
+        Ok(contact) => Some(contact),
+        Err(_) => task.advance().ok(),
+    }
+}
+
 /// Whether the next contact of a task is a set, and the task after it.
 pub fn advanced(task: Task) -> Option<(bool, Task)>
     ensures domain { IfSome result (λ r. r.1.domain ≡ task.domain) }
@@ -65,10 +86,7 @@ pub fn advanced(task: Task) -> Option<(bool, Task)>
     ensures waits { IfSome result (λ r. r.0 ≡ false → IsSome r.1.pending) }
 {
     let mut task = task;
-    let Ok(contact) = task.advance() else {
-        return None;
-    };
-    match contact {
+    match next_contact(&mut task)? {
         Contact::Local { .. } => Some((true, task)),
         Contact::Send(_) => Some((false, task)),
         Contact::Read(_) => Some((false, task)),

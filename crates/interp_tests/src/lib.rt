@@ -4,6 +4,8 @@
 #[cfg(test)]
 mod acts;
 #[cfg(test)]
+mod at_last;
+#[cfg(test)]
 mod beginnings;
 #[cfg(test)]
 mod boards;

@@ -1,7 +1,8 @@
-//! Memory that is refused: the task is as it was, and the same call then gives its contact.
+//! Memory that is refused: the task is as it was, and the same call then gives its contact. Boards likewise.
 //!
 //! `tools/refused-memory` runs this again and again, and each time another allocation is refused.
 
+use crate::at_last::are_kept;
 use crate::walk::{Plain, Step, Walk, is_walked_at_last};
 use smi_entry::entry::Verdict;
 use std::test::*;
@@ -37,4 +38,5 @@ object: X is_of_class K
 #[test]
 fn goes_on_after_a_refusal(rt: HostRuntime) {
     assert!(rt; is_walked_at_last(rt.alloc(), &SMALL));
+    assert!(rt; are_kept(rt.alloc()));
 }

@@ -3,7 +3,7 @@
 use crate::acts::Made::{Ended, Posted, Seen, Set, Shelved, Waiting};
 use crate::boards::{Call, Opened, Run};
 use crate::lines::{Asked, Line};
-use crate::texts::{COUNTER, ECHO, MANY, PAIR, SUPPLIES, TWICE};
+use crate::texts::{COUNTER, ECHO, MANY, PAIR, SUPPLIES, TWICE, VALVE};
 use crate::walk::Plain;
 use smi_board::errors::{AnswerError, RequestRefusal, StartError};
 use smi_entry::entry::Verdict::{Accepted, Dead, Full};
@@ -283,6 +283,41 @@ pub const TWO_WAITS: Run = Run {
         Line::Skip(0),
         Line::Seen(1, &[(0, 1)]),
         Line::End(1, 3),
+    ],
+};
+
+/// Being in the dead state is not being killed: an object that begins in it takes requests, is waited for
+/// while it is open, and is read.
+pub const FIRST_STATE_IS_DEAD: Run = Run {
+    text: VALVE,
+    capacity: 16,
+    most: 100,
+    calls: &[
+        (0, Call::Look(0, NONE, None)),
+        (1, Call::Request(SECOND, Ok(0))),
+        (1, Call::Act(&[Posted, Waiting])),
+        (0, PERFORMS),
+        (1, Call::Rest),
+        (0, Call::Answer(0, Ok(()))),
+        (0, Call::Look(0, NONE, None)),
+        (1, Call::Resume(&[Seen, Ended])),
+        (1, Call::Look(3, NONE, None)),
+        (0, Call::Request(FIRST, Ok(0))),
+        (0, PERFORMS),
+        (0, Call::Kill(1, Ok(8))),
+        (0, Call::Look(0, NONE, Some(8))),
+        (0, Call::Request(FIRST, Err(RequestRefusal::Dead))),
+    ],
+    journal: &[
+        Line::Start(1, SECOND, 0),
+        Line::Post(1, (0, Accepted(0), 0, NONE)),
+        Line::Wait(1),
+        Line::Take(0, 1, 0, 0, NONE),
+        Line::End(0, 0),
+        Line::Seen(1, &[(0, 0)]),
+        Line::End(1, 3),
+        Line::Start(0, FIRST, 0),
+        Line::Kill(0, 1),
     ],
 };
 

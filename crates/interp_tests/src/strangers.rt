@@ -48,8 +48,8 @@ fn is_refused(board: &mut Board<PlainMail>, task: Task, wanted: ContactError) ->
     }
 }
 
-// Whether a request of the first session is taken.
-fn asks(
+/// Whether a request of an operator is taken.
+pub fn asks(
     alloc: Global,
     domain: &Domain,
     board: &mut Board<PlainMail>,
@@ -105,34 +105,55 @@ fn asking_by_hand(
     }
 }
 
-// Whether a task is refused once its object did what it asks for, and started the next request.
-fn is_refused_behind(board: &mut Board<PlainMail>, o: ObjId, second: Task) -> bool
+/// What becomes of the first task of a request before a second one is handed in: the moves that it makes,
+/// and whether its object then starts the next request.
+pub type SecondTask = (&'static [Made], bool);
+
+/// The first task is kept; its action is ended; its action is ended, and the next one is open.
+pub const SECOND_TASKS: &[SecondTask] = &[
+    (&[Made::Shelved], false),
+    (&[Made::Posted, Made::Ended], false),
+    (&[Made::Posted, Made::Ended], true),
+];
+
+// Whether an object starts its next request, whose task makes no move.
+fn starts(board: &mut Board<PlainMail>, o: ObjId) -> bool
+    requires { o < length board.old.domain.objects }
+    ensures { board.new.domain ≡ board.old.domain }
+{
+    matches!(board.start(o), Ok(Started::Run(_)))
+}
+
+// Whether a second task of a request that an object is to start is refused behind the first.
+fn is_refused_behind(board: &mut Board<PlainMail>, o: ObjId, second: Task, row: SecondTask) -> bool
     requires object { o < length board.old.domain.objects }
     requires domain { second.domain ≡ board.old.domain }
     requires within { second.turn.object < length board.old.domain.objects }
     requires waits { IsSome second.pending }
 {
-    if !acts(board, o, &[Made::Posted, Made::Ended]) {
+    let (moves, goes_on) = row;
+    if !acts(board, o, moves) {
         return false;
     }
-    match board.start(o) {
-        Ok(Started::Run(_)) => is_refused(board, second, ContactError::Stranger),
-        _ => false,
+    if goes_on && !starts(board, o) {
+        return false;
     }
+    is_refused(board, second, ContactError::Stranger)
 }
 
-// Whether the second task of a request that an object is to start is refused, once the next one is started.
+// The same, of a second task that is made by hand.
 fn second_is_refused(
     alloc: Global,
     domain: &Arc<Domain>,
     board: &mut Board<PlainMail>,
     o: ObjId,
+    row: SecondTask,
 ) -> bool
     requires within { o < length board.old.domain.objects }
     requires domain { board.old.domain ≡ arc_value domain.now }
 {
     match asking_by_hand(alloc, domain, board, o, SHOW) {
-        Some(second) => is_refused_behind(board, o, second),
+        Some(second) => is_refused_behind(board, o, second, row),
         None => false,
     }
 }
@@ -172,8 +193,8 @@ fn fresh_of(alloc: Global, text: &'static [u8]) -> Option<Fresh>
     Some(Fresh { domain, board })
 }
 
-/// Whether a second task of the first of two equal requests is refused, once the second is started.
-pub fn refuses_second_task(alloc: Global) -> bool {
+/// Whether a second task of the first of two equal requests is refused, once the first one did its moves.
+pub fn refuses_second_task(alloc: Global, row: SecondTask) -> bool {
     let Some(Fresh { domain, board }) = fresh_of(alloc, COUNTER) else {
         return false;
     };
@@ -182,7 +203,7 @@ pub fn refuses_second_task(alloc: Global) -> bool {
     domain.has(o)
         && asks(alloc, &domain, &mut board, o, SHOW)
         && asks(alloc, &domain, &mut board, o, SHOW)
-        && second_is_refused(alloc, &domain, &mut board, o)
+        && second_is_refused(alloc, &domain, &mut board, o, row)
 }
 
 /// Whether a task is refused whose object was killed while it was out.

@@ -2,17 +2,23 @@
 
 use crate::boards::{Run, is_kept};
 use crate::sends::{
-    CAPACITY_ONE, FOR_EACH_OTHER, HANDED_BACK, KILLED_RUN, KILLED_SUPPLY, READY, SETS, TO_ITSELF,
-    TO_TEN, TWO_WAITS,
+    CAPACITY_ONE, FIRST_STATE_IS_DEAD, FOR_EACH_OTHER, HANDED_BACK, KILLED_RUN, KILLED_SUPPLY,
+    READY, SETS, TO_ITSELF, TO_TEN, TWO_WAITS,
 };
-use crate::strangers::{refuses_killed, refuses_second_task};
+use crate::strangers::{SECOND_TASKS, refuses_killed, refuses_second_task};
 use std::test::*;
 
-const CONFIGURED: &[Run] = &[READY, CAPACITY_ONE, KILLED_SUPPLY, KILLED_RUN, HANDED_BACK];
+const CONFIGURED: &[Run] = &[CAPACITY_ONE, KILLED_SUPPLY, KILLED_RUN, HANDED_BACK];
 
-const WAITING: &[Run] = &[SETS, FOR_EACH_OTHER, TWO_WAITS];
+const WAITING: &[Run] = &[SETS, FOR_EACH_OTHER, TWO_WAITS, FIRST_STATE_IS_DEAD];
 
 const SENDING: &[Run] = &[TO_ITSELF, TO_TEN];
+
+// The calls of the standard run, on the mail of one thread, give its journal.
+#[test]
+fn two_mails_one_journal(rt: HostRuntime) {
+    assert!(rt; is_kept(rt.alloc(), READY));
+}
 
 #[test]
 fn runs_are_configured(rt: HostRuntime) {
@@ -38,5 +44,7 @@ fn tasks_send(rt: HostRuntime) {
 #[test]
 fn strangers(rt: HostRuntime) {
     assert!(rt; refuses_killed(rt.alloc()));
-    assert!(rt; refuses_second_task(rt.alloc()));
+    for row in SECOND_TASKS {
+        assert!(rt; refuses_second_task(rt.alloc(), *row));
+    }
 }

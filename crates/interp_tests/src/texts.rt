@@ -193,3 +193,20 @@ object: L9 is_of_class LAMP
 object: X is_of_class LIGHTER
 objectset: ALL { L0, L1, L2, L3, L4, L5, L6, L7, L8, L9 }
 ";
+
+/// A valve whose first state is its dead one, and what turns it.
+pub const VALVE: &[u8] = b"class: VALVE /associated
+  state: SHUT /initial_state /dead_state
+    action: TURN
+  state: WIDE
+class: HAND
+  state: S
+    action: GO
+      do TURN V
+      if ( V in_state SHUT ) then
+        move_to T
+      endif
+  state: T
+object: V is_of_class VALVE
+object: H is_of_class HAND
+";

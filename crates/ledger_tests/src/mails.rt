@@ -87,8 +87,21 @@ fn is_of(alloc: Global, domain: &Domain, envelope: &Envelope, asked: Asked, numb
         && same_values(letter.args.values(), args.values())
 }
 
-// Posts an envelope to an object, for which room is made first: its number, or the envelope that came back.
-fn posts<M: Mail>(mail: &mut M, o: ObjId, envelope: Envelope) -> Option<Result<u64, Envelope>>
+// The envelope of a request that fits an object of the domain.
+fn fitting(alloc: Global, domain: &Domain, o: ObjId, asked: Asked) -> Option<Envelope>
+    ensures within { IfSome result (λ e. o < length domain.now.objects) }
+    ensures sender { IfSome result (λ e. is_sender domain.now e.sender ≡ true) }
+    ensures fits { IfSome result (λ e. letter_fits domain.now o e ≡ true) }
+{
+    let envelope = envelope_of(alloc, domain, asked)?;
+    if !domain.has(o) || !envelope.fits(domain, o) {
+        return None;
+    }
+    Some(envelope)
+}
+
+// Makes room for an envelope, and posts it: its number, or the envelope that came back.
+fn post<M: Mail>(mail: &mut M, o: ObjId, envelope: Envelope) -> Result<u64, Option<Envelope>>
     requires within { o < length (M.domain mail.old).objects }
     requires sender { M.serves mail.old envelope.sender ≡ true }
     requires fits { letter_fits (M.domain mail.old) o envelope ≡ true }
@@ -96,57 +109,84 @@ fn posts<M: Mail>(mail: &mut M, o: ObjId, envelope: Envelope) -> Option<Result<u
     ensures serves { M.serves mail.new ≡ M.serves mail.old }
 {
     mail.in_order(o);
-    mail.room(o).ok()?;
+    let Ok(()) = mail.room(o) else {
+        return Err(None);
+    };
     match mail.post(o, envelope) {
-        Ok(number) => Some(Ok(number)),
-        Err((_, back)) => Some(Err(back)),
+        Ok(number) => Ok(number),
+        Err((_, back)) => Err(Some(back)),
     }
 }
 
-// Posts a request to an object of the domain, where it fits.
-fn posts_asked<M: Mail>(
-    alloc: Global,
-    domain: &Domain,
-    mail: &mut M,
-    o: ObjId,
-    asked: Asked,
-) -> Option<Result<u64, Envelope>>
+// Whether a request is posted to an object, under the number.
+fn posts<M: Mail>(alloc: Global, domain: &Domain, mail: &mut M, o: ObjId, row: (Asked, u64)) -> bool
     requires domain { M.domain mail.old ≡ domain.now }
     requires serves { (s : Sender) → is_sender domain.now s ≡ true → M.serves mail.old s ≡ true }
     ensures domain { M.domain mail.new ≡ M.domain mail.old }
     ensures serves { M.serves mail.new ≡ M.serves mail.old }
 {
-    let envelope = envelope_of(alloc, domain, asked)?;
-    if !domain.has(o) || !envelope.fits(domain, o) {
-        return None;
+    let (asked, number) = row;
+    match fitting(alloc, domain, o, asked) {
+        Some(envelope) => post(mail, o, envelope).ok() == Some(number),
+        None => false,
     }
-    posts(mail, o, envelope)
 }
 
-// Takes a request of the mailbox of an object of the domain, and posts it there again.
-fn goes_round<M: Mail>(domain: &Domain, mail: &mut M, o: ObjId) -> Option<Result<u64, Envelope>>
+// Whether a request is posted to an object and comes back as it was.
+fn is_full<M: Mail>(alloc: Global, domain: &Domain, mail: &mut M, o: ObjId, asked: Asked) -> bool
+    requires domain { M.domain mail.old ≡ domain.now }
+    requires serves { (s : Sender) → is_sender domain.now s ≡ true → M.serves mail.old s ≡ true }
+    ensures domain { M.domain mail.new ≡ M.domain mail.old }
+    ensures serves { M.serves mail.new ≡ M.serves mail.old }
+{
+    let Some(envelope) = fitting(alloc, domain, o, asked) else {
+        return false;
+    };
+    match post(mail, o, envelope) {
+        Err(Some(back)) => is_of(alloc, domain, &back, asked, 0),
+        _ => false,
+    }
+}
+
+// Whether what is taken of an object's mailbox is posted there again, under the number.
+fn goes_round<M: Mail>(domain: &Domain, mail: &mut M, o: ObjId, number: u64) -> bool
     requires domain { M.domain mail.old ≡ domain.now }
     requires serves { (s : Sender) → is_sender domain.now s ≡ true → M.serves mail.old s ≡ true }
     ensures domain { M.domain mail.new ≡ M.domain mail.old }
     ensures serves { M.serves mail.new ≡ M.serves mail.old }
 {
     if !domain.has(o) {
-        return None;
+        return false;
     }
-    let envelope = mail.take(o)?;
-    posts(mail, o, envelope)
+    match mail.take(o) {
+        Some(envelope) => post(mail, o, envelope).ok() == Some(number),
+        None => false,
+    }
 }
 
-// Takes a request of the mailbox of an object of the domain.
-fn takes<M: Mail>(domain: &Domain, mail: &mut M, o: ObjId) -> Option<Envelope>
+// Whether a request is taken of an object's mailbox, under the number.
+fn takes<M: Mail>(alloc: Global, domain: &Domain, mail: &mut M, o: ObjId, row: (Asked, u64)) -> bool
     requires domain { M.domain mail.old ≡ domain.now }
     ensures domain { M.domain mail.new ≡ M.domain mail.old }
     ensures serves { M.serves mail.new ≡ M.serves mail.old }
 {
+    let (asked, number) = row;
     if !domain.has(o) {
-        return None;
+        return false;
     }
-    mail.take(o)
+    match mail.take(o) {
+        Some(envelope) => is_of(alloc, domain, &envelope, asked, number),
+        None => false,
+    }
+}
+
+// Whether nothing is taken of an object's mailbox.
+fn is_empty<M: Mail>(domain: &Domain, mail: &mut M, o: ObjId) -> bool
+    requires domain { M.domain mail.old ≡ domain.now }
+    ensures domain { M.domain mail.new ≡ M.domain mail.old }
+    ensures serves { M.serves mail.new ≡ M.serves mail.old }
+{
+    domain.has(o) && mail.take(o).is_none()
 }
 
 // Whether a mail answers a step as it must.
@@ -157,21 +197,11 @@ fn answers<M: Mail>(alloc: Global, domain: &Domain, mail: &mut M, step: Move) ->
     ensures serves { M.serves mail.new ≡ M.serves mail.old }
 {
     match step {
-        Move::Posts(o, asked, number) => {
-            matches!(posts_asked(alloc, domain, mail, ObjId::new(o), asked), Some(Ok(told)) if told == number)
-        }
-        Move::Full(o, asked) => match posts_asked(alloc, domain, mail, ObjId::new(o), asked) {
-            Some(Err(back)) => is_of(alloc, domain, &back, asked, 0),
-            _ => false,
-        },
-        Move::Takes(o, asked, number) => match takes(domain, mail, ObjId::new(o)) {
-            Some(envelope) => is_of(alloc, domain, &envelope, asked, number),
-            None => false,
-        },
-        Move::Empty(o) => takes(domain, mail, ObjId::new(o)).is_none(),
-        Move::GoesRound(o, number) => {
-            matches!(goes_round(domain, mail, ObjId::new(o)), Some(Ok(told)) if told == number)
-        }
+        Move::Posts(o, asked, number) => posts(alloc, domain, mail, ObjId::new(o), (asked, number)),
+        Move::Full(o, asked) => is_full(alloc, domain, mail, ObjId::new(o), asked),
+        Move::Takes(o, asked, number) => takes(alloc, domain, mail, ObjId::new(o), (asked, number)),
+        Move::Empty(o) => is_empty(domain, mail, ObjId::new(o)),
+        Move::GoesRound(o, number) => goes_round(domain, mail, ObjId::new(o), number),
     }
 }
 

@@ -1,8 +1,9 @@
-//! The program `read_bench`: how fast texts of domains are read, checked and printed, ledgers kept and tasks run.
+//! The program `read_bench`: how fast texts of domains are read, checked and printed, ledgers and boards kept, and tasks run.
 #![tactic(auto)]
 
 ghost use Rattle.std.specs.Prelude.{◌≤◌};
 
+mod boards;
 mod ledgers;
 mod made_text;
 mod moves;
@@ -27,13 +28,15 @@ usage: read_bench time ROUNDS         over made texts: one of 1 MiB, and sixteen
        read_bench write FILE CLASSES  writes a made text, for other readers
        read_bench ledgers             over ledgers with a thousand and with a million entries
        read_bench moves               over tasks of small and of long actions
+       read_bench boards              over boards with a thousand and with a million entries
 
 The least time of so many rounds is printed, with the speed in MB/s (a million bytes a second, of the
 texts that were read): of reading into memory of Global and into an arena, of looking for a fault, of
 checking, which looks for a fault and makes the domain, and of printing. A made text is legal. It has
 4 KiB, and 20 KiB more for each class, and CLASSES is 3 to 51. Of ledgers the time of one call is
 printed, beside that of a push on a plain list of entries in the same run: the entries and look-ups
-of 64 objects, each after so many entries. Of tasks the time of a move is printed, with its answer.";
+of 64 objects, each after so many entries. Of tasks the time of a move is printed, with its answer. Of
+boards the time of an entry is printed, where two supplies are switched on over and over.";
 
 fn main(rt: HostRuntime) -> Result<()> {
     let words: Vec<String> = env::args(&rt)?.collect(rt.alloc())?;
@@ -53,6 +56,7 @@ fn drive<R: Files + Clock + Print + AllocGlobal>(rt: &R, words: &[&str]) -> Resu
         [_, "time", rounds, file] => time_file(rt, rounds, file),
         [_, "ledgers"] => ledgers::report(rt),
         [_, "moves"] => moves::report(rt),
+        [_, "boards"] => boards::report(rt),
         [_, "write", file, classes] => write_made_text(rt, file, classes),
         _ => bail!("see `read_bench --help` for what may be asked"),
     }

@@ -36,6 +36,15 @@ fn judged(alloc: Global, domain: Arc<Domain>, entries: &[Entry]) -> Result<Judge
 /// # Errors
 ///
 /// Those of `read_journal`. `Memory`, for want of memory, may come also while the journal is judged.
+///
+/// # Example
+///
+/// `command_tests` has it as `first_calls::judges`; L is a lamp that is off:
+///
+/// ```
+/// let journal = b"smi-journal 1\nstart L @1 0 LIGHT\nend L ON\n";
+/// let judgement = audit(alloc, domain, journal)?;   // Judgement::Legal
+/// ```
 pub fn audit(alloc: Global, domain: Arc<Domain>, bytes: &[u8]) -> Result<Judgement, JournalError>
     ensures judged { IfOk result (Judges (arc_value domain) bytes.now) }
     ensures err { IfErr result (λ e. IsRefused (arc_value domain) bytes.now e) }

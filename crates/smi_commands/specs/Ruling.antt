@@ -27,6 +27,6 @@ IsNotJudged d path bytes fault.Memory = Unit {0}
 IsNotJudged d path bytes (fault.Read _ _) = ⊥
 IsNotJudged d path bytes (fault.Check _ _) = ⊥
 IsNotJudged d path bytes fault.WrongNumbers = ⊥
-IsNotJudged d path bytes (fault.Unreadable _) = ⊥
+IsNotJudged d path bytes (fault.Unreadable _ _) = ⊥
 IsNotJudged d path bytes (fault.TooLong _) = ⊥
 IsNotJudged d path bytes fault.Output = ⊥

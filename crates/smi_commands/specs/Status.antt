@@ -11,7 +11,7 @@ abbrev pub fault_status : Fault → ℕ
 fault_status (Read _ _) = 1
 fault_status (Check _ _) = 1
 fault_status WrongNumbers = 2
-fault_status (Unreadable _) = 1
+fault_status (Unreadable _ _) = 1
 fault_status (TooLong _) = 1
 fault_status (BadHeader _) = 1
 fault_status (BadLine _ _) = 1
@@ -25,7 +25,7 @@ fault_line (Read file e) = Some (file.now ++ codes " read " ++ decimal (number_o
 fault_line (Check file e) = Some (file.now ++ codes " check " ++ decimal (check.number_of e.kind) ++ codes " " ++ check.name_of e.kind
     ++ codes " " ++ e.name)
 fault_line WrongNumbers = Some (codes "capacity is 1 to 1024, max-starts 1 to 1000000")
-fault_line (Unreadable file) = Some (file.now ++ codes " unreadable")
+fault_line (Unreadable file _) = Some (file.now ++ codes " unreadable")
 fault_line (TooLong file) = Some (file.now ++ codes " too long")
 fault_line (BadHeader file) = Some (file.now ++ codes " bad header")
 fault_line (BadLine file n) = Some (file.now ++ codes " bad line " ++ decimal n)

@@ -11,7 +11,7 @@ use crate::status::{DONE, WRONG_WORDS};
 use crate::step::{StepOptions, run_step};
 use std::fs::Files;
 use std::io;
-use std::io::{ErrorKind, Write};
+use std::io::{ErrorKind, Read, Write};
 
 /// What the program is asked to do.
 #[derive(Drop)]
@@ -28,24 +28,26 @@ pub enum Asked<'a> {
 
 /// Does what is asked, and gives the exit status.
 ///
-/// What the command gives goes to `output`, and a fault line (docs/FORMATS.md, "Fault lines and exit
-/// statuses") to `errors`. A fault of `errors` changes nothing, since there is no place left to tell it.
-pub fn perform<R: Files + AllocGlobal, W: Write, E: Write>(
+/// A file that is named `-` is `input`. What the command gives goes to `output`, and a fault line
+/// (docs/FORMATS.md, "Fault lines and exit statuses") to `errors`. A fault of `errors` changes nothing, since
+/// there is no place left to tell it.
+pub fn perform<R: Files + AllocGlobal, I: Read, W: Write, E: Write>(
     rt: &R,
     asked: &Asked<'_>,
+    input: &mut I,
     output: &mut W,
     errors: &mut E,
 ) -> u8
     ensures { result ≤ 4 }
 {
     match asked {
-        Asked::Check(files) => match run_check(rt, files.as_slice(), output) {
+        Asked::Check(files) => match run_check(rt, files.as_slice(), input, output, errors) {
             Ok(status) => status,
             Err(fault) => fault.tell(errors),
         },
-        Asked::Print(file) => ended(&run_print(rt, file, output), errors),
-        Asked::Step(options) => ended(&run_step(rt, options, output), errors),
-        Asked::Audit(options) => match run_audit(rt, options, output, errors) {
+        Asked::Print(file) => ended(&run_print(rt, file, input, output), errors),
+        Asked::Step(options) => ended(&run_step(rt, options, input, output), errors),
+        Asked::Audit(options) => match run_audit(rt, options, input, output, errors) {
             Ok(status) => status,
             Err(fault) => fault.tell(errors),
         },

@@ -4,6 +4,7 @@ ghost use Rattle.std.specs.Arc.{arc_value};
 ghost use Rattle.sml_text.specs.Written.{Wrote};
 ghost use Rattle.smi_audit.specs.Audit.{Judges};
 ghost use Rattle.smi_commands.specs.Ruling.{IsNotJudged, ruling_status, ruling_text};
+ghost use Rattle.smi_commands.specs.declared.audit.TheConstants.{LONGEST_JOURNAL};
 
 use crate::fault::Fault;
 use crate::loading::load_domain;
@@ -17,41 +18,42 @@ use sml_domain::domain::Domain;
 use sml_text::writing::{Sink, put};
 use std::alloc::{AllocError, Global};
 use std::fs::Files;
-use std::io::Write;
+use std::io::{Read, Write};
 use std::sync::Arc;
 
 /// What `audit` is asked to judge. The texts are words of a command line.
 #[derive(Drop)]
 pub struct AuditOptions<'a> {
-    /// The path of the domain file.
+    /// The path of the domain file, or `-`.
     pub file: &'a str,
-    /// The path of the journal.
+    /// The path of the journal, or `-`.
     pub journal: &'a str,
     /// Whether it is said what stands against a line that may not stand.
     pub explain: bool,
 }
 
-// How many bytes a journal may have.
-const LONGEST_JOURNAL: usize = 67_108_864;
+/// How many bytes a journal may have.
+pub const LONGEST_JOURNAL: usize = 67_108_864;
 
 /// Judges the journal by the domain, writes what the judge says, and gives the exit status. The domain is read
 /// and checked before the journal is opened, and the journal is read whole before it is judged.
 ///
 /// What stands against a line goes to `errors`, where it is asked for, once the line of the judge is written. The
 /// journal is then read and judged once more, up to that line.
-pub fn run_audit<'a, R: Files + AllocGlobal, W: Write, E: Write>(
+pub fn run_audit<'a, R: Files + AllocGlobal, I: Read, W: Write, E: Write>(
     rt: &R,
     options: &AuditOptions<'a>,
+    input: &mut I,
     output: &mut W,
     errors: &mut E,
 ) -> Result<u8, Fault<'a>>
     ensures { IfOk result (λ status. status ≤ 4) }
 {
-    let domain = match load_domain(rt, options.file) {
+    let domain = match load_domain(rt, input, options.file) {
         Ok(domain) => domain,
         Err(fault) => return Err(fault),
     };
-    let bytes = match load_journal(rt, options.journal) {
+    let bytes = match load_journal(rt, input, options.journal) {
         Ok(bytes) => bytes,
         Err(fault) => return Err(fault),
     };
@@ -102,12 +104,13 @@ fn explain_ruling<E: Sink>(
 }
 
 // The bytes of a journal.
-fn load_journal<'a, R: Files + AllocGlobal>(
+fn load_journal<'a, R: Files + AllocGlobal, I: Read>(
     rt: &R,
+    input: &mut I,
     journal: &'a str,
 ) -> Result<Vec<u8>, Fault<'a>> {
     // One byte more, so that a journal which is too long is seen to be so.
-    match load_prefix(rt, journal, LONGEST_JOURNAL as u64 + 1) {
+    match load_prefix(rt, input, journal, LONGEST_JOURNAL as u64 + 1) {
         Ok(bytes) => within_limit(journal, bytes),
         Err(error) => Err(Fault::of_input(journal, &error)),
     }
@@ -115,8 +118,8 @@ fn load_journal<'a, R: Files + AllocGlobal>(
 
 // The bytes of a journal, unless there are too many.
 fn within_limit<'a>(journal: &'a str, bytes: Vec<u8>) -> Result<Vec<u8>, Fault<'a>>
-    ensures ok { IfOk result (λ all. (all.items ≡ bytes.items) × (length bytes.items ≤ 67108864)) }
-    ensures err { IfErr result (λ fault. (fault ≡ Fault.TooLong journal.entry) × (67108864 < length bytes.items)) }
+    ensures ok { IfOk result (λ all. (all.items ≡ bytes.items) × (length bytes.items ≤ LONGEST_JOURNAL)) }
+    ensures err { IfErr result (λ fault. (fault ≡ Fault.TooLong journal.entry) × (LONGEST_JOURNAL < length bytes.items)) }
 {
     if bytes.len() > LONGEST_JOURNAL {
         Err(Fault::TooLong(journal))

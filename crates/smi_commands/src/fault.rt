@@ -1,5 +1,5 @@
 //! Why a command ends before it is done.
-ghost use Rattle.std.specs.Prelude.{◌≡◌, ◌≢◌, ◌≤◌, ℕ};
+ghost use Rattle.std.specs.Prelude.{◌≡◌, ◌≢◌, ◌≤◌, ℕ, Some, None};
 ghost use Rattle.std.specs.IoError.{error_kind};
 ghost use Rattle.smi_commands.specs.Status.{fault_status};
 
@@ -24,8 +24,8 @@ pub enum Fault<'a> {
     Check(&'a str, CheckError),
     /// The capacity or the limit of starts is out of range. The numbers of a command line never are.
     WrongNumbers,
-    /// The file cannot be opened or read.
-    Unreadable(&'a str),
+    /// The file cannot be opened or read, for this cause where the system told one.
+    Unreadable(&'a str, Option<io::Error>),
     /// The schedule or the journal is past its limit.
     TooLong(&'a str),
     /// The journal does not begin with the first line of journals.
@@ -47,18 +47,22 @@ impl<'a> Fault<'a> {
         match *self {
             Fault::Read(..) | Fault::Check(..) | Fault::BadHeader(_) | Fault::BadLine(..) =>
                 REFUSED,
-            Fault::Unreadable(_) | Fault::TooLong(_) | Fault::Output => REFUSED,
+            Fault::Unreadable(..) | Fault::TooLong(_) | Fault::Output => REFUSED,
             Fault::WrongNumbers => WRONG_WORDS,
             Fault::Memory => NO_MEMORY,
         }
     }
 
-    /// Writes the line of the fault, and gives its status. A fault of the writer changes nothing.
+    /// Writes the line of the fault, and behind it the cause where the system told one, and gives the status
+    /// of the fault. A fault of the writer changes nothing.
     pub fn tell<E: Write>(&self, errors: &mut E) -> u8
         ensures status { result ≡ fault_status self.now }
         ensures range { result ≤ 3 }
     {
         let _ = writeln!(errors, "{self}");
+        if let Fault::Unreadable(file, Some(cause)) = self {
+            tell_cause(file, cause, errors);
+        }
         self.status()
     }
 
@@ -88,11 +92,11 @@ impl<'a> Fault<'a> {
     pub fn of_input(file: &'a str, error: &io::Error) -> Fault<'a>
         ensures memory { error_kind error.now ≡ ErrorKind.OutOfMemory → result ≡ Fault.Memory }
         ensures unreadable { error_kind error.now ≢ ErrorKind.OutOfMemory
-            → result ≡ Fault.Unreadable file.entry }
+            → result ≡ Fault.Unreadable file.entry (Some error.now) }
     {
         match error.kind() {
             ErrorKind::OutOfMemory => Fault::Memory,
-            _ => Fault::Unreadable(file),
+            _ => Fault::Unreadable(file, Some(*error)),
         }
     }
 
@@ -109,13 +113,13 @@ impl<'a> Fault<'a> {
 
     /// The fault of a schedule that could not be run to its end.
     pub fn of_schedule(schedule: &'a str, fault: ScheduleFault) -> Fault<'a>
-        ensures read { fault ≡ ScheduleFault.Read → result ≡ Fault.Unreadable schedule.entry }
+        ensures read { fault ≡ ScheduleFault.Read → result ≡ Fault.Unreadable schedule.entry None }
         ensures write { fault ≡ ScheduleFault.Write → result ≡ Fault.Output }
         ensures too_long { fault ≡ ScheduleFault.TooLong → result ≡ Fault.TooLong schedule.entry }
         ensures memory { fault ≡ ScheduleFault.Memory → result ≡ Fault.Memory }
     {
         match fault {
-            ScheduleFault::Read => Fault::Unreadable(schedule),
+            ScheduleFault::Read => Fault::Unreadable(schedule, None),
             ScheduleFault::Write => Fault::Output,
             ScheduleFault::TooLong => Fault::TooLong(schedule),
             ScheduleFault::Memory => Fault::Memory,
@@ -147,7 +151,7 @@ impl fmt::Display for Fault<'_> {
             Fault::Read(file, error) => write!(f, "{file} {}", Judgement::Read(*error)),
             Fault::Check(file, error) => write!(f, "{file} {}", Judgement::Check(*error)),
             Fault::WrongNumbers => f.write_str("capacity is 1 to 1024, max-starts 1 to 1000000"),
-            Fault::Unreadable(file) => write!(f, "{file} unreadable"),
+            Fault::Unreadable(file, _) => write!(f, "{file} unreadable"),
             Fault::TooLong(file) => write!(f, "{file} too long"),
             Fault::BadHeader(file) => write!(f, "{file} bad header"),
             Fault::BadLine(file, number) => write!(f, "{file} bad line {number}"),
@@ -158,3 +162,9 @@ impl fmt::Display for Fault<'_> {
 }
 
 impl Error for Fault<'_> {}
+
+/// Writes why a file cannot be opened or read, in the words of the system. A fault of the writer changes
+/// nothing.
+pub fn tell_cause<E: Write>(file: &str, cause: &io::Error, errors: &mut E) {
+    let _ = writeln!(errors, "{file}: {cause}");
+}

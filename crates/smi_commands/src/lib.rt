@@ -15,11 +15,13 @@ mod step;
 mod text;
 
 pub use asked::{Asked, perform, refuse_words};
-pub use audit::{AuditOptions, run_audit};
+pub use audit::{AuditOptions, LONGEST_JOURNAL, run_audit};
 pub use check::run_check;
 pub use fault::Fault;
 pub use judgement::{Judgement, judge};
 pub use print::run_print;
 pub use ruling::Ruling;
+pub use smi_core::{MAX_CAPACITY, MAX_STARTS};
 pub use status::{DONE, ILLEGAL, NO_MEMORY, REFUSED, WRONG_WORDS};
 pub use step::{StepOptions, run_step};
+pub use text::STANDARD_INPUT;

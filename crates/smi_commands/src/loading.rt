@@ -10,14 +10,16 @@ use sml_checkable::laws::laws_of_read_files;
 use sml_domain::domain::Domain;
 use std::alloc::Global;
 use std::fs::Files;
+use std::io::Read;
 use std::sync::Arc;
 
 /// The domain of a file, which is read and checked.
-pub fn load_domain<'a, R: Files + AllocGlobal>(
+pub fn load_domain<'a, R: Files + AllocGlobal, I: Read>(
     rt: &R,
+    input: &mut I,
     file: &'a str,
 ) -> Result<Arc<Domain>, Fault<'a>> {
-    match load_text(rt, file) {
+    match load_text(rt, input, file) {
         Ok(text) => domain_of(rt.alloc(), file, text.as_slice()),
         Err(error) => Err(Fault::of_input(file, &error)),
     }

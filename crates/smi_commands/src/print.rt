@@ -11,16 +11,17 @@ use bumpalo::Bump;
 use sml_print::{PrintFault, write_to};
 use std::alloc::{Allocator, Global};
 use std::fs::Files;
-use std::io::{BufWriter, Write};
+use std::io::{BufWriter, Read, Write};
 
 /// Prints the canonical text of a domain file, which is read and not checked. At a fault of the
 /// output a prefix of the text is written.
-pub fn run_print<'a, R: Files + AllocGlobal, W: Write>(
+pub fn run_print<'a, R: Files + AllocGlobal, I: Read, W: Write>(
     rt: &R,
     file: &'a str,
+    input: &mut I,
     output: &mut W,
 ) -> Result<(), Fault<'a>> {
-    match load_text(rt, file) {
+    match load_text(rt, input, file) {
         Ok(text) => print_all(rt.alloc(), file, text.as_slice(), output),
         Err(error) => Err(Fault::of_input(file, &error)),
     }

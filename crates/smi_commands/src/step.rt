@@ -5,9 +5,11 @@ ghost use Rattle.sml_text.specs.Written.{Wrote};
 ghost use Rattle.smi_journal.specs.JournalText.{journal_text};
 ghost use Rattle.smi_core.specs.Feeds.{Outputs, lines_of};
 ghost use Rattle.smi_core.specs.Output.{LineWrites};
+ghost use Rattle.smi_core.specs.declared.schedule.TheConstants.{LONGEST_SCHEDULE};
 
 use crate::fault::Fault;
 use crate::loading::load_domain;
+use crate::text::STANDARD_INPUT;
 use smi_core::{Core, Input, run_schedule};
 use smi_journal::journal_text::write_journal;
 use sml_text::writing::Sink;
@@ -19,13 +21,13 @@ use std::io::{BufWriter, Read, Write};
 /// What `step` is asked to do. The texts are words of a command line.
 #[derive(Drop)]
 pub struct StepOptions<'a> {
-    /// The path of the domain file.
+    /// The path of the domain file, or `-`.
     pub file: &'a str,
-    /// The path of the schedule.
+    /// The path of the schedule, or `-`.
     pub schedule: &'a str,
-    /// How many requests wait at an object at most, 1 to 1,024.
+    /// How many requests wait at an object at most, 1 to `MAX_CAPACITY`.
     pub capacity: usize,
-    /// How many actions are started at most, 1 to 1,000,000.
+    /// How many actions are started at most, 1 to `MAX_STARTS`.
     pub max_starts: usize,
     /// The path that the journal is written to, if it is.
     pub journal: Option<&'a str>,
@@ -34,16 +36,17 @@ pub struct StepOptions<'a> {
 /// Runs the schedule on the domain, and then writes the journal where that is asked for. The domain is read
 /// and checked before the schedule is opened, and the schedule is read as it runs, so at a fault a prefix of
 /// the output is written. The file of the journal is made, or emptied, when all the output is written.
-pub fn run_step<'a, R: Files + AllocGlobal, W: Write>(
+pub fn run_step<'a, R: Files + AllocGlobal, I: Read, W: Write>(
     rt: &R,
     options: &StepOptions<'a>,
+    input: &mut I,
     output: &mut W,
 ) -> Result<(), Fault<'a>> {
-    let mut core = match load_core(rt, options) {
+    let mut core = match load_core(rt, options, input) {
         Ok(core) => core,
         Err(fault) => return Err(fault),
     };
-    if let Err(fault) = run_file(rt, &mut core, options.schedule, output) {
+    if let Err(fault) = run_file(rt, &mut core, options.schedule, input, output) {
         return Err(fault);
     }
     match options.journal {
@@ -53,11 +56,12 @@ pub fn run_step<'a, R: Files + AllocGlobal, W: Write>(
 }
 
 // The core of a domain file.
-fn load_core<'a, R: Files + AllocGlobal>(
+fn load_core<'a, R: Files + AllocGlobal, I: Read>(
     rt: &R,
     options: &StepOptions<'a>,
+    input: &mut I,
 ) -> Result<Core, Fault<'a>> {
-    let domain = match load_domain(rt, options.file) {
+    let domain = match load_domain(rt, input, options.file) {
         Ok(domain) => domain,
         Err(fault) => return Err(fault),
     };
@@ -67,13 +71,17 @@ fn load_core<'a, R: Files + AllocGlobal>(
     }
 }
 
-// Runs the schedule of a file.
-fn run_file<'a, R: Files + AllocGlobal, W: Write>(
+// Runs the schedule of a file, or of the input.
+fn run_file<'a, R: Files + AllocGlobal, I: Read, W: Write>(
     rt: &R,
     core: &mut Core,
     schedule: &'a str,
+    input: &mut I,
     output: &mut W,
 ) -> Result<(), Fault<'a>> {
+    if schedule == STANDARD_INPUT {
+        return run_all(rt.alloc(), core, schedule, input, output);
+    }
     match fs::open(rt, schedule) {
         Ok(mut reader) => run_all(rt.alloc(), core, schedule, &mut reader, output),
         Err(error) => Err(Fault::of_input(schedule, &error)),
@@ -110,7 +118,7 @@ fn run_steps<'a, I: Input, W: Sink>(
     writer: &mut W,
 ) -> Result<(), Fault<'a>>
     ensures { OnOk result ((text : List ℕ) × Consumes (I.remaining reader.old) (I.remaining reader.new) text
-        × IsAtEnd (I.remaining reader.new) × (length text ≤ 16777216)
+        × IsAtEnd (I.remaining reader.new) × (length text ≤ LONGEST_SCHEDULE)
         × ((out : List ℕ) × Appends (W.contents writer.old) (W.contents writer.new) out
         × Outputs LineWrites core.old (lines_of text) out core.new)) }
 {

@@ -7,10 +7,10 @@ mod schedule;
 mod schedule_laws;
 
 pub use runs::run;
-pub use schedule::{Input, ScheduleFault, run_schedule};
+pub use schedule::{Input, LONGEST_SCHEDULE, ScheduleFault, run_schedule};
 pub use schedule_laws::every_schedule;
 pub use smi_entry::session::SessionId;
-pub use smi_lines::line::{LineError, read_step};
-pub use smi_machine::stepper::{Core, CoreError};
+pub use smi_lines::line::{LONGEST_LINE, LineError, read_step};
+pub use smi_machine::stepper::{Core, CoreError, MAX_CAPACITY, MAX_STARTS};
 pub use smi_world::refusal::StepError;
 pub use smi_world::step::{Answer, Arguments, Step};

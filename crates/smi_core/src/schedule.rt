@@ -7,6 +7,7 @@ ghost use Rattle.smi_lines.specs.Line.{LineReads};
 ghost use Rattle.smi_core.specs.Feeds.{Outputs, IsPending, Torn, Went, Halted, FirstLines, WholeLines, lines_of};
 ghost use Rattle.smi_core.specs.Output.{Writes, LineWrites};
 ghost use Rattle.smi_core.specs.FaultText.{schedule_fault_text};
+ghost use Rattle.smi_core.specs.declared.schedule.TheConstants.{LONGEST_SCHEDULE};
 
 use smi_entry::entry::Entry;
 use smi_lines::answer::{tell_answer, tell_refused};
@@ -27,7 +28,7 @@ pub enum ScheduleFault {
     Read,
     /// The writer failed, or took no byte of some.
     Write,
-    /// The text has more than 16,777,216 bytes.
+    /// The text has more than `LONGEST_SCHEDULE` bytes.
     TooLong,
     /// Out of memory.
     Memory,
@@ -67,8 +68,8 @@ impl LineFault {
     }
 }
 
-// How many bytes a schedule may have.
-const LONGEST_TEXT: usize = 16_777_216;
+/// How many bytes a schedule may have.
+pub const LONGEST_SCHEDULE: usize = 16_777_216;
 
 // What is kept of a line whose end has not come: its bytes, unless there are too many.
 #[derive(Drop)]
@@ -295,23 +296,32 @@ impl<R: Read> Input for R {
 ///
 /// Lines that are no steps, and steps that are refused, are told in the output and end nothing. `Read`
 /// comes where the reader failed, `Write` where the writer failed or took nothing, `TooLong` past
-/// 16,777,216 bytes, `Memory` where an allocation failed, of a step too. After a fault the first lines
+/// `LONGEST_SCHEDULE` bytes, `Memory` where an allocation failed, of a step too. After a fault the first lines
 /// of what was read are made and what they write is written, but for an end of it at `Write`; a line
 /// that was cut off by the fault is not made. It is read in parts of 4,096 bytes; each turn reads a byte
 /// or ends. Memory is taken for one line and for the journal. Every `Read` is an `Input` and every
 /// `Write` a `Sink`.
+///
+/// `command_tests` has this example as `first_calls::steps_and_runs`; L is a lamp that is off:
+///
+/// ```
+/// let mut schedule = b"request @1 L LIGHT\nstart L\ngo L\n".as_slice();
+/// let mut output = Vec::new(alloc);
+/// run_schedule(alloc, &mut core, &mut schedule, &mut output)?;
+/// // the output: accept @1 L 0 LIGHT\nstart L @1 0 LIGHT\nend L ON\n
+/// ```
 pub fn run_schedule<R: Input, W: Sink>(
     alloc: Global,
     core: &mut Core,
     reader: &mut R,
     writer: &mut W,
 ) -> Result<(), ScheduleFault>
-    ensures ok { OnOk result ((text : List ℕ) × Consumes (R.remaining reader.old) (R.remaining reader.new) text × IsAtEnd (R.remaining reader.new) × (length text ≤ 16777216)
+    ensures ok { OnOk result ((text : List ℕ) × Consumes (R.remaining reader.old) (R.remaining reader.new) text × IsAtEnd (R.remaining reader.new) × (length text ≤ LONGEST_SCHEDULE)
         × ((out : List ℕ) × Appends (W.contents writer.old) (W.contents writer.new) out × Outputs LineWrites core.old (lines_of text) out core.new)) }
     ensures err { OnErr result ((text : List ℕ) × Consumes (R.remaining reader.old) (R.remaining reader.new) text
         × FirstLines LineWrites core.old text (result ≡ Err ScheduleFault.Write) (W.contents writer.old) (W.contents writer.new) core.new
-        × ((length text ≤ 16777216) ⊎ (result ≡ Err ScheduleFault.TooLong))) }
-    ensures too_long { result ≡ Err ScheduleFault.TooLong → (text : List ℕ) × (more : List ℕ) × Consumes (R.remaining reader.old) (R.remaining reader.new) (text ++ more) × (16777216 < length (text ++ more))
+        × ((length text ≤ LONGEST_SCHEDULE) ⊎ (result ≡ Err ScheduleFault.TooLong))) }
+    ensures too_long { result ≡ Err ScheduleFault.TooLong → (text : List ℕ) × (more : List ℕ) × Consumes (R.remaining reader.old) (R.remaining reader.new) (text ++ more) × (LONGEST_SCHEDULE < length (text ++ more))
         × WholeLines LineWrites core.old text (W.contents writer.old) (W.contents writer.new) core.new }
     ensures cut { result ≡ Err ScheduleFault.Read → (text : List ℕ) × Consumes (R.remaining reader.old) (R.remaining reader.new) text
         × WholeLines LineWrites core.old text (W.contents writer.old) (W.contents writer.new) core.new }
@@ -331,7 +341,7 @@ pub fn run_schedule<R: Input, W: Sink>(
         if n == 0 {
             break;
         }
-        if n > LONGEST_TEXT - total {
+        if n > LONGEST_SCHEDULE - total {
             return Err(ScheduleFault::TooLong);
         }
         total += n;

@@ -1,6 +1,7 @@
 //! The earlier entries that a line rests on, each by its place in the journal.
 
-use smi_entry::entry::{Entry, Sender, Verdict};
+use smi_entry::entry::{ActionEnd, Cause, Entry, Sender, Verdict};
+use sml_domain::domain::Domain;
 use sml_domain::ids::ObjId;
 
 /// The object whose entry it is.
@@ -13,6 +14,34 @@ pub(crate) fn owner(entry: &Entry) -> ObjId {
     }
 }
 
+/// Whether it is the fault of a device at an object that has none.
+pub(crate) fn is_fault_without_device(domain: &Domain, entry: &Entry) -> bool {
+    match entry {
+        Entry::Kill {
+            object,
+            cause: Cause::Fault,
+        } => domain.has(*object) && !domain.associated(*object),
+        _ => false,
+    }
+}
+
+/// An entry that a line may rest on.
+#[derive(Clone, Copy)]
+pub(crate) enum Earlier {
+    /// The start of an action at an object.
+    Start(ObjId),
+    /// The start of a sender's request at an object.
+    StartOf(Sender, ObjId),
+    /// The kill of an object.
+    Kill(ObjId),
+    /// What closed an object: an end or a kill.
+    Closed(ObjId),
+    /// What gave an object its state: an end in a state, or a kill.
+    State(ObjId),
+    /// An accepted post of an object to another.
+    Post(ObjId, ObjId),
+}
+
 fn is_start(entry: &Entry, o: ObjId) -> bool {
     match entry {
         Entry::Start { object, .. } => object.get() == o.get(),
@@ -20,9 +49,9 @@ fn is_start(entry: &Entry, o: ObjId) -> bool {
     }
 }
 
-fn is_start_of(entry: &Entry, by: &Sender, o: ObjId) -> bool {
+fn is_sent_by(entry: &Entry, by: Sender) -> bool {
     match entry {
-        Entry::Start { object, sender, .. } => object.get() == o.get() && sender.is(by),
+        Entry::Start { sender, .. } => sender.is(&by),
         _ => false,
     }
 }
@@ -37,6 +66,13 @@ fn is_kill(entry: &Entry, o: ObjId) -> bool {
 fn is_end(entry: &Entry, o: ObjId) -> bool {
     match entry {
         Entry::End { object, .. } => object.get() == o.get(),
+        _ => false,
+    }
+}
+
+fn is_skip(entry: &Entry) -> bool {
+    match entry {
+        Entry::End { result, .. } => matches!(result, ActionEnd::Skipped),
         _ => false,
     }
 }
@@ -57,33 +93,20 @@ fn is_accepted_post(entry: &Entry, a: ObjId, b: ObjId) -> bool {
     }
 }
 
-/// The last start at an object.
-pub(crate) fn last_start(entries: &[Entry], o: ObjId) -> Option<usize> {
-    entries.iter().rposition(|entry| is_start(entry, o))
+fn is_that(entry: &Entry, earlier: Earlier) -> bool {
+    match earlier {
+        Earlier::Start(o) => is_start(entry, o),
+        Earlier::StartOf(by, o) => is_start(entry, o) && is_sent_by(entry, by),
+        Earlier::Kill(o) => is_kill(entry, o),
+        Earlier::Closed(o) => is_end(entry, o) || is_kill(entry, o),
+        Earlier::State(o) => (is_end(entry, o) && !is_skip(entry)) || is_kill(entry, o),
+        Earlier::Post(a, b) => is_accepted_post(entry, a, b),
+    }
 }
 
-/// The last start of a sender's request at an object.
-pub(crate) fn last_start_of(entries: &[Entry], by: &Sender, o: ObjId) -> Option<usize> {
-    entries.iter().rposition(|entry| is_start_of(entry, by, o))
-}
-
-/// The last kill of an object.
-pub(crate) fn last_kill(entries: &[Entry], o: ObjId) -> Option<usize> {
-    entries.iter().rposition(|entry| is_kill(entry, o))
-}
-
-/// What gave an object its state last: an end or a kill.
-pub(crate) fn last_end(entries: &[Entry], o: ObjId) -> Option<usize> {
-    entries
-        .iter()
-        .rposition(|entry| is_end(entry, o) || is_kill(entry, o))
-}
-
-/// The last accepted post of an object to another.
-pub(crate) fn last_post(entries: &[Entry], a: ObjId, b: ObjId) -> Option<usize> {
-    entries
-        .iter()
-        .rposition(|entry| is_accepted_post(entry, a, b))
+/// The place of the last such entry.
+pub(crate) fn last(entries: &[Entry], earlier: Earlier) -> Option<usize> {
+    entries.iter().rposition(|entry| is_that(entry, earlier))
 }
 
 /// The accepted post of an object to another that has this number.

@@ -1,9 +1,9 @@
 //! The explanation of a line.
-ghost use Rattle.std.specs.Prelude.{◌+◌, ◌<◌, ◌^◌, All, length};
+ghost use Rattle.std.specs.Prelude.{◌+◌, ◌<◌, ◌^◌, All, IfSome, length};
 ghost use Rattle.std.specs.Arc.{arc_value};
 ghost use Rattle.smi_journal.specs.HasText.{HasText};
 
-use crate::earlier::{last_end, last_kill, last_post, last_start, last_start_of, owner, post_of};
+use crate::earlier::{Earlier, is_fault_without_device, last, owner, post_of};
 use crate::sentence::{first_busy, first_misread, tell_sentence};
 use smi_audit::past::{Past, PastError};
 use smi_entry::entry::{Entry, Sender, Verdict};
@@ -39,7 +39,7 @@ fn busy_since(past: &Past, o: ObjId, busy: ObjId) -> Option<usize> {
         return None;
     }
     if ledger.is_open(busy) {
-        return last_start(ledger.journal(), busy);
+        return last(ledger.journal(), Earlier::Start(busy));
     }
     let started = ledger.started(&Sender::Object(o), busy);
     post_of(ledger.journal(), o, busy, started as u64)
@@ -49,8 +49,8 @@ fn busy_since(past: &Past, o: ObjId, busy: ObjId) -> Option<usize> {
 fn counted_from(past: &Past, entry: &Entry) -> Option<usize> {
     let entries = past.ledger().journal();
     match entry {
-        Entry::Start { object, sender, .. } => last_start_of(entries, sender, *object),
-        Entry::Post { sender, target, .. } => last_post(entries, *sender, *target),
+        Entry::Start { object, sender, .. } => last(entries, Earlier::StartOf(*sender, *object)),
+        Entry::Post { sender, target, .. } => last(entries, Earlier::Post(*sender, *target)),
         _ => None,
     }
 }
@@ -75,7 +75,7 @@ fn target_killed(past: &Past, entry: &Entry) -> Option<usize> {
             target,
             verdict: Verdict::Accepted(_) | Verdict::Full,
             ..
-        } => last_kill(past.ledger().journal(), *target),
+        } => last(past.ledger().journal(), Earlier::Kill(*target)),
         _ => None,
     }
 }
@@ -90,7 +90,17 @@ fn read_against(past: &Past, entry: &Entry, is_busy: bool) -> Option<usize> {
         busy_since(past, *object, busy)
     } else {
         let misread = first_misread(past, readings.list())?;
-        last_end(past.ledger().journal(), misread)
+        last(past.ledger().journal(), Earlier::State(misread))
+    }
+}
+
+// The earlier entry behind which nothing is open at the object of an entry.
+fn closed_by(past: &Past, entry: &Entry) -> Option<usize> {
+    let ledger = past.ledger();
+    if is_fault_without_device(ledger.domain(), entry) {
+        None
+    } else {
+        last(ledger.journal(), Earlier::Closed(owner(entry)))
     }
 }
 
@@ -99,21 +109,35 @@ fn rests_on(past: &Past, entry: &Entry, rule: Rule) -> Option<usize> {
     let entries = past.ledger().journal();
     let o = owner(entry);
     match rule {
-        Rule::Killed => last_kill(entries, o),
-        Rule::Open | Rule::Meaning | Rule::Clear | Rule::NotAState => last_start(entries, o),
+        Rule::Killed => last(entries, Earlier::Kill(o)),
+        Rule::Open | Rule::Meaning | Rule::Clear | Rule::NotAState => {
+            last(entries, Earlier::Start(o))
+        }
         Rule::Number => counted_from(past, entry),
         Rule::NotSent => sent_as(past, entry),
         Rule::BadRequest => None,
-        Rule::NotOpen => last_end(entries, o),
+        Rule::NotOpen => closed_by(past, entry),
         Rule::Dead => target_killed(past, entry),
         Rule::Busy => read_against(past, entry, true),
         Rule::Reading => read_against(past, entry, false),
     }
 }
 
+// The place of the entry in a line of a journal. The first line is the header.
+fn place_of(line: u64, entries: &[Entry]) -> Option<usize>
+    ensures { IfSome result (λ place. place < length entries.now) }
+{
+    let place = line.checked_sub(2)? as usize;
+    if place < entries.len() {
+        Some(place)
+    } else {
+        None
+    }
+}
+
 /// Writes what stands against a line of a journal: its text, one sentence, and the earlier line that this
-/// rests on, if there is one. Line and rule are those of a `Judgement` of these entries; for another line
-/// nothing is written.
+/// rests on, if there is one. Line and rule are those of a `Judgement` of these entries. Nothing is written
+/// where the line has no entry, or one before it may not stand.
 ///
 /// It is text for people, and no part of a format. What is written is not promised, and only tests hold it. The
 /// time and the memory are those of judging the entries before the line.
@@ -129,10 +153,9 @@ pub fn explain<W: Sink>(
     requires texts { All (HasText (arc_value domain)) entries.now }
     requires few { length entries.now + 2 < 2 ^ 64 }
 {
-    let place = line.saturating_sub(2) as usize;
-    if place >= entries.len() {
+    let Some(place) = place_of(line, entries) else {
         return Ok(());
-    }
+    };
     let (before, rest) = entries.split_at(place);
     let past = match Past::of(alloc, domain, before) {
         Ok(past) => past,

@@ -2,7 +2,7 @@
 ghost use Rattle.std.specs.Prelude.{IsTrue, length};
 ghost use Rattle.smi_ledger.specs.Tables.{IsKnown};
 
-use crate::earlier::owner;
+use crate::earlier::{is_fault_without_device, owner};
 use smi_audit::past::Past;
 use smi_entry::args::Reading;
 use smi_entry::entry::{Entry, Sender, Verdict};
@@ -14,6 +14,17 @@ use smi_rules::rule::Rule;
 use sml_domain::domain::Domain;
 use sml_domain::ids::{ObjId, StateId};
 use sml_text::writing::{Sink, tell};
+
+const NOT_SENT: &[u8] = b"its sender posted no such request under this number";
+
+// What stands behind an object.
+const SKIPPED: &[u8] = b" does not declare the action, which is skipped";
+
+const NO_ACTION: &[u8] = b" has no such action with these arguments";
+
+const NO_STATE: &[u8] = b" has no such state";
+
+const CLEAR: &[u8] = b" reads next is busy";
 
 fn tell_state<W: Sink>(writer: &mut W, failed: &mut bool, domain: &Domain, state: StateId) {
     if let Some(name) = domain.state_name(state) {
@@ -44,6 +55,9 @@ fn tell_of<W: Sink>(
 }
 
 fn tell_objects<W: Sink>(writer: &mut W, failed: &mut bool, domain: &Domain, objects: &Objects) {
+    if objects.list().is_empty() {
+        tell(writer, failed, b" no object");
+    }
     for object in objects.list() {
         tell_object(writer, failed, domain, *object);
     }
@@ -87,27 +101,41 @@ fn tell_next<W: Sink>(writer: &mut W, failed: &mut bool, past: &Past, o: ObjId) 
     if !domain.has(o) {
         return;
     }
+    let Some(expected) = past.next(o) else {
+        tell_skip(writer, failed, past, o);
+        return;
+    };
     if domain.associated(o) {
         tell_of(
             writer,
             failed,
             domain,
-            b"the device of",
+            b"next the device of",
             o,
-            b" ends the action, if the state declares it",
+            b" ends the action",
         );
-        return;
+    } else {
+        tell_expected(writer, failed, domain, o, &expected);
     }
-    match past.next(o) {
-        Some(expected) => tell_expected(writer, failed, domain, o, &expected),
-        None => tell_of(
-            writer,
-            failed,
-            domain,
-            b"the state of",
-            o,
-            b" does not declare the action, which is skipped",
-        ),
+}
+
+// The state of an object, which does not declare what is open there.
+fn tell_skip<W: Sink>(writer: &mut W, failed: &mut bool, past: &Past, o: ObjId) {
+    let domain = past.ledger().domain();
+    if domain.has(o) {
+        tell(writer, failed, b"the state");
+        tell_state(writer, failed, domain, past.ledger().state(o));
+        tell_of(writer, failed, domain, b" of", o, SKIPPED);
+    }
+}
+
+// Why nothing ends, goes on or fails at an object.
+fn tell_not_open<W: Sink>(writer: &mut W, failed: &mut bool, domain: &Domain, entry: &Entry) {
+    let o = owner(entry);
+    if is_fault_without_device(domain, entry) {
+        tell_of(writer, failed, domain, b"the object", o, b" has no device");
+    } else {
+        tell_of(writer, failed, domain, b"no action is open at", o, b"");
     }
 }
 
@@ -166,7 +194,7 @@ fn tell_dead<W: Sink>(writer: &mut W, failed: &mut bool, domain: &Domain, entry:
             Verdict::Dead => b" is not killed",
             Verdict::Accepted(_) | Verdict::Full => b" is killed",
         };
-        tell_of(writer, failed, domain, b"", *target, behind);
+        tell_of(writer, failed, domain, b"the object", *target, behind);
     }
 }
 
@@ -256,35 +284,24 @@ pub(crate) fn tell_sentence<W: Sink>(
     let domain = past.ledger().domain();
     let o = owner(entry);
     match rule {
-        Rule::Killed => tell_of(writer, failed, domain, b"", o, b" is killed"),
+        Rule::Killed => tell_of(writer, failed, domain, b"the object", o, b" is killed"),
         Rule::Open => tell_of(writer, failed, domain, b"an action is open at", o, b""),
         Rule::Number => tell_right_number(writer, failed, past, entry),
-        Rule::NotSent => tell(
-            writer,
-            failed,
-            b"its sender posted no such request under this number",
-        ),
-        Rule::BadRequest => tell_of(
-            writer,
-            failed,
-            domain,
-            b"",
-            o,
-            b" has no such action with these arguments",
-        ),
-        Rule::NotOpen => tell_of(writer, failed, domain, b"no action is open at", o, b""),
+        Rule::NotSent => tell(writer, failed, NOT_SENT),
+        Rule::BadRequest => tell_of(writer, failed, domain, b"the class of", o, NO_ACTION),
+        Rule::NotOpen => tell_not_open(writer, failed, domain, entry),
         Rule::Meaning => tell_next(writer, failed, past, o),
         Rule::Dead => tell_dead(writer, failed, domain, entry),
         Rule::Clear => tell_of(
             writer,
             failed,
             domain,
-            b"",
+            b"none of the objects that",
             o,
-            b" need not wait: all that it reads next is clear",
+            CLEAR,
         ),
         Rule::Busy => tell_readings(writer, failed, past, entry, true),
         Rule::Reading => tell_readings(writer, failed, past, entry, false),
-        Rule::NotAState => tell_of(writer, failed, domain, b"", o, b" has no such state"),
+        Rule::NotAState => tell_of(writer, failed, domain, b"the class of", o, NO_STATE),
     }
 }

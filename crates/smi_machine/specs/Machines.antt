@@ -13,6 +13,7 @@ use Rattle.smi_board.specs.Boards.{BoardView, own_at, kept_at}
 use Rattle.smi_board.specs.Turns.{IsOf}
 use Rattle.smi_world.specs.World.{Setup, World}
 use Rattle.smi_machine.specs.Listed.{listed}
+use Rattle.smi_machine.specs.declared.stepper.TheConstants.{MAX_CAPACITY, MAX_STARTS}
 
 -- a core: what it runs and under which limits, and its world
 pub record CoreView : Type 0 where
@@ -68,4 +69,4 @@ pub record HaveTasks (d : Domain) (J : List Entry) (params : List (List Value)) 
 
 -- the limits with which a core may run
 abbrev pub AreLimits : ℕ → ℕ → Type 0
-AreLimits capacity max_starts = (1 ≤ capacity) × (capacity ≤ 1024) × (1 ≤ max_starts) × (max_starts ≤ 1000000)
+AreLimits capacity max_starts = (1 ≤ capacity) × (capacity ≤ MAX_CAPACITY) × (1 ≤ max_starts) × (max_starts ≤ MAX_STARTS)

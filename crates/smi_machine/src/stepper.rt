@@ -22,10 +22,16 @@ use std::alloc::Global;
 use std::marker::Model;
 use std::sync::Arc;
 
+/// As many requests as may wait at an object, at most. (A core is asked for a capacity of 1 or more.)
+pub const MAX_CAPACITY: usize = 1_024;
+
+/// As many actions as a run may start, at most. (A core is asked for 1 or more.)
+pub const MAX_STARTS: usize = 1_000_000;
+
 /// Why there is no core.
 #[derive(Clone, Copy, Debug, Eq, PartialEq)]
 pub enum CoreError {
-    /// The capacity is not from 1 to 1,024, or the limit of starts not from 1 to 1,000,000.
+    /// The capacity is not from 1 to `MAX_CAPACITY`, or the limit of starts not from 1 to `MAX_STARTS`.
     BadConfig,
     /// Out of memory.
     Memory,
@@ -61,6 +67,10 @@ impl Model for Core {
 impl Core {
     /// A core in the opening world of a domain, in whose mailboxes so many requests may wait, and that
     /// starts no more than so many. The cost is the square of the count of objects.
+    ///
+    /// ```
+    /// let mut core = Core::new(alloc, domain, 16, 1_000_000)?;
+    /// ```
     pub fn new(
         alloc: Global,
         domain: Arc<Domain>,
@@ -75,7 +85,7 @@ impl Core {
         }) }
         ensures opening { IfOk result (λ core. core.world ≡ opening core.setup) }
     {
-        if capacity < 1 || capacity > 1024 || max_starts < 1 || max_starts > 1_000_000 {
+        if capacity < 1 || capacity > MAX_CAPACITY || max_starts < 1 || max_starts > MAX_STARTS {
             return Err(CoreError::BadConfig);
         }
         let Ok(shared) = Arc::try_clone(&domain) else {
@@ -101,6 +111,13 @@ impl Core {
 
     /// Makes a step, or refuses it; a refused one changes nothing. The cost is said by each kind of step in
     /// docs/FORMATS.md ("Schedules").
+    ///
+    /// `command_tests` has this example as `first_calls::steps_and_runs`; L is an object that nobody asked yet:
+    ///
+    /// ```
+    /// let Ok(Some(step)) = read_step(alloc, b"start L") else { .. };
+    /// core.step(&step)        // Err(StepError::Empty)
+    /// ```
     pub fn step(&mut self, step: &Step) -> Result<Answer, StepError>
         ensures step { StepsTo self.old.setup self.old.world step.now result self.new.world }
         ensures setup { self.new.setup ≡ self.old.setup }

@@ -4,14 +4,14 @@ use crate::help;
 use crate::help::audit::{AUDIT, AUDIT_MORE, EXPLAIN, JOURNAL};
 use crate::help::check::{CHECK, CHECK_MORE, FILES};
 use crate::help::print::{PRINT, PRINT_MORE};
-use crate::help::step::{CAPACITY, KEPT_JOURNAL, MAX_STARTS, SCHEDULE, STEP, STEP_MORE};
+use crate::help::step::{CAPACITY, KEPT_JOURNAL, SCHEDULE, STARTS, STEP, STEP_MORE};
 use clap::error::ErrorKind;
 use clap::{Arg, ArgAction, ArgMatches, Command, Error, value_parser};
-use smi_commands::{Asked, AuditOptions, StepOptions};
+use smi_commands::{Asked, AuditOptions, MAX_CAPACITY, MAX_STARTS, STANDARD_INPUT, StepOptions};
 use std::alloc::{AllocError, Global};
 
-// The version of the program, which `--version` gives.
-const VERSION: &str = "0.1.0";
+// The version of the program, and the toolchain that it is proved with: what `--version` gives.
+const VERSION: &str = "0.1.0 (proved with rattle-kit-13b logic dac8208d650f15bf)";
 
 /// Reads the words of a command line, the program's name first. A request for help or for the version is an
 /// `Err` too, and the error tells which it is.
@@ -26,10 +26,28 @@ fn read_words<'a>(
     words: &'a [String],
 ) -> Result<Asked<'a>, Error> {
     let matches = command.try_get_matches_from_mut(words)?;
-    match asked_of(alloc, &matches)? {
-        Some(asked) => Ok(asked),
-        None => Err(command.error(ErrorKind::MissingSubcommand, "no command is given")?),
+    let Some(asked) = asked_of(alloc, &matches)? else {
+        return Err(command.error(ErrorKind::MissingSubcommand, "no command is given")?);
+    };
+    if inputs(&asked) > 1 {
+        let told = "`-` stands more than once, and standard input is read once";
+        return Err(command.error(ErrorKind::ArgumentConflict, told)?);
     }
+    Ok(asked)
+}
+
+// How many files standard input is to stand for.
+fn inputs(asked: &Asked<'_>) -> usize {
+    match asked {
+        Asked::Check(files) => inputs_in(files.as_slice()),
+        Asked::Print(file) => inputs_in(&[file]),
+        Asked::Step(options) => inputs_in(&[options.file, options.schedule]),
+        Asked::Audit(options) => inputs_in(&[options.file, options.journal]),
+    }
+}
+
+fn inputs_in(files: &[&str]) -> usize {
+    files.iter().filter(|file| **file == STANDARD_INPUT).count()
 }
 
 fn asked_of<'a>(alloc: Global, matches: &ArgMatches<'a>) -> Result<Option<Asked<'a>>, AllocError> {
@@ -153,7 +171,7 @@ fn capacity<'a>(alloc: Global) -> Arg<'a> {
     Arg::new(alloc, "capacity")
         .long("capacity")
         .value_name("C")
-        .value_parser(value_parser!(usize).range(1..=1024))
+        .value_parser(value_parser!(usize).range(1..=MAX_CAPACITY as i64))
         .default_value("16")
         .help(CAPACITY)
 }
@@ -162,7 +180,7 @@ fn max_starts<'a>(alloc: Global) -> Arg<'a> {
     Arg::new(alloc, "max-starts")
         .long("max-starts")
         .value_name("M")
-        .value_parser(value_parser!(usize).range(1..=1_000_000))
+        .value_parser(value_parser!(usize).range(1..=MAX_STARTS as i64))
         .default_value("1000000")
-        .help(MAX_STARTS)
+        .help(STARTS)
 }

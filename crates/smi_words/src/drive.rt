@@ -6,15 +6,15 @@ use crate::command_line::parse;
 use clap::error::ErrorKind;
 use smi_commands::{DONE, Fault, WRONG_WORDS, perform};
 use std::fs::Files;
-use std::io::Write;
+use std::io::{Input, Read, Write};
 
 /// Does what the words ask for, and gives the exit status.
 ///
-/// The first word is the program's name. What a command gives, and help or the version where they are asked
-/// for, goes to `output`; a fault line (docs/FORMATS.md, "Fault lines and exit statuses") and what is said of a
-/// wrong command line go to `errors`. A fault of `errors` changes nothing, since there is no place
-/// left to tell it.
-pub fn drive<R: Files + AllocGlobal, W: Write, E: Write>(
+/// The first word is the program's name. A file that is named `-` is standard input. What a command gives, and
+/// help or the version where they are asked for, goes to `output`; a fault line (docs/FORMATS.md, "Fault lines and
+/// exit statuses") and what is said of a wrong command line go to `errors`. A fault of `errors` changes nothing,
+/// since there is no place left to tell it.
+pub fn drive<R: Files + AllocGlobal + Input, W: Write, E: Write>(
     rt: &R,
     words: &[String],
     output: &mut W,
@@ -22,8 +22,21 @@ pub fn drive<R: Files + AllocGlobal, W: Write, E: Write>(
 ) -> u8
     ensures { result ≤ 4 }
 {
+    drive_from(rt, words, &mut rt.reader(), output, errors)
+}
+
+/// As [`drive`], with another reader in the place of standard input.
+pub fn drive_from<R: Files + AllocGlobal, I: Read, W: Write, E: Write>(
+    rt: &R,
+    words: &[String],
+    input: &mut I,
+    output: &mut W,
+    errors: &mut E,
+) -> u8
+    ensures { result ≤ 4 }
+{
     match parse(rt.alloc(), words) {
-        Ok(asked) => perform(rt, &asked, output, errors),
+        Ok(asked) => perform(rt, &asked, input, output, errors),
         Err(error) => answer(&error, output, errors),
     }
 }

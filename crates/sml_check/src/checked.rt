@@ -23,6 +23,17 @@ use std::alloc::{Allocator, Global};
 ///
 /// The fault of the lowest number, and of these the first in the text, with its name; or want of
 /// memory, which can stand in place of any other.
+///
+/// # Example
+///
+/// `command_tests` has it as `first_calls::checks`:
+///
+/// ```
+/// laws_of_read_files();   // what was read has the strings that `check` asks for
+/// let file = read(alloc, b"class: LAMP state: OFF object: L is_of_class LAMP")?;
+/// let domain = check(alloc, &file)?;
+/// let count = domain.objects();   // 1
+/// ```
 pub fn check<A: Allocator + Clone>(alloc: Global, file: &SmlFile<A>) -> Result<Domain, CheckError>
     requires { HasTexts (file_content file.now) }
     ensures ok { IfOk result (λ d. IsWellFormed (file_content file.now) × IsDomainOf (file_content file.now) d) }

@@ -46,6 +46,13 @@ pub fn write_to<A: Allocator + Clone, W: Sink>(
 /// The canonical text of a file (docs/FORMATS.md, "Canonical text").
 ///
 /// The error is want of memory for the text. The time grows with the length of the text.
+///
+/// `command_tests` has this example as `first_calls::reads_and_prints`:
+///
+/// ```
+/// let file = read(alloc, b"class:lamp state:off")?;
+/// let text = print(alloc, &file)?;   // class: LAMP\n  state: OFF\n
+/// ```
 pub fn print<A: Allocator + Clone>(alloc: Global, file: &SmlFile<A>) -> Result<Vec<u8>, AllocError>
     ensures { IfOk result (λ text. text.items ≡ file_text (file_content file.now)) }
 {

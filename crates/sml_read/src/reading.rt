@@ -70,6 +70,13 @@ fn error_of(stop: Stop, length: usize) -> ReadError
 /// The kinds of refusals are looked for in the order of their numbers, TooLong, NotAscii and BadToken
 /// over the whole text; these three take no memory. Where nothing is read nothing stays allocated. The
 /// time grows with the length of the text.
+///
+/// `command_tests` has this example as `first_calls::refuses`:
+///
+/// ```
+/// let file = read(alloc, b"class: LAMP state: OFF")?;
+/// let error = read(alloc, b"class lamp").err();   // Unexpected, at offset 6
+/// ```
 pub fn read<A: Allocator + Clone>(alloc: A, text: &[u8]) -> Result<SmlFile<A>, ReadError>
     ensures read { IfOk result (λ f. IsFileOf text.now (file_content f)) }
     ensures complete { (file : List ItemData) → IsFileOf text.now file → ReadsFile file_content result file }

@@ -3,7 +3,7 @@
 pub const AUDIT: &str = "\
 Judges a journal: whether each of its lines may stand where it stands, or which is the first that may not.";
 
-pub const JOURNAL: &str = "The journal: a text as `step --journal` writes it";
+pub const JOURNAL: &str = "The journal: a text as `step --journal` writes it; - is standard input";
 
 pub const EXPLAIN: &str =
     "Say on standard error what stands against an illegal line, and which earlier line";

@@ -3,7 +3,7 @@
 pub const CHECK: &str = "\
 Tells of domain files whether they are well-formed, one line a file.";
 
-pub const FILES: &str = "The domain files";
+pub const FILES: &str = "The domain files; - is standard input";
 
 pub const CHECK_MORE: &str = "\
 A domain file has at most 1048576 bytes of ASCII, without a byte order mark. It is well-formed where
@@ -13,9 +13,16 @@ line a file:
   FILE ok                      the file is well-formed
   FILE read NO KIND at OFFSET  it is no text of the language; OFFSET counts bytes from 0
   FILE check NO KIND NAME      it is not well-formed; NAME is the name at fault
-  FILE unreadable              it cannot be opened or read
+  FILE unreadable              it cannot be opened or read; standard error has why
 
-`head -c OFFSET FILE | wc -l` gives the number of lines before the one that OFFSET lies in.
+To find the line of an offset: `head -c OFFSET FILE | wc -l` gives the number of lines before the one that
+OFFSET lies in. For example
+
+  class: LAMP
+    state ON
+
+is told as `FILE read 4 Unexpected at 20`: there ON begins, and a colon is missing before it. One line stands
+before it, so it is in the second.
 
 The kinds of `read`. The first three are looked for in this order over the whole text; then the first
 place in the text is told:

@@ -3,11 +3,11 @@
 pub const STEP: &str = "\
 Runs a schedule on a domain, and writes what each of its steps does.";
 
-pub const SCHEDULE: &str = "The schedule: a text with one step a line";
+pub const SCHEDULE: &str = "The schedule: a text with one step a line; - is standard input";
 
 pub const CAPACITY: &str = "How many requests wait at an object at most, 1 to 1024";
 
-pub const MAX_STARTS: &str = "How many actions are started at most, 1 to 1000000";
+pub const STARTS: &str = "How many actions are started at most, 1 to 1000000";
 
 pub const KEPT_JOURNAL: &str = "Writes the journal to this file, when the schedule is done";
 
@@ -115,13 +115,15 @@ there: the line `smi-journal 1`, and then the lines above but `accept`, `set`, `
 
 A file that is refused is told on standard error, by FILE and one of: `read NO KIND at OFFSET` (no text
 of the language), `check NO KIND NAME` (not well-formed; `smirun check --help` has the kinds),
-`unreadable`, `too long` (the schedule). `output fault` says that the output or the journal cannot be
-written, `memory` that there is not enough memory. What the steps before a fault write is written, and no
-journal.
+`unreadable` (a second line has why), `too long` (the schedule). `output fault` says that the output or
+the journal cannot be written, `memory` that there is not enough memory. What the steps before a fault
+write is written, and no journal.
 
 The time grows with the length of the schedule and of what it writes: a million steps take about a second.
-Memory is taken for one line and for the journal, which is kept whole while the schedule runs: some 100 to
-150 bytes an entry.
+No step looks through the journal. A `request` costs what its arguments and the parameters of its action
+cost; `start`, `answer`, `fault` and `kill` what the parameters of OBJECT cost; `go` what its one move
+costs, and where OBJECT waits, also the count of the objects. Memory is taken for one line and for the
+journal, which is kept whole while the schedule runs: some 100 to 150 bytes an entry.
 
 Exit status: 0 done, also where steps were refused; 1 an input was refused, or a file could not be
 read or the output not be written; 2 a wrong command line; 3 not enough memory.";

@@ -1,0 +1,255 @@
+//! How long a board takes for an entry: the calls that switch two supplies on, over and over.
+ghost use Rattle.std.specs.Prelude.{◌≡◌, ◌<◌, ℕ, [], IfOk, IfSome, IsSome, length, true};
+ghost use Rattle.std.specs.Arc.{arc_value};
+ghost use Rattle.smi_entry.specs.declared.entry.Sender.{Sender as Sends};
+ghost use Rattle.smi_mail.specs.Boxes.{sent_at, taken_at};
+ghost use Rattle.smi_board.specs.Refusals.{is_operator};
+
+use crate::texts::domain_of;
+use anyhow::{Result, bail};
+use smi_board::board::Board;
+use smi_board::contacts::Reply;
+use smi_board::resuming::Work;
+use smi_board::starting::Started;
+use smi_entry::args::Args;
+use smi_entry::entry::Sender;
+use smi_entry::envelope::Envelope;
+use smi_entry::session::SessionId;
+use smi_interp::contact::Contact;
+use smi_interp::task::Task;
+use smi_mail::plain::PlainMail;
+use sml_domain::domain::Domain;
+use sml_domain::ids::{ActionId, ObjId, StateId};
+use std::alloc::Global;
+use std::sync::Arc;
+use std::time::{Clock, Duration, Instant};
+
+// Two supplies, and what switches them on. Each may be asked again in the state that it ends in.
+const TEXT: &[u8] = b"class: SUPPLY /associated
+  state: OFF /initial_state
+    action: SWITCH_ON
+  state: ON
+    action: SWITCH_ON
+class: RUN_TYPE
+  state: NOT_READY /initial_state
+    action: CONFIGURE
+      do SWITCH_ON all_in HV
+      if ( all_in HV in_state ON ) then
+        move_to READY
+      endif
+      move_to ERROR
+  state: READY
+    action: CONFIGURE
+      do SWITCH_ON all_in HV
+      if ( all_in HV in_state ON ) then
+        move_to READY
+      endif
+      move_to ERROR
+  state: ERROR
+object: HV1 is_of_class SUPPLY
+object: HV2 is_of_class SUPPLY
+object: RUN is_of_class RUN_TYPE
+objectset: HV { HV1, HV2 }
+";
+
+const HV1: usize = 0;
+
+const HV2: usize = 1;
+
+const RUN: usize = 2;
+
+const ON: usize = 1;
+
+const CONFIGURE: usize = 1;
+
+// How many entries a round adds: three starts, two posts, a wait, what is read, and three ends.
+const ENTRIES: usize = 10;
+
+// How many rounds are timed together, and how often. The least time counts.
+const ROUNDS: usize = 100;
+
+const TIMES: usize = 16;
+
+// How many entries there are before the time is taken.
+const COUNTS: [usize; 2] = [1_000, 1_000_000];
+
+// A request of the first session to switch the supplies on.
+fn envelope_of(args: &Args) -> Option<Envelope>
+    ensures { IfSome result (λ e. is_operator e.sender ≡ true) }
+{
+    let sender = Sender::Operator(SessionId::new(1)?);
+    Envelope::new(sender, ActionId::new(CONFIGURE), args.share().ok()?).ok()
+}
+
+fn requests(board: &mut Board<PlainMail>, args: &Args) -> bool {
+    let Some(envelope) = envelope_of(args) else {
+        return false;
+    };
+    let o = ObjId::new(RUN);
+    if !board.domain().has(o) || !envelope.fits(board.domain(), o) {
+        return false;
+    }
+    board.request(o, envelope).is_ok()
+}
+
+// Whether a task asks for something, and the task after it.
+fn asks(task: Task) -> Option<Task>
+    ensures domain { IfSome result (λ t. t.domain ≡ task.domain) }
+    ensures object { IfSome result (λ t. t.turn.object ≡ task.turn.object) }
+    ensures waits { IfSome result (λ t. IsSome t.pending) }
+{
+    let mut task = task;
+    match task.advance() {
+        Ok(Contact::Send(_)) => Some(task),
+        Ok(Contact::Read(_)) => Some(task),
+        Ok(Contact::End(_)) => Some(task),
+        _ => None,
+    }
+}
+
+// Hands a task in: the task that goes on, if one does.
+fn go_on(board: &mut Board<PlainMail>, task: Task) -> Option<Option<Task>>
+    requires domain { task.domain ≡ board.old.domain }
+    requires within { task.turn.object < length board.old.domain.objects }
+    ensures same { board.new.domain ≡ board.old.domain }
+    ensures task { IfSome result (λ r. IfSome r (λ t.
+        (t.domain ≡ board.old.domain) × (t.turn.object < length board.old.domain.objects))) }
+{
+    let task = asks(task)?;
+    match board.contact(task) {
+        Ok(Reply::Posted(task)) => Some(Some(task)),
+        Ok(Reply::Seen(task)) => Some(Some(task)),
+        Ok(_) => Some(None),
+        Err(_) => None,
+    }
+}
+
+// Lets a task go on until it waits or ends.
+fn goes_on(board: &mut Board<PlainMail>, task: Task) -> bool
+    requires domain { task.domain ≡ board.old.domain }
+    requires within { task.turn.object < length board.old.domain.objects }
+{
+    let mut task = task;
+    for _ in 0..4u32 {
+        match go_on(board, task) {
+            Some(Some(next)) => task = next,
+            Some(None) => return true,
+            None => return false,
+        }
+    }
+    false
+}
+
+fn starts(board: &mut Board<PlainMail>) -> bool {
+    let o = ObjId::new(RUN);
+    if !board.domain().has(o) {
+        return false;
+    }
+    match board.start(o) {
+        Ok(Started::Run(task)) => goes_on(board, task),
+        _ => false,
+    }
+}
+
+// Whether a supply starts what it was sent, and its device ends that.
+fn switches_on(board: &mut Board<PlainMail>, number: usize) -> bool {
+    let o = ObjId::new(number);
+    if !board.domain().has(o) {
+        return false;
+    }
+    match board.start(o) {
+        Ok(Started::Perform { .. }) => board.answered(o, StateId::new(ON)).is_ok(),
+        _ => false,
+    }
+}
+
+fn resumes(board: &mut Board<PlainMail>) -> bool {
+    match board.next() {
+        Some(Work::Resume(task)) => goes_on(board, task),
+        None => false,
+    }
+}
+
+// Whether both supplies were switched on so often.
+fn are_switched_on(board: &mut Board<PlainMail>, args: &Args, rounds: usize) -> bool {
+    for _ in 0..rounds {
+        let is_done = requests(board, args)
+            && starts(board)
+            && switches_on(board, HV1)
+            && switches_on(board, HV2)
+            && resumes(board);
+        if !is_done {
+            return false;
+        }
+    }
+    true
+}
+
+fn mail_of(alloc: Global, domain: &Arc<Domain>) -> Result<PlainMail>
+    ensures domain { IfOk result (λ m. m.domain ≡ arc_value domain.now) }
+    ensures taken { IfOk result (λ m. (o : ℕ) → taken_at m o ≡ []) }
+    ensures sent { IfOk result (λ m. (s : Sends) (o : ℕ) → sent_at m s o ≡ []) }
+{
+    let mail = PlainMail::new(alloc, Arc::try_clone(domain)?, 16)?;
+    Ok(mail)
+}
+
+fn board_of(alloc: Global) -> Result<Board<PlainMail>> {
+    let domain = domain_of(alloc, TEXT)?;
+    let mail = mail_of(alloc, &domain)?;
+    match Board::new(alloc, domain, mail, usize::MAX) {
+        Ok(board) => Ok(board),
+        Err(_) => bail!("there is no memory for a board"),
+    }
+}
+
+fn time_rounds<R: Clock>(
+    rt: &R,
+    board: &mut Board<PlainMail>,
+    args: &Args,
+    rounds: usize,
+) -> Result<Duration> {
+    let begin = Instant::now(rt)?;
+    let are_done = are_switched_on(board, args, rounds);
+    let time = begin.elapsed(rt)?;
+    if !are_done {
+        bail!("the supplies are not switched on");
+    }
+    Ok(time)
+}
+
+// The least time of so many rounds.
+fn least_time<R: Clock>(rt: &R, board: &mut Board<PlainMail>, args: &Args) -> Result<Duration> {
+    let mut least = Duration::MAX;
+    for _ in 0..TIMES {
+        least = least.min(time_rounds(rt, board, args, ROUNDS)?);
+    }
+    Ok(least)
+}
+
+fn tell<R: Print>(rt: &R, count: usize, time: Duration) -> Result<()> {
+    let entries = (ROUNDS * ENTRIES) as u128;
+    let tenths = time.as_nanos() * 10 / entries;
+    let speed = entries * 1_000_000_000 / time.as_nanos().max(1);
+    let (whole, part) = (tenths / 10, tenths % 10);
+    println!(rt;
+        "after {count:>7} entries {whole:>6}.{part} ns an entry {speed:>10} entries a second"
+    )?;
+    Ok(())
+}
+
+fn report_at<R: Clock + Print + AllocGlobal>(rt: &R, count: usize) -> Result<()> {
+    let mut board = board_of(rt.alloc())?;
+    let args = Args::new(rt.alloc(), Vec::new(rt.alloc()))?;
+    time_rounds(rt, &mut board, &args, count / ENTRIES)?;
+    let time = least_time(rt, &mut board, &args)?;
+    tell(rt, count, time)
+}
+
+/// Prints how long a board takes for an entry, after a thousand entries and after a million.
+pub fn report<R: Clock + Print + AllocGlobal>(rt: &R) -> Result<()> {
+    for count in COUNTS {
+        report_at(rt, count)?;
+    }
+    Ok(())
+}
