@@ -1,4 +1,5 @@
-//! The program `read_bench`: how fast texts of domains are read, checked and printed, ledgers and boards kept, and tasks run.
+//! The program `read_bench`: how fast texts of domains are read, checked and printed, ledgers and boards kept,
+//! and tasks run.
 #![tactic(auto)]
 
 ghost use Rattle.std.specs.Prelude.{◌≤◌};
