@@ -81,13 +81,23 @@ fn written_before(alloc: Global, text: &[u8], fails: bool) -> Option<(Vec<u8>, S
     }
 }
 
+// How many line feeds a text has.
+fn line_feeds(text: &[u8]) -> usize {
+    let mut found = 0usize;
+    for byte in text {
+        if *byte == b'\n' {
+            found = found.saturating_add(1);
+        }
+    }
+    found
+}
+
 // Whether all that a prefix of the schedule writes are the lines of its whole lines, where the reader
 // fails behind it.
 fn makes_whole_lines(alloc: Global, length: usize) -> Option<bool> {
     let whole = whole_of(alloc, CONFIGURE_READY).ok()?;
     let text = whole.schedule.as_bytes().get(..length)?;
-    let lines = text.iter().filter(|byte| **byte == b'\n').count();
-    let expected = part_of(alloc, CONFIGURE_READY, 0, lines).ok()?;
+    let expected = part_of(alloc, CONFIGURE_READY, 0, line_feeds(text)).ok()?;
     let (output, fault) = written_before(alloc, text, true)?;
     Some(fault == ScheduleFault::Read && output.as_slice() == expected.output.as_bytes())
 }

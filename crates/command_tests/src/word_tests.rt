@@ -5,6 +5,11 @@ use crate::texts::FIRST;
 use smi_commands::{LONGEST_JOURNAL, MAX_CAPACITY, MAX_STARTS, refuse_words};
 use smi_core::{LONGEST_LINE, LONGEST_SCHEDULE};
 use sml_read::MAX_TEXT;
+use sml_text::limits::{LONGEST_NAME, LONGEST_STRING};
+use sml_tree::limits::{
+    MAX_ACTIONS, MAX_ARGUMENTS, MAX_CLASSES, MAX_IFS, MAX_MEMBERS, MAX_NAMES, MAX_OBJECTS,
+    MAX_OPEN, MAX_PARAMETERS, MAX_SETS, MAX_STATES, MAX_TESTS,
+};
 use std::alloc::Global;
 use std::fs::Files;
 use std::io;
@@ -169,38 +174,77 @@ const RULES: &[&str] = &[
     "NotAState ",
 ];
 
+// The first of these parts that a text does not have.
+fn missing_in<'a>(text: &str, parts: &[&'a str]) -> Option<&'a str> {
+    for part in parts {
+        if !text.contains(*part) {
+            return Some(*part);
+        }
+    }
+    None
+}
+
 #[test]
 fn help_is_given(rt: HostRuntime) -> Result<(), Fail> {
     for (words, parts) in HELP {
         let outcome = call(&rt, words)?;
         let text = std::str::from_utf8(outcome.output.as_slice())?;
-        let missing = parts.iter().find(|part| !text.contains(**part));
+        let missing = missing_in(text, parts);
         let is_told = outcome.status == 0 && outcome.errors.is_empty();
         assert!(rt; is_told && missing.is_none(), "no {missing:?} in {words:?}");
     }
     Ok(())
 }
 
-// A command line that asks for help, and the limits that the text tells.
-const LIMITS: &[(&[&str], &[usize])] = &[
-    (&["smirun", "check", "--help"], &[MAX_TEXT]),
-    (&["smirun", "print", "--help"], &[MAX_TEXT]),
-    (&["smirun", "step", "--help"], &[MAX_TEXT, LONGEST_SCHEDULE]),
-    (
-        &["smirun", "step", "-h"],
-        &[LONGEST_LINE, MAX_CAPACITY, MAX_STARTS],
-    ),
-    (&["smirun", "audit", "--help"], &[MAX_TEXT, LONGEST_JOURNAL]),
+// A limit, and what stands behind it in a text.
+type Limit = (usize, &'static str);
+
+const OF_A_TEXT: Limit = (MAX_TEXT, "");
+
+const OF_A_DOMAIN: &[Limit] = &[
+    OF_A_TEXT,
+    (LONGEST_NAME, " bytes"),
+    (LONGEST_STRING, " bytes"),
+    (MAX_IFS as usize, " others"),
+    (MAX_OPEN as usize, " of its condition"),
+    (MAX_CLASSES, " classes"),
+    (MAX_OBJECTS, " objects"),
+    (MAX_SETS, " sets"),
+    (MAX_STATES, " states of a class"),
+    (MAX_ACTIONS, " actions of a state"),
+    (MAX_PARAMETERS, " parameters of a list"),
+    (MAX_ARGUMENTS, " arguments of a `do`"),
+    (MAX_MEMBERS, " members of a set"),
+    (MAX_NAMES, " states of a list"),
+    (MAX_TESTS as usize, " tests"),
 ];
 
-// Whether a text has each of these numbers.
-fn has_all(alloc: Global, text: &str, numbers: &[usize]) -> Result<bool, Fail> {
-    for number in numbers {
-        if !text.contains(format!(in alloc; " {number}")?.as_str()) {
-            return Ok(false);
+// A command line that asks for help, and the limits that the text tells.
+const LIMITS: &[(&[&str], &[Limit])] = &[
+    (&["smirun", "check", "--help"], OF_A_DOMAIN),
+    (&["smirun", "print", "--help"], &[OF_A_TEXT]),
+    (
+        &["smirun", "step", "--help"],
+        &[OF_A_TEXT, (LONGEST_SCHEDULE, "")],
+    ),
+    (
+        &["smirun", "step", "-h"],
+        &[(LONGEST_LINE, ""), (MAX_CAPACITY, ""), (MAX_STARTS, "")],
+    ),
+    (
+        &["smirun", "audit", "--help"],
+        &[OF_A_TEXT, (LONGEST_JOURNAL, "")],
+    ),
+];
+
+// The first of these limits that a text does not tell.
+fn untold_in(alloc: Global, text: &str, limits: &'static [Limit]) -> Result<Option<Limit>, Fail> {
+    for limit in limits {
+        if !text.contains(format!(in alloc; " {}{}", limit.0, limit.1)?.as_str()) {
+            return Ok(Some(*limit));
         }
     }
-    Ok(true)
+    Ok(None)
 }
 
 #[test]
@@ -208,10 +252,8 @@ fn help_tells_the_limits(rt: HostRuntime) -> Result<(), Fail> {
     for (words, limits) in LIMITS {
         let outcome = call(&rt, words)?;
         let text = std::str::from_utf8(outcome.output.as_slice())?;
-        assert!(rt;
-            has_all(rt.alloc(), text, limits)?,
-            "not {limits:?} in {words:?}"
-        );
+        let untold = untold_in(rt.alloc(), text, limits)?;
+        assert!(rt; untold.is_none(), "no {untold:?} in {words:?}");
     }
     Ok(())
 }

@@ -17,7 +17,7 @@ use smi_entry::entry::Sender;
 use smi_entry::envelope::Envelope;
 use smi_entry::session::SessionId;
 use smi_interp::task::Task;
-use smi_mail::plain::PlainMail;
+use smi_mail::plain::{MAX_CAPACITY, PlainMail};
 use sml_domain::domain::Domain;
 use sml_domain::ids::{ActionId, ObjId, StateId};
 use std::alloc::Global;
@@ -218,7 +218,7 @@ fn mail_of(alloc: Global, domain: &Arc<Domain>, capacity: usize) -> Option<Plain
     ensures taken { IfSome result (λ m. (o : ℕ) → taken_at m o ≡ []) }
     ensures sent { IfSome result (λ m. (s : Sender) (o : ℕ) → sent_at m s o ≡ []) }
 {
-    if capacity < 1 || capacity > 1024 {
+    if capacity < 1 || capacity > MAX_CAPACITY {
         return None;
     }
     let shared = Arc::try_clone(domain).ok()?;

@@ -18,6 +18,7 @@ use Rattle.smi_entry.specs.declared.entry.Entry.TheVariants.{Wait, Seen, End, Ki
 use Rattle.smi_journal.specs.HasText.{ValueIsHeld, VerdictIsHeld, IsHeld}
 use Rattle.smi_journal.specs.Reading.{before, behind, first_byte, next_value, read_number, minus, plus, read_int, is_string, read_string, read_value, behind_value, behind_equals, read_values, read_start, read_post, read_answered, read_object, read_readings, read_end, read_cause, read_entry}
 use Rattle.smi_journal.proofs.Separators.{both_true}
+use Rattle.sml_text.specs.declared.limits.TheConstants.{LONGEST_STRING}
 
 -- a fact of both branches
 either : {X : Type 0} (P : X → Type 0) (b : Bool) (x y : X) → P x → P y → P (cond b x y)
@@ -55,7 +56,7 @@ int_long w = either IsLong (first_byte w == 45) (minus (read_number (drop 1 w)))
 
 text_of_string : (w : List ℕ) → is_string w ≡ true → IsText w
 text_of_string w h =
-    let e = both_true (nat_le (length w) 255) (list_all is_string_byte w) h in
+    let e = both_true (nat_le (length w) LONGEST_STRING) (list_all is_string_byte w) h in
     let short = e.0 in
     record { fits = each_of_all is_string_byte w e.1; short = grind (arith, nat_tests) }
 

@@ -16,6 +16,7 @@ use Rattle.smi_journal.specs.CallText.{name_or_nothing, object_text, state_text,
 use Rattle.smi_journal.specs.HasText.{IsName, HasNames, is_object, is_state, is_action}
 use Rattle.smi_journal.specs.Reading.{or_zero, read_name, read_object, read_state, read_action}
 use Rattle.smi_journal.proofs.Separators.{both_true}
+use Rattle.sml_text.specs.declared.limits.TheConstants.{LONGEST_NAME}
 
 -- a byte of a word in upper case
 abbrev pub is_name_byte : ℕ → Bool
@@ -41,7 +42,7 @@ bytes_of_word (c ∷ w) h =
 
 -- the bytes of a name
 pub name_bytes : (w : List ℕ) → IsName w → Each is_name_byte w
-name_bytes w n = bytes_of_name w (bytes_of_word w (both_true (is_word_text w) (nat_le (length w) 64) n.word).0) n.upper_case
+name_bytes w n = bytes_of_name w (bytes_of_word w (both_true (is_word_text w) (nat_le (length w) LONGEST_NAME) n.word).0) n.upper_case
 
 name_again : (w : List ℕ) → IsName w → read_name w ≡ Some w
 name_again w n = ap (λ b. cond b (Some (upper w)) None) n.word ∙ ap (λ l. Some l) n.upper_case

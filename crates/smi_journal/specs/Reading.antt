@@ -22,6 +22,7 @@ use Rattle.smi_entry.specs.declared.entry.Entry.{Entry}
 use Rattle.smi_entry.specs.declared.entry.Entry.TheVariants.{Start, Post, Wait, Seen, End, Kill}
 use Rattle.smi_journal.specs.CallText.{params_of}
 use Rattle.smi_journal.specs.HasText.{is_session}
+use Rattle.sml_text.specs.declared.limits.TheConstants.{LONGEST_STRING}
 
 -- the bytes before the first such byte, or all of them
 abbrev pub before : ℕ → List ℕ → List ℕ
@@ -81,7 +82,7 @@ read_int w = if first_byte w == 45 then minus (read_number (drop 1 w)) else plus
 
 -- whether bytes are those of a string
 abbrev pub is_string : List ℕ → Bool
-is_string w = nat_le (length w) 255 && list_all is_string_byte w
+is_string w = nat_le (length w) LONGEST_STRING && list_all is_string_byte w
 
 -- a string
 abbrev pub read_string : List ℕ → Value

@@ -15,6 +15,8 @@ use Rattle.smi_world.specs.declared.step.Step.{Step}
 use Rattle.smi_world.specs.declared.step.Step.TheVariants as step
 use Rattle.smi_lines.specs.declared.line.LineError.{LineError}
 use Rattle.smi_lines.specs.declared.line.LineError.TheVariants as error
+use Rattle.smi_lines.specs.declared.line.TheConstants.{LONGEST_LINE}
+use Rattle.sml_tree.specs.declared.limits.TheConstants.{MAX_ARGUMENTS}
 
 -- ---- single tokens
 
@@ -81,14 +83,14 @@ arguments_in (n ∷ e ∷ v ∷ s ∷ words) =
 arguments_in words = None
 
 -- no more arguments than a line may have
-abbrev pub at_most_16 : Option (List Passed) → Option (List Passed)
-at_most_16 None = None
-at_most_16 (Some xs) = if nat_le (length xs) 16 then Some xs else None
+abbrev pub not_too_many : Option (List Passed) → Option (List Passed)
+not_too_many None = None
+not_too_many (Some xs) = if nat_le (length xs) MAX_ARGUMENTS then Some xs else None
 
 -- the arguments that stand behind the action of a request: none, or those in brackets
 abbrev pub passed_in : List Lexeme → Option (List Passed)
 passed_in [] = Some []
-passed_in (Sign sign.OpenBracket ∷ words) = at_most_16 (arguments_in words)
+passed_in (Sign sign.OpenBracket ∷ words) = not_too_many (arguments_in words)
 passed_in (x ∷ words) = None
 
 -- ---- steps
@@ -165,7 +167,7 @@ Answers words r = r ≡ asked words
 
 -- whether bytes are a line: not too many, all of them ASCII, and none a line feed
 abbrev pub is_line : List ℕ → Bool
-is_line line = nat_le (length line) 8192 && (list_all is_ascii line && list_all no_line_feed line)
+is_line line = nat_le (length line) LONGEST_LINE && (list_all is_ascii line && list_all no_line_feed line)
 
 -- the answer to a line that has tokens, or to one that has none
 pub record ReadsTokens (line : List ℕ) (r : Result (Option Step) LineError) : Type 0 where

@@ -15,12 +15,10 @@ use sml_domain::text::Text;
 use sml_domain::value::Value;
 use sml_text::source::{Sign, Source};
 use sml_text::tokens::{Lexeme, next_token};
+use sml_tree::limits::MAX_ARGUMENTS;
 use sml_tree::name::Name;
 use sml_tree::words::is_reserved;
 use std::alloc::{AllocError, Global};
-
-/// How many arguments a line may have.
-pub const MOST_ARGUMENTS: usize = 16;
 
 /// The name that a token is: a word that is not reserved.
 pub fn name_in(lexeme: &Lexeme) -> Option<Name>
@@ -206,7 +204,7 @@ pub fn passed_in(alloc: Global, rest: &[u8], at: usize) -> Result<Option<Argumen
         return Ok(None);
     };
     match arguments_in(alloc, rest, at)? {
-        Some(list) if list.len() <= MOST_ARGUMENTS => Ok(Some(Arguments::new(list))),
+        Some(list) if list.len() <= MAX_ARGUMENTS => Ok(Some(Arguments::new(list))),
         _ => Ok(None),
     }
 }

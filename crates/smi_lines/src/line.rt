@@ -11,6 +11,7 @@ ghost use Rattle.smi_world.specs.declared.step.Step.TheVariants as step;
 ghost use Rattle.smi_lines.specs.Line as spec;
 ghost use Rattle.smi_lines.specs.Line.{LineReads, lexemes};
 ghost use Rattle.smi_lines.specs.LineErrorText.{line_error_text};
+ghost use Rattle.smi_lines.specs.declared.line.TheConstants.{LONGEST_LINE};
 
 use crate::arguments::{name_in, passed_in};
 use smi_entry::session::SessionId;
@@ -206,7 +207,7 @@ fn step_in(alloc: Global, verb: &Lexeme, rest: &[u8], at: usize) -> Result<Optio
 
 // What the tokens of a line ask.
 fn asked(alloc: Global, line: &[u8]) -> Result<Option<Step>, LineError>
-    requires { length line.now ≤ 8192 }
+    requires { length line.now ≤ LONGEST_LINE }
     ensures { spec.Answers (lexemes (tokens_from source.Line 0 line.now)) result }
 {
     match next_token(Source::Line, line, 0) {

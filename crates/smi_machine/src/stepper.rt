@@ -12,6 +12,7 @@ use crate::machine::Machine;
 use smi_board::board::Board;
 use smi_board::kept::no_tasks;
 use smi_entry::entry::Entry;
+pub use smi_mail::plain::MAX_CAPACITY;
 use smi_mail::plain::PlainMail;
 use smi_world::refusal::StepError;
 use smi_world::step::{Answer, Step};
@@ -21,9 +22,6 @@ use sml_domain::value::Value;
 use std::alloc::Global;
 use std::marker::Model;
 use std::sync::Arc;
-
-/// As many requests as may wait at an object, at most. (A core is asked for a capacity of 1 or more.)
-pub const MAX_CAPACITY: usize = 1_024;
 
 /// As many actions as a run may start, at most. (A core is asked for 1 or more.)
 pub const MAX_STARTS: usize = 1_000_000;

@@ -3,6 +3,7 @@ ghost use Rattle.std.specs.Prelude.{◌≡◌, ◌≤◌, ℕ, [], IfOk, length}
 ghost use Rattle.std.specs.Arc.{arc_value};
 ghost use Rattle.smi_entry.specs.declared.entry.Sender.{Sender};
 ghost use Rattle.smi_mail.specs.Boxes.{sent_at, taken_at, waiting_at};
+ghost use Rattle.smi_mail.specs.declared.plain.TheConstants.{MAX_CAPACITY};
 
 use crate::mail::{Full, Mail};
 use crate::mailbox::Mailbox;
@@ -12,6 +13,9 @@ use sml_domain::ids::ObjId;
 use std::alloc::{AllocError, Global};
 use std::marker::Model;
 use std::sync::Arc;
+
+/// As many requests as may wait at an object, at most. (A mail is asked for a capacity of 1 or more.)
+pub const MAX_CAPACITY: usize = 1_024;
 
 /// The mailboxes of a domain's objects, for one thread. It serves every sender of the domain, gives first
 /// what was posted to an object first, and keeps the envelopes that wait and no others.
@@ -93,11 +97,11 @@ impl PlainMail {
         let _boxes = &self.boxes;
     }
 
-    /// Empty mailboxes for the objects of a domain, in each of which so many requests may wait, 1 to 1,024.
+    /// Empty mailboxes for the objects of a domain, in each of which so many requests may wait, 1 to `MAX_CAPACITY`.
     /// The cost is the square of the count of objects.
     pub fn new(alloc: Global, domain: Arc<Domain>, capacity: usize) -> Result<PlainMail, AllocError>
         requires least { 1 ≤ capacity }
-        requires most { capacity ≤ 1024 }
+        requires most { capacity ≤ MAX_CAPACITY }
         ensures domain { IfOk result (λ m. m.domain ≡ arc_value domain) }
         ensures capacity { IfOk result (λ m. m.capacity ≡ capacity) }
         ensures taken { IfOk result (λ m. (o : ℕ) → taken_at m o ≡ []) }

@@ -15,6 +15,7 @@ use Rattle.sml_read.specs.Asks.{first_of}
 use Rattle.sml_read.specs.Trails.{Trail}
 use Rattle.sml_read.proofs.Steps.{Taken, seen}
 use Rattle.sml_read.proofs.Trails.{token_read, token_refused}
+use Rattle.sml_tree.specs.declared.limits.TheConstants.{MAX_TESTS}
 
 -- a set is asked, and not one object
 abbrev pub IsOfSet : Scope → Type 0
@@ -25,35 +26,35 @@ one_of_set (inl e) = absurd (cc e)
 one_of_set (inr e) = absurd (cc e)
 
 -- a test too many
-pub test_too_many : (scope : Scope) (depth tests : ℕ) (t : Piece) (old new : List Piece) → old ≡ t ∷ new → SeesKind (first_of scope) old → nat_lt tests 64 ≡ false
+pub test_too_many : (scope : Scope) (depth tests : ℕ) (t : Piece) (old new : List Piece) → old ≡ t ∷ new → SeesKind (first_of scope) old → nat_lt tests MAX_TESTS ≡ false
     → Refuses (Unit' depth tests) old (TooMany t.at)
 test_too_many One depth tests t old new e sees full = let kind = seen Name t old new e sees in λ g more k. rw (e, kind, full) refl
 test_too_many All depth tests t old new e sees full = let kind = seen AllIn t old new e sees in λ g more k. rw (e, kind, full) refl
 test_too_many Any depth tests t old new e sees full = let kind = seen AnyIn t old new e sees in λ g more k. rw (e, kind, full) refl
 
 -- one object is asked
-pub object_asked : (scope : Scope) (depth tests : ℕ) (t : Piece) (w : List ℕ) (old new : List Piece) → scope ≡ One → old ≡ t ∷ new → SeesKind (first_of scope) old → nat_lt tests 64 ≡ true → w ≡ name t
+pub object_asked : (scope : Scope) (depth tests : ℕ) (t : Piece) (w : List ℕ) (old new : List Piece) → scope ≡ One → old ≡ t ∷ new → SeesKind (first_of scope) old → nat_lt tests MAX_TESTS ≡ true → w ≡ name t
     → Trail (Unit' depth tests) (P Senses ∷ P StateLists ∷ []) (asks scope w tests) old new
 object_asked One depth tests t w old new one e sees room is = let kind = seen Name t old new e sees in λ g more k. rw (e, kind, is, room) refl
 object_asked All depth tests t w old new one e sees room is = absurd (cc one)
 object_asked Any depth tests t w old new one e sees room is = absurd (cc one)
 
 -- the word of a set stands there, and then a name
-set_begun : (scope : Scope) (depth tests : ℕ) (t : Piece) (old new : List Piece) → IsOfSet scope → old ≡ t ∷ new → SeesKind (first_of scope) old → nat_lt tests 64 ≡ true
+set_begun : (scope : Scope) (depth tests : ℕ) (t : Piece) (old new : List Piece) → IsOfSet scope → old ≡ t ∷ new → SeesKind (first_of scope) old → nat_lt tests MAX_TESTS ≡ true
     → Trail (Unit' depth tests) (B Name ∷ P Senses ∷ P StateLists ∷ []) (needs Name Fine (λ n. asks scope (name n) tests)) old new
 set_begun One depth tests t old new set e sees room = absurd (one_of_set set)
 set_begun All depth tests t old new set e sees room = let kind = seen AllIn t old new e sees in λ g more k. rw (e, kind, room) refl
 set_begun Any depth tests t old new set e sees room = let kind = seen AnyIn t old new e sees in λ g more k. rw (e, kind, room) refl
 
 -- a set is asked
-pub set_asked : (scope : Scope) (depth tests : ℕ) (t n : Piece) (w : List ℕ) (old mid new : List Piece) → IsOfSet scope → old ≡ t ∷ mid → SeesKind (first_of scope) old → nat_lt tests 64 ≡ true
+pub set_asked : (scope : Scope) (depth tests : ℕ) (t n : Piece) (w : List ℕ) (old mid new : List Piece) → IsOfSet scope → old ≡ t ∷ mid → SeesKind (first_of scope) old → nat_lt tests MAX_TESTS ≡ true
     → Taken Name n mid new → w ≡ name n → Trail (Unit' depth tests) (P Senses ∷ P StateLists ∷ []) (asks scope w tests) old new
 set_asked scope depth tests t n w old mid new set e sees room named is =
     let begun = set_begun scope depth tests t old mid set e sees room in
     rw is (token_read (Unit' depth tests) Name Fine (P Senses ∷ P StateLists ∷ []) (λ m. asks scope (name m) tests) n old mid new begun refl named)
 
 -- no name stands behind the word of a set
-pub set_refused : (scope : Scope) (depth tests : ℕ) (t : Piece) (old mid new : List Piece) (e : Stop) → IsOfSet scope → old ≡ t ∷ mid → SeesKind (first_of scope) old → nat_lt tests 64 ≡ true
+pub set_refused : (scope : Scope) (depth tests : ℕ) (t : Piece) (old mid new : List Piece) (e : Stop) → IsOfSet scope → old ≡ t ∷ mid → SeesKind (first_of scope) old → nat_lt tests MAX_TESTS ≡ true
     → ReadsToken Name mid new (Err e) → Stops (Unit' depth tests) old e
 set_refused scope depth tests t old mid new e set first sees room none =
     token_refused (Unit' depth tests) Name Fine (P Senses ∷ P StateLists ∷ []) (λ m. asks scope (name m) tests) old mid new e (set_begun scope depth tests t old mid set first sees room) none

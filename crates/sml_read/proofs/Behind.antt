@@ -13,6 +13,7 @@ use Rattle.sml_read.specs.Lists.{LeadsTo}
 use Rattle.sml_read.specs.Reads.{Leads, Passes, Reads, Stops}
 use Rattle.sml_read.specs.Stands.{Lacks, IsTaken, ReadsLimited, Closes}
 use Rattle.sml_read.proofs.Lists.{read_end_to, read_err_to}
+use Rattle.sml_tree.specs.declared.limits.TheConstants.{MAX_MEMBERS, MAX_NAMES}
 
 -- a part that is left out, since its first token does not stand there
 pub lacking : (n : Part) (r : Rule n) (none : Value n) (old : List Piece) → rules n ≡ r ∷ [] → empty n ≡ Some none → Lacks r.kind old → Passes n none old old
@@ -32,11 +33,11 @@ pub passed_more : (n : ℕ) (x : PassedData) (old mid new : List Piece) → IsTa
     → Leads (of.MorePassedArg n) (of.MorePassedArg (n + 1)) (λ v. x ∷ v) old new
 passed_more n x old mid new taken passes g more k = rw (taken.1, taken.2) (passes g _ _)
 
-pub member_more : (n : ℕ) (w : List ℕ) (old mid new : List Piece) → IsTaken Comma old mid → nat_lt n 64 ≡ true → ReadsLimited 64 n mid new (Ok w)
+pub member_more : (n : ℕ) (w : List ℕ) (old mid new : List Piece) → IsTaken Comma old mid → nat_lt n MAX_MEMBERS ≡ true → ReadsLimited MAX_MEMBERS n mid new (Ok w)
     → Leads (of.MoreMember n) (of.MoreMember (n + 1)) (λ v. w ∷ v) old new
 member_more n w old mid new taken room named g more k = rw (taken.1, named.1, taken.2, named.3, room) (rw named.2 refl)
 
-pub name_more : (n : ℕ) (w : List ℕ) (old mid new : List Piece) → IsTaken Comma old mid → nat_lt n 32 ≡ true → ReadsLimited 32 n mid new (Ok w)
+pub name_more : (n : ℕ) (w : List ℕ) (old mid new : List Piece) → IsTaken Comma old mid → nat_lt n MAX_NAMES ≡ true → ReadsLimited MAX_NAMES n mid new (Ok w)
     → Leads (of.MoreName n) (of.MoreName (n + 1)) (λ v. w ∷ v) old new
 name_more n w old mid new taken room named g more k = rw (taken.1, named.1, taken.2, named.3, room) (rw named.2 refl)
 
@@ -53,11 +54,11 @@ pub passed_refused : (n : ℕ) (old mid : List Piece) (e : Stop) → IsTaken Com
 passed_refused n old mid stop.Memory taken a = tt
 passed_refused n old mid (stop.Fault f) taken a = λ g more k. rw (taken.1, taken.2) (a g _ _)
 
-pub member_refused : (n : ℕ) (old mid new : List Piece) (e : Stop) → IsTaken Comma old mid → ReadsLimited 64 n mid new (Err e) → Stops (of.MoreMember n) old e
+pub member_refused : (n : ℕ) (old mid new : List Piece) (e : Stop) → IsTaken Comma old mid → ReadsLimited MAX_MEMBERS n mid new (Err e) → Stops (of.MoreMember n) old e
 member_refused n old mid new stop.Memory taken a = tt
 member_refused n old mid new (stop.Fault f) taken a = λ g more k. rw (taken.1, taken.2) (a g _ _)
 
-pub name_refused : (n : ℕ) (old mid new : List Piece) (e : Stop) → IsTaken Comma old mid → ReadsLimited 32 n mid new (Err e) → Stops (of.MoreName n) old e
+pub name_refused : (n : ℕ) (old mid new : List Piece) (e : Stop) → IsTaken Comma old mid → ReadsLimited MAX_NAMES n mid new (Err e) → Stops (of.MoreName n) old e
 name_refused n old mid new stop.Memory taken a = tt
 name_refused n old mid new (stop.Fault f) taken a = λ g more k. rw (taken.1, taken.2) (a g _ _)
 

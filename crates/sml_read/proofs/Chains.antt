@@ -18,6 +18,7 @@ use Rattle.sml_read.specs.Made.{OrMemory}
 use Rattle.sml_read.specs.Stands.{Closes}
 use Rattle.sml_read.proofs.Heads.{Read}
 use Rattle.sml_read.proofs.Steps.{Taken, seen}
+use Rattle.sml_tree.specs.declared.limits.TheConstants.{MAX_OPEN}
 
 -- what a token does to a part that may not be left out
 abbrev moved : (n g : Part) (more : List Bone) → (Value n → Form (Value g) more) → Piece → TokenKind → Move g
@@ -68,31 +69,31 @@ or_err d n left t old mid stop.Memory first kind a = tt
 or_err d n left t old mid (stop.Fault f) first kind a = λ g more k. rw first (rw kind (a g _ _))
 
 -- a `not` inside too many others
-pub not_deep : (d n : ℕ) (t : Piece) (old new : List Piece) → old ≡ t ∷ new → SeesKind Not old → nat_lt d 16 ≡ false → Refuses (of.Unit' d n) old (TooDeep t.at)
+pub not_deep : (d n : ℕ) (t : Piece) (old new : List Piece) → old ≡ t ∷ new → SeesKind Not old → nat_lt d MAX_OPEN ≡ false → Refuses (of.Unit' d n) old (TooDeep t.at)
 not_deep d n t old new e sees full = let kind = seen Not t old new e sees in λ g more k. rw (e, kind, full) refl
 
 -- what a `not` denies is refused
-pub not_err : (d n : ℕ) (t : Piece) (old mid : List Piece) (e : Stop) → old ≡ t ∷ mid → SeesKind Not old → nat_lt d 16 ≡ true → Stops (of.Unit' (d + 1) n) mid e → Stops (of.Unit' d n) old e
+pub not_err : (d n : ℕ) (t : Piece) (old mid : List Piece) (e : Stop) → old ≡ t ∷ mid → SeesKind Not old → nat_lt d MAX_OPEN ≡ true → Stops (of.Unit' (d + 1) n) mid e → Stops (of.Unit' d n) old e
 not_err d n t old mid stop.Memory first sees room a = tt
 not_err d n t old mid (stop.Fault f) first sees room a = let kind = seen Not t old mid first sees in λ g more k. rw (first, kind, room) (a g _ _)
 
-pub not_ok : (d n n' : ℕ) (inner x : CondData) (t : Piece) (old mid new : List Piece) → old ≡ t ∷ mid → SeesKind Not old → nat_lt d 16 ≡ true
+pub not_ok : (d n n' : ℕ) (inner x : CondData) (t : Piece) (old mid new : List Piece) → old ≡ t ∷ mid → SeesKind Not old → nat_lt d MAX_OPEN ≡ true
     → Read (of.Unit' (d + 1) n) (record { formula = inner; count = n' }) mid new → x ≡ neither inner → Read (of.Unit' d n) (record { formula = x; count = n' }) old new
 not_ok d n n' inner x t old mid new first sees room a is =
     let kind = seen Not t old mid first sees in
     (omega (arith, ap length first, a.0), λ g more k. rw (first, kind, room, is) (a.1 g _ _))
 
 -- a bracket inside too many others
-pub bracket_deep : (d n : ℕ) (t : Piece) (old new : List Piece) → old ≡ t ∷ new → SeesKind OpenBracket old → nat_lt d 16 ≡ false → Refuses (of.Unit' d n) old (TooDeep t.at)
+pub bracket_deep : (d n : ℕ) (t : Piece) (old new : List Piece) → old ≡ t ∷ new → SeesKind OpenBracket old → nat_lt d MAX_OPEN ≡ false → Refuses (of.Unit' d n) old (TooDeep t.at)
 bracket_deep d n t old new e sees full = let kind = seen OpenBracket t old new e sees in λ g more k. rw (e, kind, full) refl
 
 -- what stands in brackets is refused
-pub bracket_err : (d n : ℕ) (t : Piece) (old mid : List Piece) (e : Stop) → old ≡ t ∷ mid → SeesKind OpenBracket old → nat_lt d 16 ≡ true → Stops (of.Cond (d + 1) n) mid e → Stops (of.Unit' d n) old e
+pub bracket_err : (d n : ℕ) (t : Piece) (old mid : List Piece) (e : Stop) → old ≡ t ∷ mid → SeesKind OpenBracket old → nat_lt d MAX_OPEN ≡ true → Stops (of.Cond (d + 1) n) mid e → Stops (of.Unit' d n) old e
 bracket_err d n t old mid stop.Memory first sees room a = tt
 bracket_err d n t old mid (stop.Fault f) first sees room a = let kind = seen OpenBracket t old mid first sees in λ g more k. rw (first, kind, room) (a g _ _)
 
 -- the second bracket does not stand there
-pub bracket_open : (d n : ℕ) (v : Counted) (t : Piece) (old mid u new : List Piece) (e : Stop) → old ≡ t ∷ mid → SeesKind OpenBracket old → nat_lt d 16 ≡ true
+pub bracket_open : (d n : ℕ) (v : Counted) (t : Piece) (old mid u new : List Piece) (e : Stop) → old ≡ t ∷ mid → SeesKind OpenBracket old → nat_lt d MAX_OPEN ≡ true
     → Read (of.Cond (d + 1) n) v mid u → ReadsToken CloseBracket u new (Err e) → Stops (of.Unit' d n) old e
 bracket_open d n v t old mid u new stop.Memory first sees room a none = tt
 bracket_open d n v t old mid u new (stop.Fault f) first sees room a none =
@@ -100,20 +101,20 @@ bracket_open d n v t old mid u new (stop.Fault f) first sees room a none =
     λ g more k. rw (first, kind, room) (a.1 g _ _ ∙ none g _ _ _)
 
 -- a `not` was made
-pub not_made : {A : Type 0} (d n n' : ℕ) (inner : CondData) (r : Result (Cond A) Stop) (t : Piece) (old mid new : List Piece) → old ≡ t ∷ mid → SeesKind Not old → nat_lt d 16 ≡ true
+pub not_made : {A : Type 0} (d n n' : ℕ) (inner : CondData) (r : Result (Cond A) Stop) (t : Piece) (old mid new : List Piece) → old ≡ t ∷ mid → SeesKind Not old → nat_lt d MAX_OPEN ≡ true
     → Read (of.Unit' (d + 1) n) (record { formula = inner; count = n' }) mid new → OrMemory r (λ x. cond_content x ≡ neither inner)
     → Reads (of.Unit' d n) (λ c. record { formula = cond_content c; count = n' }) old new r
 not_made d n n' inner (Ok x) t old mid new first sees room a made = not_ok d n n' inner (cond_content x) t old mid new first sees room a made
 not_made d n n' inner (Err e) t old mid new first sees room a made = rw made tt
 
-pub bracket_ok : (d n : ℕ) (v : Counted) (t s : Piece) (old mid u new : List Piece) → old ≡ t ∷ mid → SeesKind OpenBracket old → nat_lt d 16 ≡ true
+pub bracket_ok : (d n : ℕ) (v : Counted) (t s : Piece) (old mid u new : List Piece) → old ≡ t ∷ mid → SeesKind OpenBracket old → nat_lt d MAX_OPEN ≡ true
     → Read (of.Cond (d + 1) n) v mid u → Taken CloseBracket s u new → Read (of.Unit' d n) v old new
 bracket_ok d n v t s old mid u new first sees room a close =
     let kind = seen OpenBracket t old mid first sees in
     (omega (arith, ap length first, a.0, ap length close.0), λ g more k. rw (first, kind, room) (a.1 g _ _ ∙ rw close.0 (rw close.1 refl)))
 
 -- what stands in brackets, and what may be the second of them
-pub bracket_closed : {X : Type 0} (view : X → Counted) (d n : ℕ) (x : X) (r : Result X Stop) (t : Piece) (old mid u new : List Piece) → old ≡ t ∷ mid → SeesKind OpenBracket old → nat_lt d 16 ≡ true
+pub bracket_closed : {X : Type 0} (view : X → Counted) (d n : ℕ) (x : X) (r : Result X Stop) (t : Piece) (old mid u new : List Piece) → old ≡ t ∷ mid → SeesKind OpenBracket old → nat_lt d MAX_OPEN ≡ true
     → Read (of.Cond (d + 1) n) (view x) mid u → Closes CloseBracket u new x r → Reads (of.Unit' d n) view old new r
 bracket_closed view d n x (Ok y) t old mid u new first sees room a close = rw close.0 (bracket_ok d n (view x) t close.1.0 old mid u new first sees room a (close.1.1, close.1.2))
 bracket_closed view d n x (Err e) t old mid u new first sees room a close = bracket_open d n (view x) t old mid u new e first sees room a close

@@ -21,6 +21,7 @@ use Rattle.sml_read.proofs.Behind.{lacking}
 use Rattle.sml_read.proofs.Steps.{Taken, seen}
 use Rattle.sml_read.proofs.Heads.{Read}
 use Rattle.sml_read.proofs.Trails.{only_way, token_refused}
+use Rattle.sml_tree.specs.declared.limits.TheConstants.{MAX_IFS}
 
 -- what stands behind `then`
 abbrev arms_rest : (d : ℕ) → Piece → Form (Value (Arm d)) (P of.Blocks ∷ P of.Elses ∷ B Endif ∷ [])
@@ -106,11 +107,11 @@ arms_closed view d old u x y new t both (Ok z) yes' no' first kind is a b close 
 arms_closed view d old u x y new t both (Err e) yes' no' first kind is a b close = arms_open d old u x y new t yes' no' e first kind a b close
 
 -- an `if` inside too many others
-pub if_deep : (d : ℕ) (t : Piece) (old new : List Piece) → old ≡ t ∷ new → SeesKind If old → nat_lt d 16 ≡ false → Refuses (Block d) old (TooDeep t.at)
+pub if_deep : (d : ℕ) (t : Piece) (old new : List Piece) → old ≡ t ∷ new → SeesKind If old → nat_lt d MAX_IFS ≡ false → Refuses (Block d) old (TooDeep t.at)
 if_deep d t old new e sees full = let kind = seen If t old new e sees in λ g more k. rw (e, kind, full) refl
 
 -- an `if` and what follows it
-pub if_front : {X : Type 0} (view : X → InstrData) (d : ℕ) (r : Result X Stop) (t : Piece) (old u new : List Piece) → old ≡ t ∷ u → SeesKind If old → nat_lt d 16 ≡ true
+pub if_front : {X : Type 0} (view : X → InstrData) (d : ℕ) (r : Result X Stop) (t : Piece) (old u new : List Piece) → old ≡ t ∷ u → SeesKind If old → nat_lt d MAX_IFS ≡ true
     → Reads (Branch d) view u new r → ReadsFront (Block d) (Block d) (λ x v. view x ∷ v) old new r
 if_front view d (Ok x) t old u new e sees room a = let kind = seen If t old u e sees in (omega (arith, ap length e, a.0), λ g more k. rw (e, kind, room) (a.1 g _ _))
 if_front view d (Err stop.Memory) t old u new e sees room a = tt

@@ -16,6 +16,7 @@ use Rattle.sml_read.specs.Reads.{Leads, Passes, Stops, SeesKind, ReadsToken}
 use Rattle.sml_read.specs.Heads.{Opens, ReadsHead}
 use Rattle.sml_read.specs.Trails.{Trail}
 use Rattle.sml_read.proofs.Steps.{Taken, seen}
+use Rattle.sml_tree.specs.declared.limits.TheConstants.{MAX_ACTIONS, MAX_CLASSES, MAX_OBJECTS, MAX_SETS, MAX_STATES}
 
 -- a part stands in front of another
 abbrev pub Ahead : (n next : Part) → (Value next → Value n) → List Piece → List Piece → Type 0
@@ -106,142 +107,142 @@ set_form c o s w = do
 
 -- what begins so
 action_opens : (before : ℕ) (old : List Piece) → SeesKind Action old
-    → Opens (of.Action before) before 32 (P of.ActionParamLists ∷ P of.Blocks ∷ P of.Actions ∷ []) (action_form before) old
+    → Opens (of.Action before) before MAX_ACTIONS (P of.ActionParamLists ∷ P of.Blocks ∷ P of.Actions ∷ []) (action_form before) old
 action_opens before old sees t ts e g more k = let kind = seen Action t old ts e sees in rw kind refl
 
-state_opens : (before : ℕ) (old : List Piece) → SeesKind State old → Opens (of.State before) before 32 (P of.StateMarks ∷ P of.Actions ∷ P of.States ∷ []) (state_form before) old
+state_opens : (before : ℕ) (old : List Piece) → SeesKind State old → Opens (of.State before) before MAX_STATES (P of.StateMarks ∷ P of.Actions ∷ P of.States ∷ []) (state_form before) old
 state_opens before old sees t ts e g more k = let kind = seen State t old ts e sees in rw kind refl
 
 class_opens : (c o s : ℕ) (old : List Piece) → SeesKind Class old
-    → Opens (of.File c o s) c 64 (P of.ClassMarks ∷ P of.ClassParamLists ∷ P of.States ∷ P of.Files ∷ []) (class_form c o s) old
+    → Opens (of.File c o s) c MAX_CLASSES (P of.ClassMarks ∷ P of.ClassParamLists ∷ P of.States ∷ P of.Files ∷ []) (class_form c o s) old
 class_opens c o s old sees t ts e g more k = let kind = seen Class t old ts e sees in rw kind refl
 
-object_opens : (c o s : ℕ) (old : List Piece) → SeesKind Object old → Opens (of.File c o s) o 64 (B IsOfClass ∷ B Name ∷ P of.Files ∷ []) (object_form c o s) old
+object_opens : (c o s : ℕ) (old : List Piece) → SeesKind Object old → Opens (of.File c o s) o MAX_OBJECTS (B IsOfClass ∷ B Name ∷ P of.Files ∷ []) (object_form c o s) old
 object_opens c o s old sees t ts e g more k = let kind = seen Object t old ts e sees in rw kind refl
 
 set_opens : (c o s : ℕ) (old : List Piece) → SeesKind ObjectSet old
-    → Opens (of.File c o s) s 32 (B OpenBrace ∷ P of.MemberLists ∷ B CloseBrace ∷ P of.Files ∷ []) (set_form c o s) old
+    → Opens (of.File c o s) s MAX_SETS (B OpenBrace ∷ P of.MemberLists ∷ B CloseBrace ∷ P of.Files ∷ []) (set_form c o s) old
 set_opens c o s old sees t ts e g more k = let kind = seen ObjectSet t old ts e sees in rw kind refl
 
 -- an action
-action_trail : (before : ℕ) (old x : List Piece) (w : List ℕ) → SeesKind Action old → Headed before 32 old x w → Trail (of.Action before) _ (action_form before w) old x
+action_trail : (before : ℕ) (old x : List Piece) (w : List ℕ) → SeesKind Action old → Headed before MAX_ACTIONS old x w → Trail (of.Action before) _ (action_form before w) old x
 action_trail before old x w sees h = h.1 (of.Action before) _ (action_form before) (action_opens before old sees)
 
-pub action_head_err : (before : ℕ) (old new : List Piece) (e : Stop) → SeesKind Action old → ReadsHead before 32 old new (Err e) → Stops (of.Action before) old e
+pub action_head_err : (before : ℕ) (old new : List Piece) (e : Stop) → SeesKind Action old → ReadsHead before MAX_ACTIONS old new (Err e) → Stops (of.Action before) old e
 action_head_err before old new e sees h = h (of.Action before) _ (action_form before) (action_opens before old sees)
 
 pub action_ok : (before : ℕ) (old x y new : List Piece) (w : List ℕ) (params : List ActionParamData) (body : List InstrData) → SeesKind Action old
-    → Headed before 32 old x w → Read of.ActionParamList params x y → Read (of.Block 0) body y new
+    → Headed before MAX_ACTIONS old x w → Read of.ActionParamList params x y → Read (of.Block 0) body y new
     → Ahead (of.Action before) (of.Action (before + 1)) (λ v. record { name = w; params = params; body = block_of body } ∷ v) old new
 action_ok before old x y new w params body sees h a b = (omega (arith, h.0, a.0, b.0), λ g more k. action_trail before old x w sees h g more k ∙ a.1 g _ _ ∙ b.1 g _ _)
 
-pub action_params_err : (before : ℕ) (old x : List Piece) (w : List ℕ) (e : Stop) → SeesKind Action old → Headed before 32 old x w → Stops of.ActionParamList x e → Stops (of.Action before) old e
+pub action_params_err : (before : ℕ) (old x : List Piece) (w : List ℕ) (e : Stop) → SeesKind Action old → Headed before MAX_ACTIONS old x w → Stops of.ActionParamList x e → Stops (of.Action before) old e
 action_params_err before old x w stop.Memory sees h a = tt
 action_params_err before old x w (stop.Fault f) sees h a = λ g more k. action_trail before old x w sees h g more k ∙ a g _ _
 
 pub action_body_err : (before : ℕ) (old x y : List Piece) (w : List ℕ) (params : List ActionParamData) (e : Stop) → SeesKind Action old
-    → Headed before 32 old x w → Read of.ActionParamList params x y → Stops (of.Block 0) y e → Stops (of.Action before) old e
+    → Headed before MAX_ACTIONS old x w → Read of.ActionParamList params x y → Stops (of.Block 0) y e → Stops (of.Action before) old e
 action_body_err before old x y w params stop.Memory sees h a b = tt
 action_body_err before old x y w params (stop.Fault f) sees h a b = λ g more k. action_trail before old x w sees h g more k ∙ a.1 g _ _ ∙ b g _ _
 
 -- a state
-state_trail : (before : ℕ) (old x : List Piece) (w : List ℕ) → SeesKind State old → Headed before 32 old x w → Trail (of.State before) _ (state_form before w) old x
+state_trail : (before : ℕ) (old x : List Piece) (w : List ℕ) → SeesKind State old → Headed before MAX_STATES old x w → Trail (of.State before) _ (state_form before w) old x
 state_trail before old x w sees h = h.1 (of.State before) _ (state_form before) (state_opens before old sees)
 
-pub state_head_err : (before : ℕ) (old new : List Piece) (e : Stop) → SeesKind State old → ReadsHead before 32 old new (Err e) → Stops (of.State before) old e
+pub state_head_err : (before : ℕ) (old new : List Piece) (e : Stop) → SeesKind State old → ReadsHead before MAX_STATES old new (Err e) → Stops (of.State before) old e
 state_head_err before old new e sees h = h (of.State before) _ (state_form before) (state_opens before old sees)
 
 pub state_ok : (before : ℕ) (old x y new : List Piece) (w : List ℕ) (marks : Marks) (actions : List ActionData) → SeesKind State old
-    → Headed before 32 old x w → Read of.StateMark marks x y → Read (of.Action 0) actions y new
+    → Headed before MAX_ACTIONS old x w → Read of.StateMark marks x y → Read (of.Action 0) actions y new
     → Ahead (of.State before) (of.State (before + 1)) (λ v. record { name = w; initial = marks.initial; dead = marks.dead; actions = actions } ∷ v) old new
 state_ok before old x y new w marks actions sees h a b = (omega (arith, h.0, a.0, b.0), λ g more k. state_trail before old x w sees h g more k ∙ a.1 g _ _ ∙ b.1 g _ _)
 
-pub state_marks_err : (before : ℕ) (old x : List Piece) (w : List ℕ) (e : Stop) → SeesKind State old → Headed before 32 old x w → Stops of.StateMark x e → Stops (of.State before) old e
+pub state_marks_err : (before : ℕ) (old x : List Piece) (w : List ℕ) (e : Stop) → SeesKind State old → Headed before MAX_STATES old x w → Stops of.StateMark x e → Stops (of.State before) old e
 state_marks_err before old x w stop.Memory sees h a = tt
 state_marks_err before old x w (stop.Fault f) sees h a = λ g more k. state_trail before old x w sees h g more k ∙ a g _ _
 
 pub state_actions_err : (before : ℕ) (old x y : List Piece) (w : List ℕ) (marks : Marks) (e : Stop) → SeesKind State old
-    → Headed before 32 old x w → Read of.StateMark marks x y → Stops (of.Action 0) y e → Stops (of.State before) old e
+    → Headed before MAX_STATES old x w → Read of.StateMark marks x y → Stops (of.Action 0) y e → Stops (of.State before) old e
 state_actions_err before old x y w marks stop.Memory sees h a b = tt
 state_actions_err before old x y w marks (stop.Fault f) sees h a b = λ g more k. state_trail before old x w sees h g more k ∙ a.1 g _ _ ∙ b g _ _
 
 -- a class
-class_trail : (c o s : ℕ) (old x : List Piece) (w : List ℕ) → SeesKind Class old → Headed c 64 old x w → Trail (of.File c o s) _ (class_form c o s w) old x
+class_trail : (c o s : ℕ) (old x : List Piece) (w : List ℕ) → SeesKind Class old → Headed c MAX_CLASSES old x w → Trail (of.File c o s) _ (class_form c o s w) old x
 class_trail c o s old x w sees h = h.1 (of.File c o s) _ (class_form c o s) (class_opens c o s old sees)
 
-pub class_head_err : (c o s : ℕ) (old new : List Piece) (e : Stop) → SeesKind Class old → ReadsHead c 64 old new (Err e) → Stops (of.File c o s) old e
+pub class_head_err : (c o s : ℕ) (old new : List Piece) (e : Stop) → SeesKind Class old → ReadsHead c MAX_CLASSES old new (Err e) → Stops (of.File c o s) old e
 class_head_err c o s old new e sees h = h (of.File c o s) _ (class_form c o s) (class_opens c o s old sees)
 
 pub class_ok : (c o s : ℕ) (old x y z new : List Piece) (w : List ℕ) (associated : Bool) (params : List ClassParamData) (states : List StateData) → SeesKind Class old
-    → Headed c 64 old x w → Read of.ClassMark associated x y → Read of.ClassParamList params y z → Read (of.State 0) states z new
+    → Headed c MAX_CLASSES old x w → Read of.ClassMark associated x y → Read of.ClassParamList params y z → Read (of.State 0) states z new
     → Ahead (of.File c o s) (of.File (c + 1) o s) (λ v. said.class (record { name = w; associated = associated; params = params; states = states }) ∷ v) old new
 class_ok c o s old x y z new w associated params states sees h a b d =
     (omega (arith, h.0, a.0, b.0, d.0), λ g more k. class_trail c o s old x w sees h g more k ∙ a.1 g _ _ ∙ b.1 g _ _ ∙ d.1 g _ _)
 
-pub class_mark_err : (c o s : ℕ) (old x : List Piece) (w : List ℕ) (e : Stop) → SeesKind Class old → Headed c 64 old x w → Stops of.ClassMark x e → Stops (of.File c o s) old e
+pub class_mark_err : (c o s : ℕ) (old x : List Piece) (w : List ℕ) (e : Stop) → SeesKind Class old → Headed c MAX_CLASSES old x w → Stops of.ClassMark x e → Stops (of.File c o s) old e
 class_mark_err c o s old x w stop.Memory sees h a = tt
 class_mark_err c o s old x w (stop.Fault f) sees h a = λ g more k. class_trail c o s old x w sees h g more k ∙ a g _ _
 
 pub class_params_err : (c o s : ℕ) (old x y : List Piece) (w : List ℕ) (associated : Bool) (e : Stop) → SeesKind Class old
-    → Headed c 64 old x w → Read of.ClassMark associated x y → Stops of.ClassParamList y e → Stops (of.File c o s) old e
+    → Headed c MAX_CLASSES old x w → Read of.ClassMark associated x y → Stops of.ClassParamList y e → Stops (of.File c o s) old e
 class_params_err c o s old x y w associated stop.Memory sees h a b = tt
 class_params_err c o s old x y w associated (stop.Fault f) sees h a b = λ g more k. class_trail c o s old x w sees h g more k ∙ a.1 g _ _ ∙ b g _ _
 
 pub class_states_err : (c o s : ℕ) (old x y z : List Piece) (w : List ℕ) (associated : Bool) (params : List ClassParamData) (e : Stop) → SeesKind Class old
-    → Headed c 64 old x w → Read of.ClassMark associated x y → Read of.ClassParamList params y z → Stops (of.State 0) z e → Stops (of.File c o s) old e
+    → Headed c MAX_CLASSES old x w → Read of.ClassMark associated x y → Read of.ClassParamList params y z → Stops (of.State 0) z e → Stops (of.File c o s) old e
 class_states_err c o s old x y z w associated params stop.Memory sees h a b d = tt
 class_states_err c o s old x y z w associated params (stop.Fault f) sees h a b d = λ g more k. class_trail c o s old x w sees h g more k ∙ a.1 g _ _ ∙ b.1 g _ _ ∙ d g _ _
 
 -- an object
-object_trail : (c o s : ℕ) (old x : List Piece) (w : List ℕ) → SeesKind Object old → Headed o 64 old x w → Trail (of.File c o s) _ (object_form c o s w) old x
+object_trail : (c o s : ℕ) (old x : List Piece) (w : List ℕ) → SeesKind Object old → Headed o MAX_OBJECTS old x w → Trail (of.File c o s) _ (object_form c o s w) old x
 object_trail c o s old x w sees h = h.1 (of.File c o s) _ (object_form c o s) (object_opens c o s old sees)
 
-pub object_head_err : (c o s : ℕ) (old new : List Piece) (e : Stop) → SeesKind Object old → ReadsHead o 64 old new (Err e) → Stops (of.File c o s) old e
+pub object_head_err : (c o s : ℕ) (old new : List Piece) (e : Stop) → SeesKind Object old → ReadsHead o MAX_OBJECTS old new (Err e) → Stops (of.File c o s) old e
 object_head_err c o s old new e sees h = h (of.File c o s) _ (object_form c o s) (object_opens c o s old sees)
 
 pub object_ok : (c o s : ℕ) (old x y new : List Piece) (w w' : List ℕ) (b d : Piece) → SeesKind Object old
-    → Headed o 64 old x w → Taken IsOfClass b x y → Taken Name d y new → w' ≡ name d
+    → Headed o MAX_OBJECTS old x w → Taken IsOfClass b x y → Taken Name d y new → w' ≡ name d
     → Ahead (of.File c o s) (of.File c (o + 1) s) (λ v. said.object (record { name = w; class = w' }) ∷ v) old new
 object_ok c o s old x y new w w' b d sees h is_of class is = (
   omega (arith, h.0, ap length is_of.0, ap length class.0),
   λ g more k. object_trail c o s old x w sees h g more k ∙ rw (is_of.0, class.0, is) (rw (is_of.1, class.1) refl),
 )
 
-pub object_word_err : (c o s : ℕ) (old x y : List Piece) (w : List ℕ) (e : Stop) → SeesKind Object old → Headed o 64 old x w → ReadsToken IsOfClass x y (Err e) → Stops (of.File c o s) old e
+pub object_word_err : (c o s : ℕ) (old x y : List Piece) (w : List ℕ) (e : Stop) → SeesKind Object old → Headed o MAX_OBJECTS old x w → ReadsToken IsOfClass x y (Err e) → Stops (of.File c o s) old e
 object_word_err c o s old x y w stop.Memory sees h none = tt
 object_word_err c o s old x y w (stop.Fault f) sees h none = λ g more k. object_trail c o s old x w sees h g more k ∙ none g _ _ _
 
 pub object_class_err : (c o s : ℕ) (old x y new : List Piece) (w : List ℕ) (b : Piece) (e : Stop) → SeesKind Object old
-    → Headed o 64 old x w → Taken IsOfClass b x y → ReadsToken Name y new (Err e) → Stops (of.File c o s) old e
+    → Headed o MAX_OBJECTS old x w → Taken IsOfClass b x y → ReadsToken Name y new (Err e) → Stops (of.File c o s) old e
 object_class_err c o s old x y new w b stop.Memory sees h is_of none = tt
 object_class_err c o s old x y new w b (stop.Fault f) sees h is_of none = λ g more k. object_trail c o s old x w sees h g more k ∙ rw is_of.0 (rw is_of.1 (none g _ _ _))
 
 -- a set
-set_trail : (c o s : ℕ) (old x : List Piece) (w : List ℕ) → SeesKind ObjectSet old → Headed s 32 old x w → Trail (of.File c o s) _ (set_form c o s w) old x
+set_trail : (c o s : ℕ) (old x : List Piece) (w : List ℕ) → SeesKind ObjectSet old → Headed s MAX_SETS old x w → Trail (of.File c o s) _ (set_form c o s w) old x
 set_trail c o s old x w sees h = h.1 (of.File c o s) _ (set_form c o s) (set_opens c o s old sees)
 
-pub set_head_err : (c o s : ℕ) (old new : List Piece) (e : Stop) → SeesKind ObjectSet old → ReadsHead s 32 old new (Err e) → Stops (of.File c o s) old e
+pub set_head_err : (c o s : ℕ) (old new : List Piece) (e : Stop) → SeesKind ObjectSet old → ReadsHead s MAX_SETS old new (Err e) → Stops (of.File c o s) old e
 set_head_err c o s old new e sees h = h (of.File c o s) _ (set_form c o s) (set_opens c o s old sees)
 
 pub set_ok : (c o s : ℕ) (old x y z new : List Piece) (w : List ℕ) (members : List (List ℕ)) (b d : Piece) → SeesKind ObjectSet old
-    → Headed s 32 old x w → Taken OpenBrace b x y → Read of.Members members y z → Taken CloseBrace d z new
+    → Headed s MAX_SETS old x w → Taken OpenBrace b x y → Read of.Members members y z → Taken CloseBrace d z new
     → Ahead (of.File c o s) (of.File c o (s + 1)) (λ v. said.group (record { name = w; members = members }) ∷ v) old new
 set_ok c o s old x y z new w members b d sees h open' a close = (
   omega (arith, h.0, ap length open'.0, a.0, ap length close.0),
   λ g more k. set_trail c o s old x w sees h g more k ∙ rw open'.0 (rw open'.1 (a.1 g _ _ ∙ rw close.0 (rw close.1 refl))),
 )
 
-pub set_brace_err : (c o s : ℕ) (old x y : List Piece) (w : List ℕ) (e : Stop) → SeesKind ObjectSet old → Headed s 32 old x w → ReadsToken OpenBrace x y (Err e) → Stops (of.File c o s) old e
+pub set_brace_err : (c o s : ℕ) (old x y : List Piece) (w : List ℕ) (e : Stop) → SeesKind ObjectSet old → Headed s MAX_SETS old x w → ReadsToken OpenBrace x y (Err e) → Stops (of.File c o s) old e
 set_brace_err c o s old x y w stop.Memory sees h none = tt
 set_brace_err c o s old x y w (stop.Fault f) sees h none = λ g more k. set_trail c o s old x w sees h g more k ∙ none g _ _ _
 
 pub set_members_err : (c o s : ℕ) (old x y : List Piece) (w : List ℕ) (b : Piece) (e : Stop) → SeesKind ObjectSet old
-    → Headed s 32 old x w → Taken OpenBrace b x y → Stops of.Members y e → Stops (of.File c o s) old e
+    → Headed s MAX_SETS old x w → Taken OpenBrace b x y → Stops of.Members y e → Stops (of.File c o s) old e
 set_members_err c o s old x y w b stop.Memory sees h open' a = tt
 set_members_err c o s old x y w b (stop.Fault f) sees h open' a = λ g more k. set_trail c o s old x w sees h g more k ∙ rw open'.0 (rw open'.1 (a g _ _))
 
 pub set_end_err : (c o s : ℕ) (old x y z new : List Piece) (w : List ℕ) (members : List (List ℕ)) (b : Piece) (e : Stop) → SeesKind ObjectSet old
-    → Headed s 32 old x w → Taken OpenBrace b x y → Read of.Members members y z → ReadsToken CloseBrace z new (Err e) → Stops (of.File c o s) old e
+    → Headed s MAX_SETS old x w → Taken OpenBrace b x y → Read of.Members members y z → ReadsToken CloseBrace z new (Err e) → Stops (of.File c o s) old e
 set_end_err c o s old x y z new w members b stop.Memory sees h open' a none = tt
 set_end_err c o s old x y z new w members b (stop.Fault f) sees h open' a none =
     λ g more k. set_trail c o s old x w sees h g more k ∙ rw open'.0 (rw open'.1 (a.1 g _ _ ∙ none g _ _ _))

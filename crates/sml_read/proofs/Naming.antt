@@ -15,6 +15,7 @@ use Rattle.sml_text.specs.declared.tokens.Lexeme.{Lexeme}
 use Rattle.sml_text.specs.declared.tokens.Lexeme.TheVariants as lexeme
 use Rattle.sml_text.specs.Views.{lexeme_of}
 use Rattle.sml_read.specs.Held.{IsHeld}
+use Rattle.sml_text.specs.declared.limits.TheConstants.{LONGEST_NAME}
 
 grouped : (a b d : Bool) → (a || (b || d)) ≡ ((a || b) || d)
 grouped true b d = refl
@@ -33,7 +34,7 @@ same_text (c ∷ w) = ap (λ (b : Bool). is_ascii_alphabetic c && b) (same_bytes
 
 -- what the text takes for a word may be a name
 pub name_word : (w : List ℕ) → IsTrue (text.is_word w) → IsTrue (tree.is_word w)
-name_word w h = subst (λ (b : Bool). IsTrue (b && nat_le (length w) 64)) (same_text w) h
+name_word w h = subst (λ (b : Bool). IsTrue (b && nat_le (length w) LONGEST_NAME)) (same_text w) h
 
 -- the kind of an int or of a string
 abbrev is_value : TokenKind → Bool

@@ -2,6 +2,7 @@
 use Rattle.std.specs.Prelude.{◌≤◌}
 use Rattle.sml_tree.specs.Form.{Part, File}
 use Rattle.sml_read.specs.declared.item.Counts.{Counts}
+use Rattle.sml_tree.specs.declared.limits.TheConstants.{MAX_CLASSES, MAX_OBJECTS, MAX_SETS}
 
 -- the rest of a file that has so many items before it
 abbrev pub file_part : Counts → Part
@@ -9,4 +10,4 @@ file_part c = File c.classes c.objects c.sets
 
 -- no sort has more items than it may
 abbrev pub IsWithin : Counts → Type 0
-IsWithin c = (c.classes ≤ 64) × (c.objects ≤ 64) × (c.sets ≤ 32)
+IsWithin c = (c.classes ≤ MAX_CLASSES) × (c.objects ≤ MAX_OBJECTS) × (c.sets ≤ MAX_SETS)

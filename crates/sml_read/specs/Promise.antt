@@ -13,6 +13,7 @@ use Rattle.sml_read.specs.declared.fault.Stop.TheVariants as stop
 use Rattle.sml_read.specs.declared.error.ReadError.{ReadError}
 use Rattle.sml_read.specs.declared.error.ReadErrorKind.{ReadErrorKind}
 use Rattle.sml_read.specs.declared.error.ReadErrorKind.TheVariants.{TooLong, NotAscii, BadToken, Unexpected, TooDeep, TooMany, Memory}
+use Rattle.sml_read.specs.declared.reading.TheConstants.{MAX_TEXT}
 
 -- a refusal
 abbrev pub refusal : ReadErrorKind → ℕ → ReadError
@@ -20,7 +21,7 @@ refusal kind offset = record { kind = kind; offset = offset }
 
 -- the text is within its limit
 abbrev pub IsShort : List ℕ → Type 0
-IsShort text = length text ≤ 2 ^ 20
+IsShort text = length text ≤ MAX_TEXT
 
 -- the place of the first byte above 0x7F
 abbrev pub first_foreign : List ℕ → Option ℕ
@@ -40,7 +41,7 @@ FaultOfText text f = IsShort text × (first_foreign text ≡ None) × ((ts : Lis
 
 -- why a text is refused so
 abbrev pub Cause : List ℕ → ReadErrorKind → ℕ → Type 0
-Cause text TooLong at = (2 ^ 20 < length text) × (at ≡ 2 ^ 20)
+Cause text TooLong at = (MAX_TEXT < length text) × (at ≡ MAX_TEXT)
 Cause text NotAscii at = IsShort text × (first_foreign text ≡ Some at)
 Cause text BadToken at = IsShort text × (first_foreign text ≡ None) × BadTokenOf Domain text at
 Cause text Unexpected at = FaultOfText text (fault.Unexpected at) ⊎ (FaultOfText text fault.Ends × (at ≡ length text))

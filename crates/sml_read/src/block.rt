@@ -6,21 +6,17 @@ ghost use Rattle.sml_tree.specs.Content.{literal_content, arg_content, passed_co
 ghost use Rattle.sml_tree.specs.declared.token_kind.TokenKind.TheVariants as kinds;
 ghost use Rattle.sml_read.specs.Reads.{Reads, ReadsNext, ReadsFront, SeesKind};
 ghost use Rattle.sml_read.specs.Arms.{arms_content, ReadsAskedFor};
+ghost use Rattle.sml_tree.specs.declared.limits.TheConstants.{MAX_ARGUMENTS, MAX_IFS};
 
 use crate::fault::Stop;
 use crate::make;
 use crate::reader::Reader;
 use sml_tree::block::{Block, Instr};
 use sml_tree::cond::Cond;
+use sml_tree::limits::{MAX_ARGUMENTS, MAX_IFS};
 use sml_tree::literal::{Arg, Literal, Passed};
 use sml_tree::token_kind::TokenKind;
 use std::alloc::Allocator;
-
-/// How many arguments a `do` may have.
-const MAX_ARGS: usize = 16;
-
-/// How many `if`s may stand round an instruction.
-const MAX_IFS: u32 = 16;
 
 /// The two blocks of an `if`.
 #[derive(Drop)]
@@ -68,11 +64,11 @@ impl Reader<'_> {
 
     /// An argument that has so many before it.
     fn passed<A: Allocator + Clone>(&mut self, alloc: &A, before: usize) -> Result<Passed<A>, Stop>
-        requires { before ≤ 16 }
+        requires { before ≤ MAX_ARGUMENTS }
         ensures read { Reads (Passed' before) passed_content self.old self.new result }
-        ensures room { IfOk result (λ p. before < 16) }
+        ensures room { IfOk result (λ p. before < MAX_ARGUMENTS) }
     {
-        let name = self.limited(before, MAX_ARGS)?;
+        let name = self.limited(before, MAX_ARGUMENTS)?;
         self.expect(TokenKind::Equals)?;
         let value = self.arg(alloc)?;
         Ok(Passed { name, value })
@@ -149,7 +145,7 @@ impl Reader<'_> {
         alloc: &A,
         depth: u32,
     ) -> Result<Option<Instr<A>>, Stop>
-        requires { depth ≤ 16 }
+        requires { depth ≤ MAX_IFS }
         ensures { ReadsNext (Block' depth) (Block' depth) (λ i v. instr_content i ∷ v) [] self.old self.new result }
     {
         match self.peek() {
@@ -166,7 +162,7 @@ impl Reader<'_> {
     #[cycle(instructions)]
     fn choice<A: Allocator + Clone>(&mut self, alloc: &A, depth: u32) -> Result<Instr<A>, Stop>
         requires at_if { SeesKind kinds.If self.old }
-        requires depth { depth ≤ 16 }
+        requires depth { depth ≤ MAX_IFS }
         ensures { ReadsFront (Block' depth) (Block' depth) (λ i v. instr_content i ∷ v) self.old self.new result }
     {
         self.deeper(depth, MAX_IFS)?;
@@ -186,7 +182,7 @@ impl Reader<'_> {
     /// What follows the word of an `if` inside so many others.
     #[cycle(instructions)]
     fn branch<A: Allocator + Clone>(&mut self, alloc: &A, depth: u32) -> Result<Instr<A>, Stop>
-        requires { depth < 16 }
+        requires { depth < MAX_IFS }
         ensures { Reads (Branch depth) instr_content self.old self.new result }
     {
         let cond = self.asked_for(alloc)?;
@@ -197,7 +193,7 @@ impl Reader<'_> {
     /// The two blocks of an `if`.
     #[cycle(instructions)]
     fn arms<A: Allocator + Clone>(&mut self, alloc: &A, depth: u32) -> Result<Arms<A>, Stop>
-        requires { depth < 16 }
+        requires { depth < MAX_IFS }
         ensures { Reads (Arm depth) arms_content self.old self.new result }
     {
         self.expect(TokenKind::Then)?;
@@ -209,7 +205,7 @@ impl Reader<'_> {
     /// The second block of an `if`, which may be left out.
     #[cycle(instructions)]
     fn otherwise<A: Allocator + Clone>(&mut self, alloc: &A, depth: u32) -> Result<Block<A>, Stop>
-        requires { depth ≤ 16 }
+        requires { depth ≤ MAX_IFS }
         ensures { Reads (Else depth) (λ b. map instr_content b.instrs.items) self.old self.new result }
     {
         if !self.skip(TokenKind::Else) {
@@ -221,7 +217,7 @@ impl Reader<'_> {
     /// The instructions of a block inside so many `if`s.
     #[cycle(instructions)]
     pub fn block<A: Allocator + Clone>(&mut self, alloc: &A, depth: u32) -> Result<Block<A>, Stop>
-        requires { depth ≤ 16 }
+        requires { depth ≤ MAX_IFS }
         ensures { Reads (Block' depth) (λ b. map instr_content b.instrs.items) self.old self.new result }
     {
         let mut instrs = make::none(alloc)?;

@@ -4,20 +4,16 @@ ghost use Rattle.sml_tree.specs.Form.{Sense, StateList, Names, Unit' as Operand}
 ghost use Rattle.sml_tree.specs.Content.{cond_content};
 ghost use Rattle.sml_read.specs.Reads.{Reads, SeesKind};
 ghost use Rattle.sml_read.specs.Asks.{first_of, ReadsAsked};
+ghost use Rattle.sml_tree.specs.declared.limits.TheConstants.{MAX_TESTS};
 
 use crate::fault::{Fault, Stop};
 use crate::make;
 use crate::reader::Reader;
 use sml_tree::cond::{Cond, Scope};
+use sml_tree::limits::{MAX_NAMES, MAX_TESTS};
 use sml_tree::name::Name;
 use sml_tree::token_kind::TokenKind;
 use std::alloc::Allocator;
-
-/// How many tests a condition may have.
-const MAX_TESTS: u32 = 64;
-
-/// How many states a list may have.
-const MAX_NAMES: usize = 32;
 
 impl Reader<'_> {
     /// Whether a test asks for being in no state of its list.
@@ -68,7 +64,7 @@ impl Reader<'_> {
     fn asked(&mut self, scope: Scope, tests: u32) -> Result<Name, Stop>
         requires { SeesKind (first_of scope) self.old }
         ensures read { ReadsAsked scope tests self.old self.new result }
-        ensures room { IfOk result (λ name. tests < 64) }
+        ensures room { IfOk result (λ name. tests < MAX_TESTS) }
     {
         let held = self.take();
         if tests >= MAX_TESTS {
@@ -89,9 +85,9 @@ impl Reader<'_> {
         tests: &mut u32,
     ) -> Result<Cond<A>, Stop>
         requires at_test { SeesKind (first_of scope) self.old }
-        requires tests { tests.old ≤ 64 }
+        requires tests { tests.old ≤ MAX_TESTS }
         ensures read { Reads (Operand depth tests.old) (λ c. record { formula = cond_content c; count = tests.new }) self.old self.new result }
-        ensures room { OnOk result (tests.new ≤ 64) }
+        ensures room { OnOk result (tests.new ≤ MAX_TESTS) }
     {
         let name = self.asked(scope, *tests)?;
         let negated = self.sense()?;

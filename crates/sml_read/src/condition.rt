@@ -5,16 +5,15 @@ ghost use Rattle.sml_tree.specs.Form.{Cond as Cond'};
 ghost use Rattle.sml_tree.specs.Content.{cond_content};
 ghost use Rattle.sml_tree.specs.declared.token_kind.TokenKind.TheVariants as kinds;
 ghost use Rattle.sml_read.specs.Reads.{Reads, SeesKind};
+ghost use Rattle.sml_tree.specs.declared.limits.TheConstants.{MAX_OPEN, MAX_TESTS};
 
 use crate::fault::Stop;
 use crate::make;
 use crate::reader::Reader;
 use sml_tree::cond::{Cond, Scope};
+use sml_tree::limits::MAX_OPEN;
 use sml_tree::token_kind::TokenKind;
 use std::alloc::Allocator;
-
-/// How many `not`s and brackets of a condition may be open.
-const MAX_OPEN: u32 = 16;
 
 impl Reader<'_> {
     /// An operand inside so many open `not`s and brackets: a `not`, a bracket or a test.
@@ -25,10 +24,10 @@ impl Reader<'_> {
         depth: u32,
         tests: &mut u32,
     ) -> Result<Cond<A>, Stop>
-        requires depth { depth ≤ 16 }
-        requires tests { tests.old ≤ 64 }
+        requires depth { depth ≤ MAX_OPEN }
+        requires tests { tests.old ≤ MAX_TESTS }
         ensures read { Reads (Operand depth tests.old) (λ c. record { formula = cond_content c; count = tests.new }) self.old self.new result }
-        ensures room { OnOk result (tests.new ≤ 64) }
+        ensures room { OnOk result (tests.new ≤ MAX_TESTS) }
     {
         match self.peek() {
             Some(TokenKind::Not) => self.negation(alloc, depth, tests),
@@ -49,10 +48,10 @@ impl Reader<'_> {
         tests: &mut u32,
     ) -> Result<Cond<A>, Stop>
         requires at_not { SeesKind kinds.Not self.old }
-        requires depth { depth ≤ 16 }
-        requires tests { tests.old ≤ 64 }
+        requires depth { depth ≤ MAX_OPEN }
+        requires tests { tests.old ≤ MAX_TESTS }
         ensures read { Reads (Operand depth tests.old) (λ c. record { formula = cond_content c; count = tests.new }) self.old self.new result }
-        ensures room { OnOk result (tests.new ≤ 64) }
+        ensures room { OnOk result (tests.new ≤ MAX_TESTS) }
     {
         self.deeper(depth, MAX_OPEN)?;
         let operand = self.operand(alloc, depth + 1, tests)?;
@@ -68,10 +67,10 @@ impl Reader<'_> {
         tests: &mut u32,
     ) -> Result<Cond<A>, Stop>
         requires at_bracket { SeesKind kinds.OpenBracket self.old }
-        requires depth { depth ≤ 16 }
-        requires tests { tests.old ≤ 64 }
+        requires depth { depth ≤ MAX_OPEN }
+        requires tests { tests.old ≤ MAX_TESTS }
         ensures read { Reads (Operand depth tests.old) (λ c. record { formula = cond_content c; count = tests.new }) self.old self.new result }
-        ensures room { OnOk result (tests.new ≤ 64) }
+        ensures room { OnOk result (tests.new ≤ MAX_TESTS) }
     {
         self.deeper(depth, MAX_OPEN)?;
         let inner = self.condition(alloc, depth + 1, tests)?;
@@ -86,10 +85,10 @@ impl Reader<'_> {
         depth: u32,
         tests: &mut u32,
     ) -> Result<Cond<A>, Stop>
-        requires depth { depth ≤ 16 }
-        requires tests { tests.old ≤ 64 }
+        requires depth { depth ≤ MAX_OPEN }
+        requires tests { tests.old ≤ MAX_TESTS }
         ensures read { Reads (Conj depth tests.old) (λ c. record { formula = cond_content c; count = tests.new }) self.old self.new result }
-        ensures room { OnOk result (tests.new ≤ 64) }
+        ensures room { OnOk result (tests.new ≤ MAX_TESTS) }
     {
         let left = self.operand(alloc, depth, tests)?;
         self.more_ands(alloc, depth, tests, left)
@@ -104,10 +103,10 @@ impl Reader<'_> {
         tests: &mut u32,
         mut left: Cond<A>,
     ) -> Result<Cond<A>, Stop>
-        requires depth { depth ≤ 16 }
-        requires tests { tests.old ≤ 64 }
+        requires depth { depth ≤ MAX_OPEN }
+        requires tests { tests.old ≤ MAX_TESTS }
         ensures read { Reads (MoreAnd depth tests.old (cond_content left)) (λ c. record { formula = cond_content c; count = tests.new }) self.old self.new result }
-        ensures room { OnOk result (tests.new ≤ 64) }
+        ensures room { OnOk result (tests.new ≤ MAX_TESTS) }
     {
         'ands: while self.skip(TokenKind::And) {
             let right = self.operand(alloc, depth, tests)?;
@@ -124,10 +123,10 @@ impl Reader<'_> {
         depth: u32,
         tests: &mut u32,
     ) -> Result<Cond<A>, Stop>
-        requires depth { depth ≤ 16 }
-        requires tests { tests.old ≤ 64 }
+        requires depth { depth ≤ MAX_OPEN }
+        requires tests { tests.old ≤ MAX_TESTS }
         ensures read { Reads (Cond' depth tests.old) (λ c. record { formula = cond_content c; count = tests.new }) self.old self.new result }
-        ensures room { OnOk result (tests.new ≤ 64) }
+        ensures room { OnOk result (tests.new ≤ MAX_TESTS) }
     {
         let left = self.conjunction(alloc, depth, tests)?;
         self.more_ors(alloc, depth, tests, left)
@@ -142,10 +141,10 @@ impl Reader<'_> {
         tests: &mut u32,
         mut left: Cond<A>,
     ) -> Result<Cond<A>, Stop>
-        requires depth { depth ≤ 16 }
-        requires tests { tests.old ≤ 64 }
+        requires depth { depth ≤ MAX_OPEN }
+        requires tests { tests.old ≤ MAX_TESTS }
         ensures read { Reads (MoreOr depth tests.old (cond_content left)) (λ c. record { formula = cond_content c; count = tests.new }) self.old self.new result }
-        ensures room { OnOk result (tests.new ≤ 64) }
+        ensures room { OnOk result (tests.new ≤ MAX_TESTS) }
     {
         'ors: while self.skip(TokenKind::Or) {
             let right = self.conjunction(alloc, depth, tests)?;

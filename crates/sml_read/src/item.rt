@@ -10,21 +10,10 @@ use crate::fault::Stop;
 use crate::make;
 use crate::reader::Reader;
 use sml_tree::file::{Class, Group, Item, Object};
+use sml_tree::limits::{MAX_CLASSES, MAX_MEMBERS, MAX_OBJECTS, MAX_SETS};
 use sml_tree::name::Name;
 use sml_tree::token_kind::TokenKind;
 use std::alloc::Allocator;
-
-/// How many classes a file may have.
-const MAX_CLASSES: usize = 64;
-
-/// How many objects a file may have.
-const MAX_OBJECTS: usize = 64;
-
-/// How many sets a file may have.
-const MAX_SETS: usize = 32;
-
-/// How many members a set may have.
-const MAX_MEMBERS: usize = 64;
 
 /// How many items of each sort a file has.
 #[derive(Drop)]

@@ -3,36 +3,35 @@ ghost use Rattle.std.specs.Prelude.{◌≤◌, ◌<◌, map, option_map, IfOk};
 ghost use Rattle.sml_tree.specs.Form.{Sort, Default, ClassParam as ClassParam', ClassParamList, ActionParam as ActionParam', ActionParamList};
 ghost use Rattle.sml_tree.specs.Content.{literal_content, class_param_content, action_param_content};
 ghost use Rattle.sml_read.specs.Reads.{Reads};
+ghost use Rattle.sml_tree.specs.declared.limits.TheConstants.{MAX_PARAMETERS};
 
 use crate::fault::{Fault, Stop};
 use crate::make;
 use crate::reader::Reader;
 use sml_tree::file::{ActionParam, ClassParam, Kind};
+use sml_tree::limits::MAX_PARAMETERS;
 use sml_tree::literal::Literal;
 use sml_tree::token_kind::TokenKind;
 use std::alloc::Allocator;
 
-/// How many parameters a list may have.
-const MAX_PARAMS: usize = 16;
-
 impl Reader<'_> {
     /// The kind of a parameter that has so many before it.
     fn sort(&mut self, before: usize) -> Result<Kind, Stop>
-        requires { before ≤ 16 }
+        requires { before ≤ MAX_PARAMETERS }
         ensures read { Reads (Sort before) (λ kind. kind) self.old self.new result }
-        ensures room { IfOk result (λ kind. before < 16) }
+        ensures room { IfOk result (λ kind. before < MAX_PARAMETERS) }
     {
         match self.peek() {
             Some(TokenKind::IntKind) => {
                 let held = self.take();
-                if before >= MAX_PARAMS {
+                if before >= MAX_PARAMETERS {
                     return Err(Stop::Fault(Fault::TooMany(held.at())));
                 }
                 Ok(Kind::Int)
             }
             Some(TokenKind::StringKind) => {
                 let held = self.take();
-                if before >= MAX_PARAMS {
+                if before >= MAX_PARAMETERS {
                     return Err(Stop::Fault(Fault::TooMany(held.at())));
                 }
                 Ok(Kind::Str)
@@ -47,9 +46,9 @@ impl Reader<'_> {
         alloc: &A,
         before: usize,
     ) -> Result<ClassParam<A>, Stop>
-        requires { before ≤ 16 }
+        requires { before ≤ MAX_PARAMETERS }
         ensures read { Reads (ClassParam' before) class_param_content self.old self.new result }
-        ensures room { IfOk result (λ p. before < 16) }
+        ensures room { IfOk result (λ p. before < MAX_PARAMETERS) }
     {
         let kind = self.sort(before)?;
         let name = self.expect(TokenKind::Name)?.name();
@@ -77,9 +76,9 @@ impl Reader<'_> {
         alloc: &A,
         before: usize,
     ) -> Result<ActionParam<A>, Stop>
-        requires { before ≤ 16 }
+        requires { before ≤ MAX_PARAMETERS }
         ensures read { Reads (ActionParam' before) action_param_content self.old self.new result }
-        ensures room { IfOk result (λ p. before < 16) }
+        ensures room { IfOk result (λ p. before < MAX_PARAMETERS) }
     {
         let kind = self.sort(before)?;
         let name = self.expect(TokenKind::Name)?.name();

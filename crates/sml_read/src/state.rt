@@ -4,19 +4,15 @@ ghost use Rattle.sml_tree.specs.Form.{Action as Action', State as State', StateM
 ghost use Rattle.sml_tree.specs.Content.{action_content, state_content};
 ghost use Rattle.sml_tree.specs.declared.token_kind.TokenKind.TheVariants as kinds;
 ghost use Rattle.sml_read.specs.Reads.{Reads, ReadsFront, SeesKind};
+ghost use Rattle.sml_tree.specs.declared.limits.TheConstants.{MAX_ACTIONS, MAX_STATES};
 
 use crate::fault::Stop;
 use crate::make;
 use crate::reader::Reader;
 use sml_tree::file::{Action, State};
+use sml_tree::limits::{MAX_ACTIONS, MAX_STATES};
 use sml_tree::token_kind::TokenKind;
 use std::alloc::Allocator;
-
-/// How many actions a state may have.
-const MAX_ACTIONS: usize = 32;
-
-/// How many states a class may have.
-const MAX_STATES: usize = 32;
 
 /// The marks of a state.
 #[derive(Drop)]
@@ -29,9 +25,9 @@ impl Reader<'_> {
     /// The action that stands in front, of a state that has so many before it.
     fn action<A: Allocator + Clone>(&mut self, alloc: &A, before: usize) -> Result<Action<A>, Stop>
         requires at_action { SeesKind kinds.Action self.old }
-        requires before { before ≤ 32 }
+        requires before { before ≤ MAX_ACTIONS }
         ensures next { ReadsFront (Action' before) (Action' (before + 1)) (λ a v. action_content a ∷ v) self.old self.new result }
-        ensures room { OnOk result (before < 32) }
+        ensures room { OnOk result (before < MAX_ACTIONS) }
     {
         let name = self.head(before, MAX_ACTIONS)?;
         let params = self.action_params(alloc)?;
@@ -123,9 +119,9 @@ impl Reader<'_> {
     /// The state that stands in front, of a class that has so many before it.
     fn state<A: Allocator + Clone>(&mut self, alloc: &A, before: usize) -> Result<State<A>, Stop>
         requires at_state { SeesKind kinds.State self.old }
-        requires before { before ≤ 32 }
+        requires before { before ≤ MAX_STATES }
         ensures next { ReadsFront (State' before) (State' (before + 1)) (λ s v. state_content s ∷ v) self.old self.new result }
-        ensures room { OnOk result (before < 32) }
+        ensures room { OnOk result (before < MAX_STATES) }
     {
         let name = self.head(before, MAX_STATES)?;
         let marks = self.marks()?;

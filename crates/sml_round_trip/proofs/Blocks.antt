@@ -18,6 +18,7 @@ use Rattle.sml_round_trip.proofs.Says.{Anywhere, Say, Wrote, say_end, say_blank,
 use Rattle.sml_round_trip.proofs.Words.{say_word, say_name, say_sign}
 use Rattle.sml_round_trip.proofs.Values.{arg_wrote, args_wrote, bracket_edge}
 use Rattle.sml_round_trip.proofs.Conditions.{cond_wrote}
+use Rattle.sml_tree.specs.declared.limits.TheConstants.{MAX_OPEN}
 
 -- the instructions of a block
 abbrev pub instrs_of : BlockData → List InstrData
@@ -30,7 +31,7 @@ block_again (step i b) = ap (step i) (block_again b)
 
 -- the brackets of each condition
 abbrev pub Few : List CondData → Type 0
-Few cs = AllByRecursion (λ c. open_depth c ≤ 16) cs
+Few cs = AllByRecursion (λ c. open_depth c ≤ MAX_OPEN) cs
 
 -- behind an indent
 pub indented : {slash : Bool} {E : List ℕ → Type 0} {g : Part} {bones : List Bone} {form : Form (Value g) bones} {text : List ℕ} {v : Value g} (level : ℕ)
@@ -114,7 +115,7 @@ arms_wrote d level first second x y =
     (say_part (else_wrote (d + 1) level second (block_text (deeper level) second) y) (λ more e. tt)
     (indented level (say_word (codes "endif") kind.Endif refl refl tt (λ rest e. refl) (λ at. refl) (say_blank refl refl say_end)))))))
 
-branch_wrote : (d level : ℕ) (c : CondData) (first second : BlockData) → IsWritableCond c → open_depth c ≤ 16
+branch_wrote : (d level : ℕ) (c : CondData) (first second : BlockData) → IsWritableCond c → open_depth c ≤ MAX_OPEN
     → BlockWrote (d + 1) (block_text (deeper level) first) (instrs_of first) → BlockWrote (d + 1) (block_text (deeper level) second) (instrs_of second)
     → Wrote false Anywhere (of.Branch d) (branch_text level c first second) (choose c first second)
 branch_wrote d level c first second h few x y =
@@ -127,7 +128,7 @@ branch_wrote d level c first second h few x y =
     (say_sign sign.CloseBracket tt (λ at. refl)
     (say_blank refl refl (say_last (arms_wrote d level first second x y) (ap (λ b. gives (choose c b (block_of (instrs_of second)))) (block_again first) ∙ ap (λ b. gives (choose c first b)) (block_again second)))))))))
 
-choose_wrote : (d level : ℕ) (c : CondData) (first second : BlockData) (text : List ℕ) (is : List InstrData) → IsWritableCond c → open_depth c ≤ 16
+choose_wrote : (d level : ℕ) (c : CondData) (first second : BlockData) (text : List ℕ) (is : List InstrData) → IsWritableCond c → open_depth c ≤ MAX_OPEN
     → BlockWrote (d + 1) (block_text (deeper level) first) (instrs_of first) → BlockWrote (d + 1) (block_text (deeper level) second) (instrs_of second) → BlockWrote d text is
     → BlockWrote d (instr_text level (choose c first second) ++ text) (choose c first second ∷ is)
 choose_wrote d level c first second text is h few x y b =
@@ -142,7 +143,7 @@ pub block_wrote : (d level : ℕ) (b : BlockData) → IsWritableBlock b → Few 
 block_wrote d level no_more h few = wrote_none refl
 block_wrote d level (step (send s) b) h few = send_wrote d level s _ _ h.0 (block_wrote d level b h.1 few)
 block_wrote d level (step (choose c first second) b) h few =
-    let Q : CondData → Type 0 = λ x. open_depth x ≤ 16 in
+    let Q : CondData → Type 0 = λ x. open_depth x ≤ MAX_OPEN in
     let here = all_front Q (block_conditions first ++ block_conditions second) (block_conditions b) few.1 in
     choose_wrote d level c first second _ _ (h.0).0 few.0
     (block_wrote (d + 1) (deeper level) first (h.0).1 (all_front Q (block_conditions first) (block_conditions second) here))

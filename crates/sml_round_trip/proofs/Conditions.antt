@@ -14,6 +14,7 @@ use Rattle.sml_round_trip.specs.Writable.{IsWritableTest, IsWritableCond}
 use Rattle.sml_round_trip.proofs.Says.{Edge, Anywhere, Wrote, Chosen, say_end, say_blank, say_part, say_last, wrote_by, wrote_none, chosen, chosen_wrote, begin}
 use Rattle.sml_round_trip.proofs.Words.{say_word, say_name, say_sign}
 use Rattle.sml_round_trip.proofs.Values.{states_wrote}
+use Rattle.sml_tree.specs.declared.limits.TheConstants.{MAX_OPEN}
 
 abbrev pub counted : CondData → ℕ → Counted
 counted c count = record { formula = c; count = count }
@@ -81,20 +82,20 @@ cond_of_conj d n text c x = (
 )
 
 -- in brackets
-unit_of_cond : (d n : ℕ) (text : List ℕ) (c : CondData) → d + 1 ≤ 16 → CondMade (d + 1) n text c → UnitMade d n (bracketed true text) c
+unit_of_cond : (d n : ℕ) (text : List ℕ) (c : CondData) → d + 1 ≤ MAX_OPEN → CondMade (d + 1) n text c → UnitMade d n (bracketed true text) c
 unit_of_cond d n text c few x = (
   x.0,
   chosen _ (inr (inl refl))
-      (say_sign sign.OpenBracket (not_reached 16 d Deep few) (λ at. refl)
+      (say_sign sign.OpenBracket (not_reached MAX_OPEN d Deep few) (λ at. refl)
       (say_blank refl refl
       (say_part (chosen_wrote (cond_whole (d + 1) n text c x)) (λ more e. refl) (say_blank refl refl (say_sign sign.CloseBracket tt (λ at. refl) say_end))))),
 )
 
 -- behind `not`
-unit_of_unit : (d n : ℕ) (text : List ℕ) (c : CondData) → d + 1 ≤ 16 → UnitMade (d + 1) n text c → UnitMade d n (codes "not " ++ text) (neither c)
+unit_of_unit : (d n : ℕ) (text : List ℕ) (c : CondData) → d + 1 ≤ MAX_OPEN → UnitMade (d + 1) n text c → UnitMade d n (codes "not " ++ text) (neither c)
 unit_of_unit d n text c few x = (
   x.0,
-  chosen _ (inl refl) (say_word (codes "not") kind.Not refl refl (not_reached 16 d Deep few) (λ rest e. refl) (λ at. refl) (say_blank refl refl (say_last (chosen_wrote x.1) refl))),
+  chosen _ (inl refl) (say_word (codes "not") kind.Not refl refl (not_reached MAX_OPEN d Deep few) (λ rest e. refl) (λ at. refl) (say_blank refl refl (say_last (chosen_wrote x.1) refl))),
 )
 
 -- an operand of `and` more
@@ -120,15 +121,15 @@ one_or d n s t a b x y = (
 -- ---- conditions
 -- a condition as each of the three, where no more than sixteen are open
 pub record Made (c : CondData) : Type 0 where
-  pub as_cond : (d n : ℕ) → d + open_depth c ≤ 16 → CondMade d n (cond_text c) c
-  pub as_conj : (d n : ℕ) → d + in_brackets (is_or c) (open_depth c) ≤ 16 → ConjMade d n (bracketed (is_or c) (cond_text c)) c
-  pub as_unit : (d n : ℕ) → d + in_brackets (is_chain c) (open_depth c) ≤ 16 → UnitMade d n (bracketed (is_chain c) (cond_text c)) c
+  pub as_cond : (d n : ℕ) → d + open_depth c ≤ MAX_OPEN → CondMade d n (cond_text c) c
+  pub as_conj : (d n : ℕ) → d + in_brackets (is_or c) (open_depth c) ≤ MAX_OPEN → ConjMade d n (bracketed (is_or c) (cond_text c)) c
+  pub as_unit : (d n : ℕ) → d + in_brackets (is_chain c) (open_depth c) ≤ MAX_OPEN → UnitMade d n (bracketed (is_chain c) (cond_text c)) c
 
 pub made : (c : CondData) → IsWritableCond c → Made c
 made (both a b) h =
     let x = made a h.0 in
     let y = made b h.1 in
-    let conj : (d n : ℕ) → d + open_depth (both a b) ≤ 16 → ConjMade d n (cond_text (both a b)) (both a b) =
+    let conj : (d n : ℕ) → d + open_depth (both a b) ≤ MAX_OPEN → ConjMade d n (cond_text (both a b)) (both a b) =
     λ d n l. let front = x.as_conj d n (omega (arith, l)) in one_and d n _ _ a b front (y.as_unit d front.0 (omega (arith, l))) in
     record {
       as_cond = λ d n l. cond_of_conj d n _ (both a b) (conj d n l);
@@ -138,9 +139,9 @@ made (both a b) h =
 made (either a b) h =
     let x = made a h.0 in
     let y = made b h.1 in
-    let cond : (d n : ℕ) → d + open_depth (either a b) ≤ 16 → CondMade d n (cond_text (either a b)) (either a b) =
+    let cond : (d n : ℕ) → d + open_depth (either a b) ≤ MAX_OPEN → CondMade d n (cond_text (either a b)) (either a b) =
     λ d n l. let front = x.as_cond d n (omega (arith, l)) in one_or d n _ _ a b front (y.as_conj d front.0 (omega (arith, l))) in
-    let unit : (d n : ℕ) → d + (open_depth (either a b) + 1) ≤ 16 → UnitMade d n (bracketed true (cond_text (either a b))) (either a b) =
+    let unit : (d n : ℕ) → d + (open_depth (either a b) + 1) ≤ MAX_OPEN → UnitMade d n (bracketed true (cond_text (either a b))) (either a b) =
     λ d n l. unit_of_cond d n _ (either a b) (omega (arith, l)) (cond (d + 1) n (omega (arith, l))) in
     record {
       as_cond = cond;
@@ -149,7 +150,7 @@ made (either a b) h =
     }
 made (neither a) h =
     let x = made a h in
-    let unit : (d n : ℕ) → d + open_depth (neither a) ≤ 16 → UnitMade d n (cond_text (neither a)) (neither a) =
+    let unit : (d n : ℕ) → d + open_depth (neither a) ≤ MAX_OPEN → UnitMade d n (cond_text (neither a)) (neither a) =
     λ d n l. unit_of_unit d n _ a (omega (arith, l)) (x.as_unit (d + 1) n (omega (arith, l))) in
     record {
       as_cond = λ d n l. cond_of_conj d n (cond_text (neither a)) (neither a) (conj_of_unit d n (cond_text (neither a)) (neither a) (unit d n l));
@@ -165,5 +166,5 @@ made (test t) h =
     }
 
 -- the condition of an `if`
-pub cond_wrote : (c : CondData) → IsWritableCond c → open_depth c ≤ 16 → (count : ℕ) × Wrote false Edge (of.Cond 0 0) (cond_text c) (counted c count)
+pub cond_wrote : (c : CondData) → IsWritableCond c → open_depth c ≤ MAX_OPEN → (count : ℕ) × Wrote false Edge (of.Cond 0 0) (cond_text c) (counted c count)
 cond_wrote c h few = let x = (made c h).as_cond 0 0 (omega (arith, few)) in (x.0, chosen_wrote (cond_whole 0 0 (cond_text c) c x))

@@ -17,6 +17,7 @@ use Rattle.sml_round_trip.proofs.Says.{Edge, Anywhere, Wrote, say_end, say_blank
 use Rattle.sml_round_trip.proofs.Words.{say_word, say_name, say_sign}
 use Rattle.sml_round_trip.proofs.Values.{class_params_wrote, action_params_wrote, members_wrote, bracket_edge}
 use Rattle.sml_round_trip.proofs.Blocks.{block_again, Few, block_wrote}
+use Rattle.sml_tree.specs.declared.limits.TheConstants.{MAX_OPEN}
 
 -- ---- marks
 abbrev marks : Bool → Bool → Marks
@@ -59,7 +60,7 @@ class_mark_wrote true = wrote_by _ (inl refl) (say_blank refl refl (say_sign sig
 actions_wrote : (n : ℕ) (others : List ActionData) → AllByRecursion IsWritableAction others → Few (flat_map action_conditions others) → Wrote false Anywhere (of.Action n) (flat_map action_text others) others
 actions_wrote n [] h few = wrote_none refl
 actions_wrote n (a ∷ others) h few =
-    let Q : CondData → Type 0 = λ c. open_depth c ≤ 16 in
+    let Q : CondData → Type 0 = λ c. open_depth c ≤ MAX_OPEN in
     wrote_by _ (inl refl)
     (say_blank refl refl (say_blank refl refl (say_blank refl refl (say_blank refl refl
     (say_word (codes "action") kind.Action refl refl tt (λ rest e. refl) (λ at. refl)
@@ -77,7 +78,7 @@ actions_wrote n (a ∷ others) h few =
 states_wrote : (n : ℕ) (ss : List StateData) → AllByRecursion IsWritableState ss → Few (flat_map state_conditions ss) → Wrote false Anywhere (of.State n) (flat_map state_text ss) ss
 states_wrote n [] h few = wrote_none refl
 states_wrote n (s ∷ ss) h few =
-    let Q : CondData → Type 0 = λ c. open_depth c ≤ 16 in
+    let Q : CondData → Type 0 = λ c. open_depth c ≤ MAX_OPEN in
     wrote_by _ (inl refl)
     (say_blank refl refl (say_blank refl refl
     (say_word (codes "state") kind.State refl refl tt (λ rest e. refl) (λ at. refl)
@@ -153,7 +154,7 @@ group_wrote a b c name (member ∷ members) items h k y =
 pub file_wrote : (a b c : ℕ) (items : List ItemData) → IsWritable items → Few (conditions items) → FileWrote a b c items
 file_wrote a b c [] h few = wrote_none refl
 file_wrote a b c (class x ∷ items) h few =
-    let Q : CondData → Type 0 = λ y. open_depth y ≤ 16 in
+    let Q : CondData → Type 0 = λ y. open_depth y ≤ MAX_OPEN in
     class_wrote a b c x items h.0 (all_front Q (flat_map state_conditions x.states) (conditions items) few) (file_wrote (a + 1) b c items h.1 (all_back Q (flat_map state_conditions x.states) (conditions items) few))
 file_wrote a b c (object x ∷ items) h few = object_wrote a b c x items (h.0).0 (h.0).1 (file_wrote a (b + 1) c items h.1 few)
 file_wrote a b c (group x ∷ items) h few = group_wrote a b c x.name x.members items (h.0).0 (h.0).1 (file_wrote a b (c + 1) items h.1 few)

@@ -16,12 +16,13 @@ use Rattle.sml_tree.specs.declared.token_kind.TokenKind.TheVariants as kind
 use Rattle.sml_tree.specs.Piece.{Piece, pieces, kind_of, is_slash, Reserved, reserved, mark_words, kind_in, word_kind, sign_kind, word_of, int_of, bytes_of}
 use Rattle.sml_tree.proofs.Upper.{upper-upper}
 use Rattle.sml_round_trip.specs.Writable.{IsName}
+use Rattle.sml_text.specs.declared.limits.TheConstants.{LONGEST_NAME, LONGEST_STRING}
 
 -- what a token holds
 abbrev pub IsGood : Lexeme → Type 0
 IsGood (Word w) = (is_word w ≡ true) × (folded w ≡ w)
 IsGood (Int n) = IsLong n
-IsGood (Str bytes) = Each is_string_byte bytes × (length bytes ≤ 255)
+IsGood (Str bytes) = Each is_string_byte bytes × (length bytes ≤ LONGEST_STRING)
 IsGood (Sign s) = Unit {0}
 IsGood (Session k) = Unit {0}
 
@@ -46,11 +47,11 @@ all_upper [] h = refl
 all_upper (x ∷ xs) h = rw (byte_upper x h.0, all_upper xs h.1) refl
 
 -- a folded word is a word
-word_upper : (c : ℕ) (body : List ℕ) → is_letter c ≡ true → Each is_word_byte body → length (c ∷ body) ≤ 64 → is_word (folded (c ∷ body)) ≡ true
+word_upper : (c : ℕ) (body : List ℕ) → is_letter c ≡ true → Each is_word_byte body → length (c ∷ body) ≤ LONGEST_NAME → is_word (folded (c ∷ body)) ≡ true
 word_upper c body letter each short =
     let l : length (folded (c ∷ body)) ≡ length (c ∷ body) = length-map (c ∷ body) to_ascii_uppercase in
-    let fits : nat_le (length (c ∷ body)) 64 ≡ true = grind (arith, nat_tests) in
-    and_from _ _ (and_from _ _ (letter_upper c letter) (all_upper body each)) (ap (λ n. nat_le n 64) l ∙ fits)
+    let fits : nat_le (length (c ∷ body)) LONGEST_NAME ≡ true = grind (arith, nat_tests) in
+    and_from _ _ (and_from _ _ (letter_upper c letter) (all_upper body each)) (ap (λ n. nat_le n LONGEST_NAME) l ∙ fits)
 
 stands_good : (bytes rest : List ℕ) (what : Option Lexeme) → Stands Domain bytes rest what → IfGood what
 stands_good bytes rest what (blank c _ h) = tt
@@ -148,7 +149,7 @@ int_of_kind (Str bytes) slash e h = absurd (cc e)
 int_of_kind (Sign s) slash e h = absurd (not_spelled _ _ (sign_spelled s) e refl)
 int_of_kind (Session k) slash e h = absurd (cc e)
 
-bytes_of_kind : (l : Lexeme) (slash : Bool) → kind_of slash l ≡ kind.Str → IsGood l → Each is_string_byte (bytes_of l) × (length (bytes_of l) ≤ 255)
+bytes_of_kind : (l : Lexeme) (slash : Bool) → kind_of slash l ≡ kind.Str → IsGood l → Each is_string_byte (bytes_of l) × (length (bytes_of l) ≤ LONGEST_STRING)
 bytes_of_kind (Word w) slash e h = absurd (not_spelled _ _ (word_spelled slash w) e refl)
 bytes_of_kind (Int n) slash e h = absurd (cc e)
 bytes_of_kind (Str bytes) slash e h = h
@@ -160,5 +161,5 @@ pub int_real : (t : Piece) → t.kind ≡ kind.Int → IsReal t → IsLong (int_
 int_real t e r = int_of_kind t.lexeme r.slash (sym r.kind ∙ e) r.good
 
 -- a token that is a string
-pub bytes_real : (t : Piece) → t.kind ≡ kind.Str → IsReal t → Each is_string_byte (bytes_of t.lexeme) × (length (bytes_of t.lexeme) ≤ 255)
+pub bytes_real : (t : Piece) → t.kind ≡ kind.Str → IsReal t → Each is_string_byte (bytes_of t.lexeme) × (length (bytes_of t.lexeme) ≤ LONGEST_STRING)
 bytes_real t e r = bytes_of_kind t.lexeme r.slash (sym r.kind ∙ e) r.good

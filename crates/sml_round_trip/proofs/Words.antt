@@ -17,6 +17,7 @@ use Rattle.sml_tree.specs.Form.{Bone, B, Form, needs, Mark, Part, Value}
 use Rattle.sml_round_trip.specs.Writable.{IsName}
 use Rattle.sml_round_trip.proofs.Lexed.{each_append}
 use Rattle.sml_round_trip.proofs.Says.{piece_at, Edge, Free, Say, say_token}
+use Rattle.sml_text.specs.declared.limits.TheConstants.{LONGEST_NAME, LONGEST_STRING}
 
 -- ---- bytes
 pub all_each : (p : ℕ → Bool) (xs : List ℕ) → list_all p xs ≡ true → Each p xs
@@ -43,16 +44,16 @@ string_ascii c h = grind (arith, nat_tests)
 word_stands : (bytes rest : List ℕ) → is_word bytes ≡ true → Edge rest → Stands Domain bytes rest (Some (Word (folded bytes)))
 word_stands [] rest h e = absurd (cc h)
 word_stands (c ∷ body) rest h e =
-    let p = and_parts (is_word_text (c ∷ body)) (nat_le (length (c ∷ body)) 64) h in
+    let p = and_parts (is_word_text (c ∷ body)) (nat_le (length (c ∷ body)) LONGEST_NAME) h in
     let q = and_parts (is_letter c) (list_all is_word_byte body) p.0 in
-    let short : nat_le (length (c ∷ body)) 64 ≡ true = p.1 in
-    let fits : length (c ∷ body) ≤ 64 = grind (arith, nat_tests) in
+    let short : nat_le (length (c ∷ body)) LONGEST_NAME ≡ true = p.1 in
+    let fits : length (c ∷ body) ≤ LONGEST_NAME = grind (arith, nat_tests) in
     word c body rest q.0 (all_each is_word_byte body q.1) e fits
 
 word_bytes : (bytes : List ℕ) → is_word bytes ≡ true → Each is_ascii bytes
 word_bytes [] h = tt
 word_bytes (c ∷ body) h =
-    let p = and_parts (is_word_text (c ∷ body)) (nat_le (length (c ∷ body)) 64) h in
+    let p = and_parts (is_word_text (c ∷ body)) (nat_le (length (c ∷ body)) LONGEST_NAME) h in
     let q = and_parts (is_letter c) (list_all is_word_byte body) p.0 in
     (letter_ascii c q.0, each_other is_word_byte is_ascii body word_ascii (all_each is_word_byte body q.1))
 
@@ -88,7 +89,7 @@ module _ {E : List ℕ → Type 0} {g : Part} {bones : List Bone} {mark : Mark} 
       sign_ascii sign.Slash = refl
 
   -- a string
-  pub say_string : {slash : Bool} (bytes : List ℕ) → Each is_string_byte bytes → length bytes ≤ 255
+  pub say_string : {slash : Bool} (bytes : List ℕ) → Each is_string_byte bytes → length bytes ≤ LONGEST_STRING
       → ((at : ℕ) → f (piece_at kind.Str (Str bytes) at) ≡ f (piece_at kind.Str (Str bytes) 0)) → Say false E g bones (f (piece_at kind.Str (Str bytes) 0)) text v
       → Say slash E g (B kind.Str ∷ bones) (needs kind.Str mark f) ((34 ∷ (bytes ++ 34 ∷ [])) ++ text) v
   say_string bytes each short blind x =

@@ -8,10 +8,11 @@ use Rattle.sml_tree.specs.Limits.{IsWithinLimits}
 use Rattle.sml_print.specs.Items.{file_text}
 use Rattle.sml_read.specs.Promise.{IsShort, IsFileOf}
 use Rattle.sml_round_trip.specs.Writable.{IsWritable}
+use Rattle.sml_tree.specs.declared.limits.TheConstants.{MAX_OPEN}
 
 -- the canonical text of each condition has at most sixteen open brackets and `not`s
 abbrev pub HasFewBrackets : List ItemData → Type 0
-HasFewBrackets file = AllByRecursion (λ c. open_depth c ≤ 16) (conditions file)
+HasFewBrackets file = AllByRecursion (λ c. open_depth c ≤ MAX_OPEN) (conditions file)
 
 -- the canonical text of a tree says that tree just where what the tree holds can be written and all is within the limits
 abbrev pub SaidByItsText : Type 0

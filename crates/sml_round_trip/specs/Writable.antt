@@ -6,6 +6,7 @@ use Rattle.sml_text.specs.Tokens.{IsLong, Each}
 use Rattle.sml_tree.specs.declared.token_kind.TokenKind.TheVariants.{Name}
 use Rattle.sml_tree.specs.Piece.{word_kind}
 use Rattle.sml_tree.specs.Syntax.{LiteralData, int, str, ArgData, lit, param, PassedData, TestData, CondData, both, either, neither, test, SendData, InstrData, BlockData, send, choose, assign, move_to, terminate, done, step, ClassParamData, ActionParamData, ActionData, StateData, ClassData, ItemData, class, object, group}
+use Rattle.sml_text.specs.declared.limits.TheConstants.{LONGEST_STRING}
 
 -- a word in upper case that is not reserved
 pub record IsName (name : List ℕ) : Type 0 where
@@ -13,10 +14,10 @@ pub record IsName (name : List ℕ) : Type 0 where
   pub upper : folded name ≡ name
   pub free : word_kind false name ≡ Name
 
--- an int of 64 bits, or a string of at most 255 bytes without a quote
+-- an int of 64 bits, or a string, no longer than it may be, without a quote
 abbrev pub IsLiteral : LiteralData → Type 0
 IsLiteral (int n) = IsLong n
-IsLiteral (str bytes) = Each is_string_byte bytes × (length bytes ≤ 255)
+IsLiteral (str bytes) = Each is_string_byte bytes × (length bytes ≤ LONGEST_STRING)
 
 -- a value, or the name of a parameter
 abbrev pub IsArg : ArgData → Type 0

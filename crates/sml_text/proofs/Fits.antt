@@ -10,6 +10,7 @@ use Rattle.sml_text.specs.Bytes.{is_word, is_word_byte, is_string_byte}
 use Rattle.sml_text.specs.Tokens.{Each, Lexeme, Word, Int, Str, Sign, Session, Stands, blank, comment, word, int, string, sign, session}
 use Rattle.sml_text.specs.Front.{IsFront}
 use Rattle.sml_text.specs.Views.{FrontFits}
+use Rattle.sml_text.specs.declared.limits.TheConstants.{LONGEST_NAME, LONGEST_STRING}
 
 each_all : (p : ℕ → Bool) (xs : List ℕ) → Each p xs → list_all p xs ≡ true
 each_all p [] h = refl
@@ -20,7 +21,7 @@ abbrev Fits : List ℕ → Option Lexeme → Type 0
 Fits bytes None = Unit {0}
 Fits bytes (Some (Word w)) = is_word bytes ≡ true
 Fits bytes (Some (Int n)) = Unit {0}
-Fits bytes (Some (Str s)) = Each is_string_byte s × (length s ≤ 255)
+Fits bytes (Some (Str s)) = Each is_string_byte s × (length s ≤ LONGEST_STRING)
 Fits bytes (Some (Sign s)) = Unit {0}
 Fits bytes (Some (Session k)) = (1 ≤ k) × (k ≤ 8)
 
@@ -28,7 +29,7 @@ stands_fits : (source : Source) (bytes rest : List ℕ) (what : Option Lexeme) �
 stands_fits source bytes rest what (blank c _ h) = tt
 stands_fits source bytes rest what (comment body _ each over) = tt
 stands_fits source bytes rest what (word c body _ letter each over short) =
-    let fits : nat_le (length (c ∷ body)) 64 ≡ true = grind (arith, nat_tests) in
+    let fits : nat_le (length (c ∷ body)) LONGEST_NAME ≡ true = grind (arith, nat_tests) in
     rw (letter, each_all is_word_byte body each, fits) refl
 stands_fits source bytes rest what (int minus c digits _ digit each over long) = tt
 stands_fits source bytes rest what (string body _ each short) = (each, short)

@@ -14,6 +14,7 @@ use Rattle.sml_text.specs.Front.{StandsFirst, NoneStands, IsFront}
 use Rattle.sml_text.specs.Scan.{span, passes_first, is_quote, word_front, is_long, minus_size, int_front, string_front, session_front, sign_front, front}
 use Rattle.sml_text.specs.Stream.{Thing, thing_of, first}
 use Rattle.sml_text.proofs.Spans.{Cut, cut, span_cut, take_seam, drop_seam}
+use Rattle.sml_text.specs.declared.limits.TheConstants.{LONGEST_NAME, LONGEST_STRING}
 
 -- no byte passes two of the tests
 letter_alone : (c : ℕ) → is_letter c ≡ true → (is_blank c ≡ false) × ((c == 33) ≡ false)
@@ -108,7 +109,7 @@ stands_first source bytes rest what (word c body _ letter each over short) =
     let h = span_cut is_word_byte body rest each over in
     let a = letter_alone c letter in
     let e : span is_word_byte (body ++ rest) + 1 ≡ length (c ∷ body) = omega (arith, h) in
-    let fits : nat_le (length (c ∷ body)) 64 ≡ true = grind (arith, nat_tests) in
+    let fits : nat_le (length (c ∷ body)) LONGEST_NAME ≡ true = grind (arith, nat_tests) in
     let front : take (length (c ∷ body)) (c ∷ body ++ rest) ≡ c ∷ body = take_seam (c ∷ body) rest _ refl in
     rw (a.0, a.1, letter, e, fits) (ap (λ w. thing (length (c ∷ body)) (Some (Word (folded w)))) front)
 stands_first source bytes rest what (int true c digits _ digit each over long) =
@@ -120,7 +121,7 @@ stands_first source bytes rest what (int false c digits _ digit each over long) 
 stands_first source bytes rest what (string body _ each short) =
     let whole : (body ++ 34 ∷ []) ++ rest ≡ body ++ 34 ∷ rest = append_assoc body (34 ∷ []) rest in
     let n : span is_string_byte (body ++ 34 ∷ rest) ≡ length body = span_cut is_string_byte body (34 ∷ rest) each refl in
-    let fits : nat_le (length body) 255 ≡ true = grind (arith, nat_tests) in
+    let fits : nat_le (length body) LONGEST_STRING ≡ true = grind (arith, nat_tests) in
     let front : take (length body) (body ++ 34 ∷ rest) ≡ body = take_seam body (34 ∷ rest) _ refl in
     let back : drop (length body) (body ++ 34 ∷ rest) ≡ 34 ∷ rest = drop_seam body (34 ∷ rest) _ refl in
     ap (λ t. first source (34 ∷ t)) whole ∙ rw (n, fits, back, front) (thing_long _ _ _ (omega (arith, length-append body (34 ∷ []))))
@@ -169,9 +170,9 @@ stands_front source text bytes rest n what whole long stands = record {
 }
 
 word_says : (source : Source) (c : ℕ) (text : List ℕ) → is_letter c ≡ true → Says source (c ∷ text) (word_front text)
-word_says source c text letter = by_test (Says source (c ∷ text)) (nat_le (span is_word_byte text + 1) 64) _ _ (λ fits. go (cut is_word_byte text) fits) (λ _. some_byte c text)
+word_says source c text letter = by_test (Says source (c ∷ text)) (nat_le (span is_word_byte text + 1) LONGEST_NAME) _ _ (λ fits. go (cut is_word_byte text) fits) (λ _. some_byte c text)
   where
-    go : Cut is_word_byte text → nat_le (span is_word_byte text + 1) 64 ≡ true → StandsFirst source (c ∷ text) (span is_word_byte text + 1) (Some (Word (folded (take (span is_word_byte text + 1) (c ∷ text)))))
+    go : Cut is_word_byte text → nat_le (span is_word_byte text + 1) LONGEST_NAME ≡ true → StandsFirst source (c ∷ text) (span is_word_byte text + 1) (Some (Word (folded (take (span is_word_byte text + 1) (c ∷ text)))))
     go k fits =
         let l = k.long in
         let n : length (c ∷ k.body) ≡ span is_word_byte text + 1 = omega (arith, l) in
@@ -215,7 +216,7 @@ int_says source minus text byte =
         (subst (λ d. is_long minus (digits_value d) ≡ true) front long)))
 
 -- bytes of a string up to a quote
-closed_says : (source : Source) (text after : List ℕ) (n : ℕ) (k : Cut is_string_byte text) → length k.body ≡ n → n ≤ 255 → k.rest ≡ 34 ∷ after
+closed_says : (source : Source) (text after : List ℕ) (n : ℕ) (k : Cut is_string_byte text) → length k.body ≡ n → n ≤ LONGEST_STRING → k.rest ≡ 34 ∷ after
     → StandsFirst source (34 ∷ text) (n + 2) (Some (Str (take n text)))
 closed_says source text after n k l short closed =
     let whole : 34 ∷ text ≡ (34 ∷ (k.body ++ 34 ∷ [])) ++ after = ap (λ t. 34 ∷ t) (k.whole ∙ ap (λ r. k.body ++ r) closed ∙ sym (append_assoc k.body (34 ∷ []) after)) in
@@ -226,18 +227,18 @@ closed_says source text after n k l short closed =
 
 string_says : (source : Source) (text : List ℕ) → Says source (34 ∷ text) (string_front text)
 string_says source text =
-    by_test (Says source (34 ∷ text)) (nat_le (span is_string_byte text) 255 && passes_first is_quote (drop (span is_string_byte text) text)) _ _
+    by_test (Says source (34 ∷ text)) (nat_le (span is_string_byte text) LONGEST_STRING && passes_first is_quote (drop (span is_string_byte text) text)) _ _
     (λ good. go (cut is_string_byte text) good) (λ _. some_byte 34 text)
   where
     first_quote : (rest : List ℕ) → passes_first is_quote rest ≡ true → (after : List ℕ) × (rest ≡ 34 ∷ after)
     first_quote [] h = absurd (cc h)
     first_quote (c ∷ rest) h = (rest, ap (λ x. x ∷ rest) (sym (same 34 c h)))
 
-    go : Cut is_string_byte text → (nat_le (span is_string_byte text) 255 && passes_first is_quote (drop (span is_string_byte text) text)) ≡ true
+    go : Cut is_string_byte text → (nat_le (span is_string_byte text) LONGEST_STRING && passes_first is_quote (drop (span is_string_byte text) text)) ≡ true
         → StandsFirst source (34 ∷ text) (span is_string_byte text + 2) (Some (Str (take (span is_string_byte text) text)))
     go k good =
         let l = k.long in
-        let short : span is_string_byte text ≤ 255 = grind (arith, nat_tests) in
+        let short : span is_string_byte text ≤ LONGEST_STRING = grind (arith, nat_tests) in
         let quote : passes_first is_quote (drop (span is_string_byte text) text) ≡ true = grind (arith, nat_tests) in
         let back : drop (span is_string_byte text) text ≡ k.rest = ap (drop (span is_string_byte text)) k.whole ∙ drop_seam k.body k.rest _ l in
         let end = first_quote k.rest (subst (λ r. passes_first is_quote r ≡ true) back quote) in

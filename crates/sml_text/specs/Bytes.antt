@@ -4,6 +4,7 @@ use Rattle.std.specs.List.{list_all}
 use Rattle.std.specs.Char.{is_ascii_alphabetic, is_ascii_digit, to_ascii_uppercase}
 use Rattle.sml_text.specs.declared.source.Sign.{Sign}
 use Rattle.sml_text.specs.declared.source.Sign.TheVariants.{Colon, Comma, Equals, OpenBracket, CloseBracket, OpenBrace, CloseBrace, Slash}
+use Rattle.sml_text.specs.declared.limits.TheConstants.{LONGEST_NAME}
 
 -- space, tab, carriage return and line feed
 abbrev pub is_blank : ℕ → Bool
@@ -38,9 +39,9 @@ abbrev pub is_word_text : List ℕ → Bool
 is_word_text [] = false
 is_word_text (c ∷ cs) = is_letter c && list_all is_word_byte cs
 
--- a word of at most 64 bytes
+-- a word, no longer than it may be
 abbrev pub is_word : List ℕ → Bool
-is_word cs = is_word_text cs && nat_le (length cs) 64
+is_word cs = is_word_text cs && nat_le (length cs) LONGEST_NAME
 
 -- a word in upper case
 abbrev pub folded : List ℕ → List ℕ

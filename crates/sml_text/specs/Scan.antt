@@ -7,6 +7,7 @@ use Rattle.sml_text.specs.declared.front.Front.{Front}
 use Rattle.sml_text.specs.declared.front.Front.TheVariants.{End, Skip, Word as AWord, Int as AnInt, Str as AStr, Sign as ASign, Session as ASession, Bad}
 use Rattle.sml_text.specs.Bytes.{is_blank, is_letter, is_digit, is_word_byte, is_string_byte, no_line_feed}
 use Rattle.sml_text.specs.Tokens.{int_value, digits_value}
+use Rattle.sml_text.specs.declared.limits.TheConstants.{LONGEST_NAME, LONGEST_STRING}
 
 -- how many bytes at the front pass
 abbrev pub span : (ℕ → Bool) → List ℕ → ℕ
@@ -23,7 +24,7 @@ is_quote c = c == 34
 
 -- the word whose letter stands before this text
 abbrev pub word_front : List ℕ → Front
-word_front text = if nat_le (span is_word_byte text + 1) 64 then AWord (span is_word_byte text + 1) else Bad
+word_front text = if nat_le (span is_word_byte text + 1) LONGEST_NAME then AWord (span is_word_byte text + 1) else Bad
 
 -- the number below zero or not is one of 64 bits
 abbrev pub is_long : Bool → ℕ → Bool
@@ -45,7 +46,7 @@ int_front minus text =
 -- the string whose opening quote stands before this text
 abbrev pub string_front : List ℕ → Front
 string_front text =
-    if nat_le (span is_string_byte text) 255 && passes_first is_quote (drop (span is_string_byte text) text)
+    if nat_le (span is_string_byte text) LONGEST_STRING && passes_first is_quote (drop (span is_string_byte text) text)
     then AStr (span is_string_byte text) else Bad
 
 -- the session whose `@` stands before this text

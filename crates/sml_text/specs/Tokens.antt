@@ -4,6 +4,7 @@ use Rattle.sml_text.specs.declared.source.Source.{Source}
 use Rattle.sml_text.specs.declared.source.Source.TheVariants.{Line}
 use Rattle.sml_text.specs.declared.source.Sign.{Sign as SignKind}
 use Rattle.sml_text.specs.Bytes.{is_blank, is_letter, is_digit, is_word_byte, is_string_byte, no_line_feed, folded, sign_byte}
+use Rattle.sml_text.specs.declared.limits.TheConstants.{LONGEST_NAME, LONGEST_STRING}
 
 -- What a token is: a word in upper case, an int, the bytes between the quotes of a string, a sign, or a session.
 pub data Lexeme : Type 0 where
@@ -58,11 +59,11 @@ IsLong n = (negsuc (2 ^ 63 - 1) ≤ℤ n) × (n ≤ℤ pos (2 ^ 63 - 1))
 pub data Stands (source : Source) : List ℕ → List ℕ → Option Lexeme → Type 0 where
   blank : (c : ℕ) (rest : List ℕ) → is_blank c ≡ true → Stands source (c ∷ []) rest None
   comment : (body rest : List ℕ) → Each no_line_feed body → Over no_line_feed rest → Stands source (33 ∷ body) rest None
-  word : (c : ℕ) (body rest : List ℕ) → is_letter c ≡ true → Each is_word_byte body → Over is_word_byte rest → length (c ∷ body) ≤ 64
+  word : (c : ℕ) (body rest : List ℕ) → is_letter c ≡ true → Each is_word_byte body → Over is_word_byte rest → length (c ∷ body) ≤ LONGEST_NAME
       → Stands source (c ∷ body) rest (Some (Word (folded (c ∷ body))))
   int : (minus : Bool) (c : ℕ) (digits rest : List ℕ) → is_digit c ≡ true → Each is_digit digits → Over is_word_byte rest → IsLong (int_value minus (c ∷ digits))
       → Stands source (minus_bytes minus ++ (c ∷ digits)) rest (Some (Int (int_value minus (c ∷ digits))))
-  string : (body rest : List ℕ) → Each is_string_byte body → length body ≤ 255 → Stands source (34 ∷ (body ++ 34 ∷ [])) rest (Some (Str body))
+  string : (body rest : List ℕ) → Each is_string_byte body → length body ≤ LONGEST_STRING → Stands source (34 ∷ (body ++ 34 ∷ [])) rest (Some (Str body))
   sign : (s : SignKind) (rest : List ℕ) → Stands source (sign_byte s ∷ []) rest (Some (Sign s))
   session : (k : ℕ) (rest : List ℕ) → source ≡ Line → 1 ≤ k → k ≤ 8 → Stands source (64 ∷ (48 + k) ∷ []) rest (Some (Session k))
 

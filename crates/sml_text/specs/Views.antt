@@ -7,6 +7,7 @@ use Rattle.sml_text.specs.declared.tokens.Lexeme.TheVariants.{Word as ReadWord, 
 use Rattle.sml_text.specs.declared.tokens.Token.{Token as ReadToken}
 use Rattle.sml_text.specs.Bytes.{is_word, is_string_byte, folded}
 use Rattle.sml_text.specs.Tokens.{Lexeme, Word, Int, Str, Sign, Session, Token, Each}
+use Rattle.sml_text.specs.declared.limits.TheConstants.{LONGEST_STRING}
 
 -- a lexeme, whose words are folded
 abbrev pub lexeme_of : Read → Lexeme
@@ -24,13 +25,13 @@ token_of t = record { lexeme = lexeme_of t.lexeme; at = t.at }
 abbrev pub IsLexeme : Read → Type 0
 IsLexeme (ReadWord w) = IsTrue (is_word w.now)
 IsLexeme (ReadInt n) = Unit {0}
-IsLexeme (ReadStr s) = Each is_string_byte s.now × (length s.now ≤ 255)
+IsLexeme (ReadStr s) = Each is_string_byte s.now × (length s.now ≤ LONGEST_STRING)
 IsLexeme (ReadSign s) = Unit {0}
 IsLexeme (ReadSession k) = (1 ≤ k) × (k ≤ 8)
 
 -- the bytes that stand at the front are such
 abbrev pub FrontFits : Front → List ℕ → Type 0
 FrontFits (AWord n) text = (n ≤ length text) × IsTrue (is_word (take n text))
-FrontFits (AStr n) text = (n + 2 ≤ length text) × Each is_string_byte (take n (drop 1 text)) × (n ≤ 255)
+FrontFits (AStr n) text = (n + 2 ≤ length text) × Each is_string_byte (take n (drop 1 text)) × (n ≤ LONGEST_STRING)
 FrontFits (ASession k) text = (1 ≤ k) × (k ≤ 8)
 FrontFits _ text = Unit {0}

@@ -6,6 +6,7 @@ ghost use Rattle.sml_text.specs.Tokens.{Each, digits_value, int_value, IsLong};
 ghost use Rattle.sml_text.specs.Front.{front_size, front_stands, IsFront};
 ghost use Rattle.sml_text.specs.Scan.{span, front, word_front, int_front, string_front, session_front, sign_front, passes_first, is_quote};
 
+use crate::limits::{LONGEST_NAME, LONGEST_STRING};
 use crate::source::{Sign, Source};
 
 /// What stands at the front of a text.
@@ -118,7 +119,7 @@ fn word_at(rest: &[u8]) -> Front
     ensures { result ≡ word_front rest.now }
 {
     let length = word_length(rest) + 1;
-    if length <= 64 {
+    if length <= LONGEST_NAME {
         Front::Word(length)
     } else {
         Front::Bad
@@ -178,12 +179,12 @@ fn int_at(minus: bool, text: &[u8]) -> Front
     }
 }
 
-// A string whose opening quote stands before this text. No more than 256 bytes are looked at.
+// A string whose opening quote stands before this text. No more than one byte past the limit is looked at.
 fn string_at(rest: &[u8]) -> Front
     ensures { result ≡ string_front rest.now }
 {
-    let length = string_length(&rest[..rest.len().min(256)]);
-    if length <= 255 && begins_quote(rest.split_at(length).1) {
+    let length = string_length(&rest[..rest.len().min(LONGEST_STRING + 1)]);
+    if length <= LONGEST_STRING && begins_quote(rest.split_at(length).1) {
         Front::Str(length)
     } else {
         Front::Bad

@@ -4,6 +4,7 @@
 pub mod decimal;
 pub mod front;
 pub mod laws;
+pub mod limits;
 pub mod source;
 pub mod tokens;
 pub mod writing;

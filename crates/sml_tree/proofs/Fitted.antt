@@ -14,6 +14,7 @@ use Rattle.sml_tree.specs.Limits.{TestFits, CondFits, SendFits, ActionFits, Stat
 use Rattle.sml_tree.proofs.Kept.{Keeping, EachKeeps, free_keeping, begun_keeping, part_kept}
 use Rattle.sml_tree.proofs.Marks.{◌⨾◌, IsFine, all_append, fine_marks, below_deep, below_many}
 use Rattle.sml_tree.proofs.Tallied.{Tallied, part_tallied}
+use Rattle.sml_tree.specs.declared.limits.TheConstants.{MAX_ACTIONS, MAX_ARGUMENTS, MAX_CLASSES, MAX_IFS, MAX_MEMBERS, MAX_NAMES, MAX_OBJECTS, MAX_PARAMETERS, MAX_SETS, MAX_STATES, MAX_TESTS}
 
 -- a block in which `if`s may nest so deep
 abbrev pub Nests : ℕ → BlockData → Type 0
@@ -21,38 +22,38 @@ Nests k b = (block_depth b ≤ k) × AllByRecursion SendFits (block_sends b) × 
 
 -- a condition with what was counted before it
 abbrev pub CountFits : Counted → Type 0
-CountFits v = (v.count ≤ 64) × AllByRecursion TestFits (tests v.formula)
+CountFits v = (v.count ≤ MAX_TESTS) × AllByRecursion TestFits (tests v.formula)
 
 -- what a part is worth is within what the limits leave behind what stands before it
 abbrev pub Fits : (n : Part) → Value n → Type 0
 Fits (of.File classes objects sets) v =
-    (length (filter is_class v) ≤ 64 - classes) × (length (filter is_object v) ≤ 64 - objects) × (length (filter is_set v) ≤ 32 - sets) × AllByRecursion ItemFits v
-Fits of.ClassParamList v = length v ≤ 16
-Fits (of.Sort n) v = n + 1 ≤ 16
-Fits (of.ClassParam n) v = n + 1 ≤ 16
-Fits (of.MoreClassParam n) v = length v ≤ 16 - n
-Fits (of.State n) v = (length v ≤ 32 - n) × AllByRecursion StateFits v
-Fits (of.Action n) v = (length v ≤ 32 - n) × AllByRecursion ActionFits v
-Fits of.ActionParamList v = length v ≤ 16
-Fits (of.ActionParam n) v = n + 1 ≤ 16
-Fits (of.MoreActionParam n) v = length v ≤ 16 - n
-Fits (of.Block depth) v = Nests (16 - depth) (block_of v)
-Fits of.ArgList v = length v ≤ 16
-Fits (of.Passed n) v = n + 1 ≤ 16
-Fits (of.MorePassedArg n) v = length v ≤ 16 - n
-Fits (of.Branch depth) v = (instr_depth v ≤ (16 - (depth + 1)) + 1) × AllByRecursion SendFits (instr_sends v) × AllByRecursion CondFits (instr_conditions v)
-Fits (of.Arm depth) v = Nests (16 - (depth + 1)) (block_of v.yes_part) × Nests (16 - (depth + 1)) (block_of v.no_part)
-Fits (of.Else depth) v = Nests (16 - depth) (block_of v)
+    (length (filter is_class v) ≤ MAX_CLASSES - classes) × (length (filter is_object v) ≤ MAX_OBJECTS - objects) × (length (filter is_set v) ≤ MAX_SETS - sets) × AllByRecursion ItemFits v
+Fits of.ClassParamList v = length v ≤ MAX_PARAMETERS
+Fits (of.Sort n) v = n + 1 ≤ MAX_PARAMETERS
+Fits (of.ClassParam n) v = n + 1 ≤ MAX_PARAMETERS
+Fits (of.MoreClassParam n) v = length v ≤ MAX_PARAMETERS - n
+Fits (of.State n) v = (length v ≤ MAX_STATES - n) × AllByRecursion StateFits v
+Fits (of.Action n) v = (length v ≤ MAX_ACTIONS - n) × AllByRecursion ActionFits v
+Fits of.ActionParamList v = length v ≤ MAX_PARAMETERS
+Fits (of.ActionParam n) v = n + 1 ≤ MAX_PARAMETERS
+Fits (of.MoreActionParam n) v = length v ≤ MAX_PARAMETERS - n
+Fits (of.Block depth) v = Nests (MAX_IFS - depth) (block_of v)
+Fits of.ArgList v = length v ≤ MAX_ARGUMENTS
+Fits (of.Passed n) v = n + 1 ≤ MAX_ARGUMENTS
+Fits (of.MorePassedArg n) v = length v ≤ MAX_ARGUMENTS - n
+Fits (of.Branch depth) v = (instr_depth v ≤ (MAX_IFS - (depth + 1)) + 1) × AllByRecursion SendFits (instr_sends v) × AllByRecursion CondFits (instr_conditions v)
+Fits (of.Arm depth) v = Nests (MAX_IFS - (depth + 1)) (block_of v.yes_part) × Nests (MAX_IFS - (depth + 1)) (block_of v.no_part)
+Fits (of.Else depth) v = Nests (MAX_IFS - depth) (block_of v)
 Fits (of.Cond depth n) v = CountFits v
 Fits (of.Conj depth n) v = CountFits v
 Fits (of.Unit' depth n) v = CountFits v
 Fits (of.MoreAnd depth n left) v = CountFits v
 Fits (of.MoreOr depth n left) v = CountFits v
-Fits of.StateList v = length v ≤ 32
-Fits of.Names v = length v ≤ 32
-Fits (of.MoreName n) v = length v ≤ 32 - n
-Fits of.Members v = length v ≤ 64
-Fits (of.MoreMember n) v = length v ≤ 64 - n
+Fits of.StateList v = length v ≤ MAX_NAMES
+Fits of.Names v = length v ≤ MAX_NAMES
+Fits (of.MoreName n) v = length v ≤ MAX_NAMES - n
+Fits of.Members v = length v ≤ MAX_MEMBERS
+Fits (of.MoreMember n) v = length v ≤ MAX_MEMBERS - n
 Fits _ v = Unit {0}
 
 -- the same, but of a chain only where its left operand is
@@ -62,15 +63,15 @@ Fitted (of.MoreOr depth n left) v = CountFits (record { formula = left; count = 
 Fitted n v = Fits n v
 
 fitted_sort : (n : ℕ) → EachKeeps Tallied IsFine Fitted (of.Sort n) (kind_rules n)
-fitted_sort n = (λ _ _ m. below_many 16 n m, (λ _ _ m. below_many 16 n m, tt))
+fitted_sort n = (λ _ _ m. below_many MAX_PARAMETERS n m, (λ _ _ m. below_many MAX_PARAMETERS n m, tt))
 
 fitted_unit : (d n : ℕ) → EachKeeps Tallied IsFine Fitted (of.Unit' d n) (unit_rules d n)
 fitted_unit d n =
     (λ _ _ m w k x. x)
     ⨾ (λ _ _ m w k x _ _ _. x)
-    ⨾ (λ _ _ m s _ _ l _ y. (below_many 64 n m, (y, tt)))
-    ⨾ (λ _ _ m _ _ _ s _ _ l _ y. (below_many 64 n m, (y, tt)))
-    ⨾ (λ _ _ m _ _ _ s _ _ l _ y. (below_many 64 n m, (y, tt)))
+    ⨾ (λ _ _ m s _ _ l _ y. (below_many MAX_TESTS n m, (y, tt)))
+    ⨾ (λ _ _ m _ _ _ s _ _ l _ y. (below_many MAX_TESTS n m, (y, tt)))
+    ⨾ (λ _ _ m _ _ _ s _ _ l _ y. (below_many MAX_TESTS n m, (y, tt)))
     ⨾ tt
 
 fitted_conj : (d n : ℕ) → EachKeeps Tallied IsFine Fitted (of.Conj d n) (conj_rules d n)
@@ -81,9 +82,9 @@ fitted_conj d n =
 fitted : (n : Part) → Keeping Tallied IsFine Fitted n
 fitted (of.File classes objects sets) = (
   (omega arith, omega arith, omega arith, tt),
-  (λ _ _ m _ _ _ _ _ _ a _ _ ps _ p ss _ x file _ y. let few = below_many 64 classes m in let f = y.0 in (omega (arith, few, f), y.1, y.2, ((p, x.0, x.1), y.3)))
-      ⨾ (λ _ _ m _ _ _ _ _ _ _ _ _ _ _ _ file _ y. let few = below_many 64 objects m in let f = y.1 in (y.0, omega (arith, few, f), y.2, (tt, y.3)))
-      ⨾ (λ _ _ m _ _ _ _ _ _ _ _ _ ms _ x _ _ _ file _ y. let few = below_many 32 sets m in let f = y.2 in (y.0, y.1, omega (arith, few, f), (x, y.3)))
+  (λ _ _ m _ _ _ _ _ _ a _ _ ps _ p ss _ x file _ y. let few = below_many MAX_CLASSES classes m in let f = y.0 in (omega (arith, few, f), y.1, y.2, ((p, x.0, x.1), y.3)))
+      ⨾ (λ _ _ m _ _ _ _ _ _ _ _ _ _ _ _ file _ y. let few = below_many MAX_OBJECTS objects m in let f = y.1 in (y.0, omega (arith, few, f), y.2, (tt, y.3)))
+      ⨾ (λ _ _ m _ _ _ _ _ _ _ _ _ ms _ x _ _ _ file _ y. let few = below_many MAX_SETS sets m in let f = y.2 in (y.0, y.1, omega (arith, few, f), (x, y.3)))
       ⨾ tt,
 )
 fitted of.ClassParamList = (omega arith, (λ _ _ _ _ _ _ first _ x others _ y. omega (arith, x, y), tt))
@@ -92,11 +93,11 @@ fitted (of.ClassParam n) = (tt, begun_keeping Tallied IsFine Fitted (of.Sort n) 
 fitted (of.MoreClassParam n) = (omega arith, (λ _ _ _ first _ x others _ y. omega (arith, x, y), tt))
 fitted (of.State n) = (
   (omega arith, tt),
-  (λ _ _ m _ _ _ _ _ _ marks _ _ actions _ x others _ y. let few = below_many 32 n m in let f = y.0 in (omega (arith, few, f), (x, y.1)), tt),
+  (λ _ _ m _ _ _ _ _ _ marks _ _ actions _ x others _ y. let few = below_many MAX_STATES n m in let f = y.0 in (omega (arith, few, f), (x, y.1)), tt),
 )
 fitted (of.Action n) = (
   (omega arith, tt),
-  (λ _ _ m _ _ _ _ _ _ params _ p body _ x others _ y. let few = below_many 32 n m in let f = y.0 in (omega (arith, few, f), ((p, x), y.1)), tt),
+  (λ _ _ m _ _ _ _ _ _ params _ p body _ x others _ y. let few = below_many MAX_ACTIONS n m in let f = y.0 in (omega (arith, few, f), ((p, x), y.1)), tt),
 )
 fitted of.ActionParamList = (omega arith, (λ _ _ _ first _ x others _ y _ _ _. omega (arith, x, y), tt))
 fitted (of.ActionParam n) = (tt, begun_keeping Tallied IsFine Fitted (of.Sort n) (of.ActionParam n) (B Name ∷ P of.Defaults ∷ []) action_param (kind_rules n) (fitted_sort n) (λ w x _ _ _ l _ _. x))
@@ -104,14 +105,14 @@ fitted (of.MoreActionParam n) = (omega arith, (λ _ _ _ first _ x others _ y. om
 fitted (of.Block d) = (
   (omega arith, tt, tt),
   (λ _ _ _ _ _ _ args _ x every _ _ _ _ _ block _ y. let f = y.0 in (omega (arith, f), (x, y.1), y.2))
-      ⨾ (λ _ _ m branch _ x block _ y. let few = below_deep 16 d m in let f = x.0 in let g = y.0 in (omega (arith, few, f, g), all_append SendFits (instr_sends branch) (block_sends (block_of block)) x.1 y.1, all_append CondFits (instr_conditions branch) (block_conditions (block_of block)) x.2 y.2))
+      ⨾ (λ _ _ m branch _ x block _ y. let few = below_deep MAX_IFS d m in let f = x.0 in let g = y.0 in (omega (arith, few, f, g), all_append SendFits (instr_sends branch) (block_sends (block_of block)) x.1 y.1, all_append CondFits (instr_conditions branch) (block_conditions (block_of block)) x.2 y.2))
       ⨾ (λ _ _ _ _ _ _ _ _ _ value _ _ block _ y. let f = y.0 in (omega (arith, f), y.1, y.2))
       ⨾ (λ _ _ _ _ _ _ block _ y. let f = y.0 in (omega (arith, f), y.1, y.2))
       ⨾ (λ _ _ _ _ _ _ _ _ _ _ _ _ _ _ _ block _ y. let f = y.0 in (omega (arith, f), y.1, y.2))
       ⨾ tt,
 )
 fitted of.ArgList = (omega arith, (λ _ _ _ first _ x others _ y _ _ _. omega (arith, x, y), tt))
-fitted (of.Passed n) = (tt, (λ _ _ m _ _ _ value _ _. below_many 16 n m, tt))
+fitted (of.Passed n) = (tt, (λ _ _ m _ _ _ value _ _. below_many MAX_ARGUMENTS n m, tt))
 fitted (of.MorePassedArg n) = (omega arith, (λ _ _ _ first _ x others _ y. omega (arith, x, y), tt))
 fitted (of.Branch d) = (
   tt,
@@ -137,9 +138,9 @@ fitted (of.MoreAnd d n left) = (λ h. h, (λ _ _ _ w k x v l y h. y (x.0, all_ap
 fitted (of.MoreOr d n left) = (λ h. h, (λ _ _ _ w k x v l y h. y (x.0, all_append TestFits (tests left) (tests w.formula) h.1 x.1), tt))
 fitted of.StateList = (tt, (λ _ _ _. omega arith, (λ _ _ _ list _ x _ _ _. x, tt)))
 fitted of.Names = (tt, (λ _ _ _ others _ x. omega (arith, x), tt))
-fitted (of.MoreName n) = (omega arith, (λ _ _ _ _ _ m others _ x. let few = below_many 32 n m in omega (arith, few, x), tt))
+fitted (of.MoreName n) = (omega arith, (λ _ _ _ _ _ m others _ x. let few = below_many MAX_NAMES n m in omega (arith, few, x), tt))
 fitted of.Members = (omega arith, (λ _ _ _ others _ x. omega (arith, x), tt))
-fitted (of.MoreMember n) = (omega arith, (λ _ _ _ _ _ m others _ x. let few = below_many 64 n m in omega (arith, few, x), tt))
+fitted (of.MoreMember n) = (omega arith, (λ _ _ _ _ _ m others _ x. let few = below_many MAX_MEMBERS n m in omega (arith, few, x), tt))
 fitted n = free_keeping Tallied IsFine Fitted n (λ v. tt)
 
 pub file_fits : (ts : List Piece) (file : List ItemData) → IsFile ts file → IsWithinLimits file

@@ -15,17 +15,18 @@ use Rattle.sml_tree.proofs.Marks.{◌⨾◌, all_front, all_back, not_reached, n
 use Rattle.sml_tree.proofs.Tallied.{Tallied, part_tallied}
 use Rattle.sml_tree.proofs.Fitted.{Fits, CountFits, file_fits}
 use Rattle.sml_tree.proofs.Owed.{EachOwes, begun_owes, part_paid}
+use Rattle.sml_tree.specs.declared.limits.TheConstants.{MAX_ACTIONS, MAX_ARGUMENTS, MAX_CLASSES, MAX_IFS, MAX_MEMBERS, MAX_NAMES, MAX_OBJECTS, MAX_OPEN, MAX_PARAMETERS, MAX_SETS, MAX_STATES, MAX_TESTS}
 
 owing_sort : (n : ℕ) → EachOwes Tallied Fits (of.Sort n) (kind_rules n)
-owing_sort n = (λ _ _ _ x. (tt, not_reached 16 n Many x), (λ _ _ _ x. (tt, not_reached 16 n Many x), tt))
+owing_sort n = (λ _ _ _ x. (tt, not_reached MAX_PARAMETERS n Many x), (λ _ _ _ x. (tt, not_reached MAX_PARAMETERS n Many x), tt))
 
 owing_unit : (d n : ℕ) → EachOwes Tallied Fits (of.Unit' d n) (unit_rules d n)
 owing_unit d n =
-    (λ t e s w _ x. ((tt, not_deep 16 d (λ m. s m (inl e))), x))
-    ⨾ (λ t e s w _ _ _ _ x. (((tt, not_deep 16 d (λ m. s m (inr e))), x), refl))
-    ⨾ (λ _ _ _ sense _ states _ x. (((tt, not_reached 64 n Many x.0), tt), (x.1).0))
-    ⨾ (λ _ _ _ _ _ _ sense _ states _ x. ((((tt, not_reached 64 n Many x.0), refl), tt), (x.1).0))
-    ⨾ (λ _ _ _ _ _ _ sense _ states _ x. ((((tt, not_reached 64 n Many x.0), refl), tt), (x.1).0))
+    (λ t e s w _ x. ((tt, not_deep MAX_OPEN d (λ m. s m (inl e))), x))
+    ⨾ (λ t e s w _ _ _ _ x. (((tt, not_deep MAX_OPEN d (λ m. s m (inr e))), x), refl))
+    ⨾ (λ _ _ _ sense _ states _ x. (((tt, not_reached MAX_TESTS n Many x.0), tt), (x.1).0))
+    ⨾ (λ _ _ _ _ _ _ sense _ states _ x. ((((tt, not_reached MAX_TESTS n Many x.0), refl), tt), (x.1).0))
+    ⨾ (λ _ _ _ _ _ _ sense _ states _ x. ((((tt, not_reached MAX_TESTS n Many x.0), refl), tt), (x.1).0))
     ⨾ tt
 
 -- the front of a chain fits where the whole does
@@ -56,9 +57,9 @@ second_of_two ss us cs ds nests x y = (nests, all_back SendFits ss us x, all_bac
 
 owing : (n : Part) → EachOwes Tallied Fits n (rules n)
 owing (of.File classes objects sets) =
-    (λ _ _ _ _ _ _ _ _ _ a _ ps _ ss _ file _ x. let f = x.0 in (((((((tt, not_reached 64 classes Many (omega (arith, f))), refl), refl), tt), ((x.3).0).0), (((x.3).0).1, ((x.3).0).2)), (omega (arith, f), x.1, x.2, (x.3).1)))
-    ⨾ (λ _ _ _ _ _ _ _ _ _ _ _ _ _ _ _ file _ x. let f = x.1 in ((((((tt, not_reached 64 objects Many (omega (arith, f))), refl), refl), refl), refl), (x.0, omega (arith, f), x.2, (x.3).1)))
-    ⨾ (λ _ _ _ _ _ _ _ _ _ _ _ _ ms _ _ _ _ file _ x. let f = x.2 in (((((((tt, not_reached 32 sets Many (omega (arith, f))), refl), refl), refl), (x.3).0), refl), (x.0, x.1, omega (arith, f), (x.3).1)))
+    (λ _ _ _ _ _ _ _ _ _ a _ ps _ ss _ file _ x. let f = x.0 in (((((((tt, not_reached MAX_CLASSES classes Many (omega (arith, f))), refl), refl), tt), ((x.3).0).0), (((x.3).0).1, ((x.3).0).2)), (omega (arith, f), x.1, x.2, (x.3).1)))
+    ⨾ (λ _ _ _ _ _ _ _ _ _ _ _ _ _ _ _ file _ x. let f = x.1 in ((((((tt, not_reached MAX_OBJECTS objects Many (omega (arith, f))), refl), refl), refl), refl), (x.0, omega (arith, f), x.2, (x.3).1)))
+    ⨾ (λ _ _ _ _ _ _ _ _ _ _ _ _ ms _ _ _ _ file _ x. let f = x.2 in (((((((tt, not_reached MAX_SETS sets Many (omega (arith, f))), refl), refl), refl), (x.3).0), refl), (x.0, x.1, omega (arith, f), (x.3).1)))
     ⨾ tt
 owing of.ClassMark = (λ _ _ _ _ _ _ x. ((tt, refl), refl), tt)
 owing of.ClassParamList = (λ _ _ _ _ _ _ first _ others _ x. ((((tt, refl), refl), omega arith), omega (arith, x)), tt)
@@ -67,7 +68,7 @@ owing (of.ClassParam n) = begun_owes Tallied Fits (of.Sort n) (of.ClassParam n) 
 owing (of.MoreClassParam n) = (λ _ _ _ first _ others _ x. (((tt, refl), omega (arith, x)), omega (arith, x)), tt)
 owing of.Literal = (λ _ _ _ x. (tt, refl), (λ _ _ _ x. (tt, refl), tt))
 owing (of.State n) = (
-  λ _ _ _ _ _ _ _ _ _ marks _ actions _ others _ x. let f = x.0 in ((((((tt, not_reached 32 n Many (omega (arith, f))), refl), refl), tt), (x.1).0), (omega (arith, f), (x.1).1)),
+  λ _ _ _ _ _ _ _ _ _ marks _ actions _ others _ x. let f = x.0 in ((((((tt, not_reached MAX_STATES n Many (omega (arith, f))), refl), refl), tt), (x.1).0), (omega (arith, f), (x.1).1)),
   tt,
 )
 owing of.StateMark = (λ _ _ _ m _ x. ((tt, refl), tt), tt)
@@ -75,7 +76,7 @@ owing of.FirstMark = (λ _ _ _ m _ x. ((tt, refl), tt), (λ _ _ _ m _ x. ((tt, r
 owing of.InitialMark = (λ _ _ _ _ _ _ x. ((tt, refl), refl), tt)
 owing of.DeadMark = (λ _ _ _ _ _ _ x. ((tt, refl), refl), tt)
 owing (of.Action n) = (
-  λ _ _ _ _ _ _ _ _ _ params _ body _ others _ x. let f = x.0 in ((((((tt, not_reached 32 n Many (omega (arith, f))), refl), refl), ((x.1).0).0), ((x.1).0).1), (omega (arith, f), (x.1).1)),
+  λ _ _ _ _ _ _ _ _ _ params _ body _ others _ x. let f = x.0 in ((((((tt, not_reached MAX_ACTIONS n Many (omega (arith, f))), refl), refl), ((x.1).0).0), ((x.1).0).1), (omega (arith, f), (x.1).1)),
   tt,
 )
 owing of.ActionParamList = (λ _ _ _ first _ others _ _ _ _ x. ((((tt, refl), omega arith), omega (arith, x)), refl), tt)
@@ -85,7 +86,7 @@ owing of.Default = (λ _ _ _ l _ x. ((tt, refl), tt), tt)
 owing (of.Block d) =
     (λ _ _ _ _ _ _ args _ every _ _ _ _ block _ x. let f = x.0 in ((((((tt, refl), refl), (x.1).0), tt), refl), (omega (arith, f), (x.1).1, x.2)))
     ⨾ (λ _ _ _ branch k block _ x. let f = x.0 in (
-      ((tt, not_reached 16 d Deep (omega (arith, f, k))), first_of_two (instr_sends branch) (block_sends (block_of block)) (instr_conditions branch) (block_conditions (block_of block)) (omega (arith, f)) x.1 x.2),
+      ((tt, not_reached MAX_IFS d Deep (omega (arith, f, k))), first_of_two (instr_sends branch) (block_sends (block_of block)) (instr_conditions branch) (block_conditions (block_of block)) (omega (arith, f)) x.1 x.2),
       second_of_two (instr_sends branch) (block_sends (block_of block)) (instr_conditions branch) (block_conditions (block_of block)) (omega (arith, f)) x.1 x.2,
     ))
     ⨾ (λ _ _ _ _ _ _ _ _ _ value _ block _ x. let f = x.0 in (((((tt, refl), refl), refl), tt), (omega (arith, f), x.1, x.2)))
@@ -93,7 +94,7 @@ owing (of.Block d) =
     ⨾ (λ _ _ _ _ _ _ _ _ _ _ _ _ _ _ _ block _ x. let f = x.0 in ((((((tt, refl), refl), refl), refl), refl), (omega (arith, f), x.1, x.2)))
     ⨾ tt
 owing of.ArgList = (λ _ _ _ first _ others _ _ _ _ x. ((((tt, refl), omega arith), omega (arith, x)), refl), tt)
-owing (of.Passed n) = (λ _ _ _ _ _ _ value _ x. (((tt, not_reached 16 n Many x), refl), tt), tt)
+owing (of.Passed n) = (λ _ _ _ _ _ _ value _ x. (((tt, not_reached MAX_ARGUMENTS n Many x), refl), tt), tt)
 owing (of.MorePassedArg n) = (λ _ _ _ first _ others _ x. (((tt, refl), omega (arith, x)), omega (arith, x)), tt)
 owing of.Every = (λ _ _ _ x. (tt, refl), tt)
 owing of.Arg = (λ _ _ _ x. (tt, refl), (λ _ _ _ x. (tt, refl), (λ _ _ _ x. (tt, refl), tt)))
@@ -119,9 +120,9 @@ owing (of.MoreOr d n left) = (λ _ _ _ w _ v a x. (((tt, refl), next_fits left w
 owing of.Sense = (λ _ _ _ x. (tt, refl), (λ _ _ _ x. (tt, refl), tt))
 owing of.StateList = (λ _ _ _ x. (tt, refl), (λ _ _ _ list _ _ _ _ x. (((tt, refl), x), refl), tt))
 owing of.Names = (λ _ _ _ others _ x. ((tt, refl), omega (arith, x)), tt)
-owing (of.MoreName n) = (λ _ _ _ _ _ _ others _ x. (((tt, refl), not_reached 32 n Many (omega (arith, x))), omega (arith, x)), tt)
+owing (of.MoreName n) = (λ _ _ _ _ _ _ others _ x. (((tt, refl), not_reached MAX_NAMES n Many (omega (arith, x))), omega (arith, x)), tt)
 owing of.Members = (λ _ _ _ others _ x. ((tt, refl), omega (arith, x)), tt)
-owing (of.MoreMember n) = (λ _ _ _ _ _ _ others _ x. (((tt, refl), not_reached 64 n Many (omega (arith, x))), omega (arith, x)), tt)
+owing (of.MoreMember n) = (λ _ _ _ _ _ _ others _ x. (((tt, refl), not_reached MAX_MEMBERS n Many (omega (arith, x))), omega (arith, x)), tt)
 
 pub within_limits : WithinLimits
 within_limits ts file = (

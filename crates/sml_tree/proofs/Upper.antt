@@ -9,6 +9,7 @@ use Rattle.std.specs.Str.{IsUtf8, IsAscii}
 use Rattle.std.specs.Char.{is_ascii_alphabetic, to_ascii_uppercase}
 use Rattle.std.specs.List.{list_all}
 use Rattle.sml_tree.specs.Word.{is_word_byte, is_word_text, is_word, upper}
+use Rattle.sml_text.specs.declared.limits.TheConstants.{LONGEST_NAME}
 
 letter_upper : (b : ℕ) → IsTrue (is_ascii_alphabetic b) → IsTrue (is_ascii_alphabetic (to_ascii_uppercase b))
 letter_upper b h = grind (arith, nat_tests)
@@ -37,11 +38,11 @@ text_upper (b ∷ bs) h =
 
 pub word_upper : (bs : List ℕ) → IsTrue (is_word bs) → IsTrue (is_word (upper bs))
 word_upper bs h =
-    let p = and_parts (is_word_text bs) (nat_le (length bs) 64) h in
-    and_from _ _ (text_upper bs p.0) (ap (λ n. nat_le n 64) (length-map bs to_ascii_uppercase) ∙ p.1)
+    let p = and_parts (is_word_text bs) (nat_le (length bs) LONGEST_NAME) h in
+    and_from _ _ (text_upper bs p.0) (ap (λ n. nat_le n LONGEST_NAME) (length-map bs to_ascii_uppercase) ∙ p.1)
 
-pub word_fits : (bs : List ℕ) → IsTrue (is_word bs) → length bs ≤ 64
-word_fits bs h = let p = (and_parts (is_word_text bs) (nat_le (length bs) 64) h).1 in grind (arith, nat_tests)
+pub word_fits : (bs : List ℕ) → IsTrue (is_word bs) → length bs ≤ LONGEST_NAME
+word_fits bs h = let p = (and_parts (is_word_text bs) (nat_le (length bs) LONGEST_NAME) h).1 in grind (arith, nat_tests)
 
 pub upper_more : (bytes word : List ℕ) (i : ℕ) → i < length bytes → i < length word → take i bytes ≡ upper (take i word) →
     take (i + 1) (set bytes i (to_ascii_uppercase (get_or word i 0))) ≡ upper (take (i + 1) word)
@@ -79,5 +80,5 @@ text_ascii (b ∷ bs) h (suc i) = bytes_ascii bs (and_parts (is_ascii_alphabetic
 -- the bytes of a word are a text
 pub word_utf8 : (bs : List ℕ) → IsTrue (is_word bs) → IsUtf8 bs
 word_utf8 bs h =
-    let p = and_parts (is_word_text bs) (nat_le (length bs) 64) h in
+    let p = and_parts (is_word_text bs) (nat_le (length bs) LONGEST_NAME) h in
     IsUtf8-from_ascii bs (text_ascii bs p.0)

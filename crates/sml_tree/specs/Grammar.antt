@@ -12,6 +12,7 @@ use Rattle.sml_tree.specs.Content.{block_of}
 use Rattle.sml_tree.specs.Piece.{Piece, word_of, int_of, bytes_of}
 use Rattle.sml_tree.specs.Form as of
 use Rattle.sml_tree.specs.Form.{Bone, B, P, Form, gives, ◌>>=◌, ◌>>◌, word, limited, part, Mark, Fine, Deep, Many, Part, family, Value, Counted}
+use Rattle.sml_tree.specs.declared.limits.TheConstants.{MAX_CLASSES, MAX_OBJECTS, MAX_SETS, MAX_STATES, MAX_ACTIONS, MAX_PARAMETERS, MAX_ARGUMENTS, MAX_MEMBERS, MAX_NAMES, MAX_TESTS, MAX_IFS, MAX_OPEN}
 
 -- a limit, and the count of what stands before
 abbrev pub most : ℕ → ℕ → Mark → Mark
@@ -39,8 +40,8 @@ name t = word_of t.lexeme
 -- kind = INT | STRING
 abbrev pub kind_rules : (n : ℕ) → List (Rule (of.Sort n))
 kind_rules n =
-    way IntKind (most 16 n Many) (λ _. gives sort.Int)
-    ∷ way StringKind (most 16 n Many) (λ _. gives sort.Str)
+    way IntKind (most MAX_PARAMETERS n Many) (λ _. gives sort.Int)
+    ∷ way StringKind (most MAX_PARAMETERS n Many) (λ _. gives sort.Str)
     ∷ []
 
 -- name = value
@@ -77,18 +78,18 @@ asks scope name tests = do
 -- test = [ ALL_IN | ANY_IN ] name ( IN_STATE | NOT_IN_STATE ) states
 abbrev pub unit_rules : (depth tests : ℕ) → List (Rule (of.Unit' depth tests))
 unit_rules depth tests =
-    way Not (most 16 depth Deep) (λ _. do
+    way Not (most MAX_OPEN depth Deep) (λ _. do
       unit ← part (of.Unit' (depth + 1) tests)
       gives (record { formula = neither unit.formula; count = unit.count }))
-    ∷ way OpenBracket (most 16 depth Deep) (λ _. do
+    ∷ way OpenBracket (most MAX_OPEN depth Deep) (λ _. do
       inner ← part (of.Cond (depth + 1) tests)
       word CloseBracket
       gives inner)
-    ∷ way Name (most 64 tests Many) (λ t. asks scope.One (name t) tests)
-    ∷ way AllIn (most 64 tests Many) (λ _. do
+    ∷ way Name (most MAX_TESTS tests Many) (λ t. asks scope.One (name t) tests)
+    ∷ way AllIn (most MAX_TESTS tests Many) (λ _. do
       t ← word Name
       asks scope.All (name t) tests)
-    ∷ way AnyIn (most 64 tests Many) (λ _. do
+    ∷ way AnyIn (most MAX_TESTS tests Many) (λ _. do
       t ← word Name
       asks scope.Any (name t) tests)
     ∷ []
@@ -134,7 +135,7 @@ abbrev pub rules : (n : Part) → List (Rule n)
 -- object = OBJECT : name IS_OF_CLASS name
 -- group = OBJECTSET : name { [ name+, ] }
 rules (of.File classes objects sets) =
-    way Class (most 64 classes Many) (λ _. do
+    way Class (most MAX_CLASSES classes Many) (λ _. do
       word Colon
       t ← word Name
       associated ← part of.ClassMark
@@ -142,14 +143,14 @@ rules (of.File classes objects sets) =
       states ← part (of.State 0)
       file ← part (of.File (classes + 1) objects sets)
       gives (class (record { name = name t; associated = associated; params = params; states = states }) ∷ file))
-    ∷ way Object (most 64 objects Many) (λ _. do
+    ∷ way Object (most MAX_OBJECTS objects Many) (λ _. do
       word Colon
       t ← word Name
       word IsOfClass
       c ← word Name
       file ← part (of.File classes (objects + 1) sets)
       gives (object (record { name = name t; class = name c }) ∷ file))
-    ∷ way ObjectSet (most 32 sets Many) (λ _. do
+    ∷ way ObjectSet (most MAX_SETS sets Many) (λ _. do
       word Colon
       t ← word Name
       word OpenBrace
@@ -187,7 +188,7 @@ rules of.Literal =
     ∷ []
 -- state = STATE : name marks action*
 rules (of.State n) =
-    way State (most 32 n Many) (λ _. do
+    way State (most MAX_STATES n Many) (λ _. do
       word Colon
       t ← word Name
       marks ← part of.StateMark
@@ -217,7 +218,7 @@ rules of.DeadMark =
     ∷ []
 -- action = ACTION : name [ ( aparam+, ) ] block
 rules (of.Action n) =
-    way Action (most 32 n Many) (λ _. do
+    way Action (most MAX_ACTIONS n Many) (λ _. do
       word Colon
       t ← word Name
       params ← part of.ActionParamList
@@ -260,7 +261,7 @@ rules (of.Block depth) =
       target ← word Name
       block ← part (of.Block depth)
       gives (send (record { action = name action; args = args; all = all; target = name target }) ∷ block))
-    ∷ way If (most 16 depth Deep) (λ _. do
+    ∷ way If (most MAX_IFS depth Deep) (λ _. do
       branch ← part (of.Branch depth)
       block ← part (of.Block depth)
       gives (branch ∷ block))
@@ -292,7 +293,7 @@ rules of.ArgList =
     ∷ []
 -- passed = name = arg
 rules (of.Passed n) =
-    way Name (most 16 n Many) (λ t. do
+    way Name (most MAX_ARGUMENTS n Many) (λ t. do
       word Equals
       value ← part of.Arg
       gives (record { name = name t; value = value }))
@@ -363,7 +364,7 @@ rules of.Names =
     ∷ []
 rules (of.MoreName n) =
     way Comma Fine (λ _. do
-      t ← limited Name (most 32 n Many)
+      t ← limited Name (most MAX_NAMES n Many)
       others ← part (of.MoreName (n + 1))
       gives (name t ∷ others))
     ∷ []
@@ -375,7 +376,7 @@ rules of.Members =
     ∷ []
 rules (of.MoreMember n) =
     way Comma Fine (λ _. do
-      t ← limited Name (most 64 n Many)
+      t ← limited Name (most MAX_MEMBERS n Many)
       others ← part (of.MoreMember (n + 1))
       gives (name t ∷ others))
     ∷ []

@@ -11,6 +11,7 @@ use Rattle.sml_tree.specs.StateMarks.{AreMarks}
 use Rattle.sml_tree.specs.Inside.{conditions}
 use Rattle.sml_tree.specs.Brackets.{open_depth}
 use Rattle.sml_tree.specs.Limits.{IsWithinLimits}
+use Rattle.sml_tree.specs.declared.limits.TheConstants.{MAX_OPEN}
 
 -- the tokens are a text of the part, under some marks, and it is then worth v
 abbrev pub IsTextOf : (n : Part) → List Piece → Value n → Type 0
@@ -30,7 +31,7 @@ NamesAreNotReserved = (word : List ℕ) → (word_kind false word ≡ Name) ↔ 
 
 -- the canonical text of each condition of a file has at most sixteen open brackets and `not`s
 abbrev pub FewBrackets : Type 0
-FewBrackets = (ts : List Piece) (file : List ItemData) → IsFile ts file → AllByRecursion (λ c. open_depth c ≤ 16) (conditions file)
+FewBrackets = (ts : List Piece) (file : List ItemData) → IsFile ts file → AllByRecursion (λ c. open_depth c ≤ MAX_OPEN) (conditions file)
 
 -- a token that is no `not` or bracket too deep
 abbrev pub IsNotTooDeep : Marked → Type 0

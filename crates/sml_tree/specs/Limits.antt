@@ -3,40 +3,41 @@ use Rattle.std.specs.Prelude.{◌≤◌, Bool, true, false, List, length}
 use Rattle.std.specs.List.{AllByRecursion, filter}
 use Rattle.sml_tree.specs.Syntax.{TestData, CondData, SendData, BlockData, block_depth, ActionData, StateData, ClassData, ItemData, class, object, group}
 use Rattle.sml_tree.specs.Inside.{tests, block_conditions, block_sends}
+use Rattle.sml_tree.specs.declared.limits.TheConstants.{MAX_CLASSES, MAX_OBJECTS, MAX_SETS, MAX_STATES, MAX_ACTIONS, MAX_PARAMETERS, MAX_ARGUMENTS, MAX_MEMBERS, MAX_NAMES, MAX_TESTS, MAX_IFS}
 
 -- names of a list of states
 abbrev pub TestFits : TestData → Type 0
-TestFits x = length x.states ≤ 32
+TestFits x = length x.states ≤ MAX_NAMES
 
 -- tests of a condition
 abbrev pub CondFits : CondData → Type 0
-CondFits c = (length (tests c) ≤ 64) × AllByRecursion TestFits (tests c)
+CondFits c = (length (tests c) ≤ MAX_TESTS) × AllByRecursion TestFits (tests c)
 
 -- arguments of a `do`
 abbrev pub SendFits : SendData → Type 0
-SendFits s = length s.args ≤ 16
+SendFits s = length s.args ≤ MAX_ARGUMENTS
 
 -- nesting of `if`
 abbrev pub BlockFits : BlockData → Type 0
-BlockFits b = (block_depth b ≤ 16) × AllByRecursion SendFits (block_sends b) × AllByRecursion CondFits (block_conditions b)
+BlockFits b = (block_depth b ≤ MAX_IFS) × AllByRecursion SendFits (block_sends b) × AllByRecursion CondFits (block_conditions b)
 
 -- parameters of an action
 abbrev pub ActionFits : ActionData → Type 0
-ActionFits a = (length a.params ≤ 16) × BlockFits a.body
+ActionFits a = (length a.params ≤ MAX_PARAMETERS) × BlockFits a.body
 
 -- actions of a state
 abbrev pub StateFits : StateData → Type 0
-StateFits s = (length s.actions ≤ 32) × AllByRecursion ActionFits s.actions
+StateFits s = (length s.actions ≤ MAX_ACTIONS) × AllByRecursion ActionFits s.actions
 
 -- parameters and states of a class
 abbrev pub ClassFits : ClassData → Type 0
-ClassFits c = (length c.params ≤ 16) × (length c.states ≤ 32) × AllByRecursion StateFits c.states
+ClassFits c = (length c.params ≤ MAX_PARAMETERS) × (length c.states ≤ MAX_STATES) × AllByRecursion StateFits c.states
 
 -- members of a set
 abbrev pub ItemFits : ItemData → Type 0
 ItemFits (class c) = ClassFits c
 ItemFits (object o) = Unit {0}
-ItemFits (group g) = length g.members ≤ 64
+ItemFits (group g) = length g.members ≤ MAX_MEMBERS
 
 -- whether an item is a class, an object, a set
 abbrev pub is_class : ItemData → Bool
@@ -57,5 +58,5 @@ is_set (group g) = true
 -- classes, objects and sets of a file
 abbrev pub IsWithinLimits : List ItemData → Type 0
 IsWithinLimits file =
-    (length (filter is_class file) ≤ 64) × (length (filter is_object file) ≤ 64) × (length (filter is_set file) ≤ 32)
+    (length (filter is_class file) ≤ MAX_CLASSES) × (length (filter is_object file) ≤ MAX_OBJECTS) × (length (filter is_set file) ≤ MAX_SETS)
     × AllByRecursion ItemFits file

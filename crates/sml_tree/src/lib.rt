@@ -5,6 +5,7 @@ pub mod block;
 pub mod cond;
 pub mod file;
 pub mod laws;
+pub mod limits;
 mod lists;
 pub mod literal;
 pub mod name;

@@ -32,7 +32,7 @@ place in the text is told:
   3 BadToken        here begins no word, int, string, sign or comment; a word has at most 64 bytes, an
                     int 64 bits with its sign, and a string at most 255 bytes and ends on its line
   4 Unexpected      this word or sign may not stand here, or, at the end, the text ends too early
-  5 TooDeep         an `if` inside sixteen others, or a `not` or bracket inside sixteen of its condition
+  5 TooDeep         an `if` inside 16 others, or a `not` or bracket inside 16 of its condition
   6 TooMany         one more than the language allows of what begins here: 64 classes, 64 objects,
                     32 sets, 32 states of a class, 32 actions of a state, 16 parameters of a list,
                     16 arguments of a `do`, 64 members of a set, 32 states of a list, 64 tests of a

@@ -5,6 +5,7 @@ use Rattle.sml_read.specs.Promise.{refusal}
 use Rattle.sml_read.proofs.Late.{late, derived}
 use Rattle.sml_read.proofs.Only.{said, memory_alone}
 use Rattle.sml_read.proofs.reading.read.Goals as goal
+use Rattle.sml_read.specs.declared.reading.TheConstants.{MAX_TEXT}
 
 pub returns-in-Some-first_bad-clause-bad_token : goal.returns-in-Some-first_bad-clause-bad_token
 returns-in-Some-first_bad-clause-bad_token g c k short ascii bad =
@@ -14,7 +15,7 @@ returns-in-Some-first_bad-clause-bad_token g c k short ascii bad =
 pub returns-in-Ok-clause-read : goal.returns-in-Ok-clause-read
 returns-in-Ok-clause-read g c =
     let tokens = c.in_default-first_bad.ensures in
-    let short : length c.args.text.now ≤ 2 ^ 20 = search rules in (
+    let short : length c.args.text.now ≤ MAX_TEXT = search rules in (
       short,
       sym c.foreign_at.ensures ∙ c.in_default.is,
       (tokens.0, tokens.1, derived c.args.text.now tokens.0 _ (c.laws_of_tokens.ensures.tokens_from Domain 0 c.args.text.now tokens.0 tokens.1) c.in-Ok.ensures),
@@ -28,7 +29,7 @@ returns-in-Ok-clause-bad_token g c k short ascii bad =
 pub returns-clause-refused : goal.returns-clause-refused
 returns-clause-refused g c =
     let tokens = c.in_default-first_bad.ensures in
-    let short : length c.args.text.now ≤ 2 ^ 20 = search rules in
+    let short : length c.args.text.now ≤ MAX_TEXT = search rules in
     let cause = late {X = Unit {0}} (λ _. []) c.args.text.now tokens.0 c.in-Err.stop short (sym c.foreign_at.ensures ∙ c.in_default.is) tokens.1
     (c.laws_of_tokens.ensures.tokens_from Domain 0 c.args.text.now tokens.0 tokens.1) c.in-Err.ensures in
     rw c.error_of.ensures cause

@@ -3,11 +3,12 @@ use Rattle.sml_tree.specs.Content.{action_content}
 use Rattle.sml_tree.specs.Form.{Action}
 use Rattle.sml_read.specs.Reads.{Leads}
 use Rattle.sml_read.proofs.reader.Reader.actions.Given as goal
+use Rattle.sml_tree.specs.declared.limits.TheConstants.{MAX_ACTIONS}
 
 -- what was read stands before what is left
 abbrev pub invariant-more : goal.invariant-more
 invariant-more g l =
-    (length l.self ≤ length l.fn.self) × (vec_len l.actions ≤ 32) × Leads (Action 0) (Action (vec_len l.actions)) (λ v. map action_content l.actions.items ++ v) l.fn.self l.self
+    (length l.self ≤ length l.fn.self) × (vec_len l.actions ≤ MAX_ACTIONS) × Leads (Action 0) (Action (vec_len l.actions)) (λ v. map action_content l.actions.items ++ v) l.fn.self l.self
 
 abbrev pub decreases-more : goal.decreases-more
 decreases-more g l = length l.self

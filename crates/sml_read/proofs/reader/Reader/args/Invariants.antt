@@ -4,11 +4,12 @@ use Rattle.sml_tree.specs.Content.{passed_content}
 use Rattle.sml_tree.specs.Form.{ArgList, MorePassedArg}
 use Rattle.sml_read.specs.Lists.{LeadsTo}
 use Rattle.sml_read.proofs.reader.Reader.args.Given as goal
+use Rattle.sml_tree.specs.declared.limits.TheConstants.{MAX_ARGUMENTS}
 
 -- what was read stands before what is left
 abbrev pub invariant-more : goal.invariant-more
 invariant-more g l =
-    (length l.self ≤ length l.fn.self) × (vec_len l.args ≤ 16) × LeadsTo ArgList (MorePassedArg (vec_len l.args)) CloseBracket (λ v. map passed_content l.args.items ++ v) l.fn.self l.self
+    (length l.self ≤ length l.fn.self) × (vec_len l.args ≤ MAX_ARGUMENTS) × LeadsTo ArgList (MorePassedArg (vec_len l.args)) CloseBracket (λ v. map passed_content l.args.items ++ v) l.fn.self l.self
 
 abbrev pub decreases-more : goal.decreases-more
 decreases-more g l = length l.self

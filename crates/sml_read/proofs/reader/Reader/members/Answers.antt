@@ -10,6 +10,7 @@ use Rattle.sml_read.proofs.Bracketed.{members_begun}
 use Rattle.sml_read.proofs.Steps.{seen}
 use Rattle.sml_read.proofs.Stopped.{handed}
 use Rattle.sml_read.proofs.reader.Reader.members.Goals as goal
+use Rattle.sml_tree.specs.declared.limits.TheConstants.{MAX_MEMBERS}
 
 -- the first was read
 pub more-init : goal.more-init
@@ -28,7 +29,7 @@ more-preserved g c =
       omega (arith, made.len, room),
       rw made.len (read_more Members (MoreMember (vec_len c.more.members)) (MoreMember (vec_len c.more.members + 1)) (λ v. c.more.members.items ++ v) (λ v. c.in_ok-member.member ∷ v)
           (λ v. c.in_ok-members-2.members.items ++ v) c.args.self.now c.more.self c.limited.new.self c.more.invariant.2
-          (member_more (vec_len c.more.members) c.in_ok-member.member c.more.self c.skip.new.self c.limited.new.self comma (lt-ltb (vec_len c.more.members) 64 room) read)
+          (member_more (vec_len c.more.members) c.in_ok-member.member c.more.self c.skip.new.self c.limited.new.self comma (lt-ltb (vec_len c.more.members) MAX_MEMBERS room) read)
           (pushed_plain c.more.members.items c.in_ok-members-2.members.items c.in_ok-member.member made.items)),
     )
 
@@ -47,4 +48,4 @@ returns-in_err-member g c =
     rw (handed _ c.in_err-member.field-0.0 c.from_residual-in_err-member.ensures.1)
     (read_err Members (MoreMember (vec_len c.more.members)) (λ v. c.more.members.items ++ v) c.args.self.now c.more.self c.in_err-member.field-0.0 c.more.invariant.2
     (member_refused (vec_len c.more.members) c.more.self c.skip.new.self c.limited.new.self c.in_err-member.field-0.0 c.more-test.ensures
-    (subst (λ (n : ℕ). ReadsLimited 64 n c.skip.new.self c.limited.new.self (Err c.in_err-member.field-0.0)) c.len.ensures c.in_err-member.ensures.read)))
+    (subst (λ (n : ℕ). ReadsLimited MAX_MEMBERS n c.skip.new.self c.limited.new.self (Err c.in_err-member.field-0.0)) c.len.ensures c.in_err-member.ensures.read)))

@@ -8,6 +8,7 @@ use Rattle.sml_read.proofs.Behind.{lacking, name_more, name_refused}
 use Rattle.sml_read.proofs.Bracketed.{names_begun, names_err}
 use Rattle.sml_read.proofs.Stopped.{handed}
 use Rattle.sml_read.proofs.reader.Reader.names.Goals as goal
+use Rattle.sml_tree.specs.declared.limits.TheConstants.{MAX_NAMES}
 
 -- the first was read
 pub more-init : goal.more-init
@@ -26,7 +27,7 @@ more-preserved g c =
       omega (arith, made.len, room),
       rw made.len (read_more Names (MoreName (vec_len c.more.names)) (MoreName (vec_len c.more.names + 1)) (λ v. c.more.names.items ++ v) (λ v. c.in_ok-state.state ∷ v)
           (λ v. c.in_ok-names-2.names.items ++ v) c.args.self.now c.more.self c.limited.new.self c.more.invariant.2
-          (name_more (vec_len c.more.names) c.in_ok-state.state c.more.self c.skip.new.self c.limited.new.self comma (lt-ltb (vec_len c.more.names) 32 room) read)
+          (name_more (vec_len c.more.names) c.in_ok-state.state c.more.self c.skip.new.self c.limited.new.self comma (lt-ltb (vec_len c.more.names) MAX_NAMES room) read)
           (pushed_plain c.more.names.items c.in_ok-names-2.names.items c.in_ok-state.state made.items)),
     )
 
@@ -45,7 +46,7 @@ returns-in_err-state g c =
     rw (handed _ c.in_err-state.field-0.0 c.from_residual-in_err-state.ensures.1)
     (read_err Names (MoreName (vec_len c.more.names)) (λ v. c.more.names.items ++ v) c.args.self.now c.more.self c.in_err-state.field-0.0 c.more.invariant.2
     (name_refused (vec_len c.more.names) c.more.self c.skip.new.self c.limited.new.self c.in_err-state.field-0.0 c.more-test.ensures
-    (subst (λ (n : ℕ). ReadsLimited 32 n c.skip.new.self c.limited.new.self (Err c.in_err-state.field-0.0)) c.len.ensures c.in_err-state.ensures.read)))
+    (subst (λ (n : ℕ). ReadsLimited MAX_NAMES n c.skip.new.self c.limited.new.self (Err c.in_err-state.field-0.0)) c.len.ensures c.in_err-state.ensures.read)))
 
 -- no name stands there
 pub returns-in_err-first : goal.returns-in_err-first

@@ -2,6 +2,7 @@ use Rattle.std.proofs.lemmas.Bool.{lt-ltb}
 use Rattle.sml_read.proofs.Passing.{passed_name_err, passed_sign_err, passed_value_err, passed_ok}
 use Rattle.sml_read.proofs.Stopped.{handed}
 use Rattle.sml_read.proofs.reader.Reader.passed.Goals as goal
+use Rattle.sml_tree.specs.declared.limits.TheConstants.{MAX_ARGUMENTS}
 
 pub returns-in_err-name-clause-read : goal.returns-in_err-name-clause-read
 returns-in_err-name-clause-read g c =
@@ -11,19 +12,19 @@ returns-in_err-name-clause-read g c =
 pub returns-in_err-expect-clause-read : goal.returns-in_err-expect-clause-read
 returns-in_err-expect-clause-read g c =
     let named = c.in_ok-name.ensures.read in
-    let room = lt-ltb c.args.before 16 c.in_ok-name.ensures.room in
+    let room = lt-ltb c.args.before MAX_ARGUMENTS c.in_ok-name.ensures.room in
     rw (handed _ c.in_err-expect.field-0.0 c.from_residual-in_err-expect.ensures.1)
     (passed_sign_err c.args.before c.args.self.now c.limited.new.self c.expect.new.self named.0 c.in_err-expect.field-0.0 room (named.1, named.2) c.in_err-expect.ensures)
 
 pub returns-in_err-value-clause-read : goal.returns-in_err-value-clause-read
 returns-in_err-value-clause-read g c =
     let named = c.in_ok-name.ensures.read in
-    let room = lt-ltb c.args.before 16 c.in_ok-name.ensures.room in
+    let room = lt-ltb c.args.before MAX_ARGUMENTS c.in_ok-name.ensures.room in
     rw (handed _ c.in_err-value.field-0.0 c.from_residual-in_err-value.ensures.1)
     (passed_value_err c.args.before c.args.self.now c.limited.new.self c.expect.new.self named.0 c.in_ok-expect.field-0 c.in_err-value.field-0.0 room (named.1, named.2) c.in_ok-expect.ensures c.in_err-value.ensures)
 
 pub returns-clause-read : goal.returns-clause-read
 returns-clause-read g c =
     let named = c.in_ok-name.ensures.read in
-    let room = lt-ltb c.args.before 16 c.in_ok-name.ensures.room in
+    let room = lt-ltb c.args.before MAX_ARGUMENTS c.in_ok-name.ensures.room in
     passed_ok c.args.before c.args.self.now c.limited.new.self c.expect.new.self c.arg.new.self named.0 c.in_ok-expect.field-0 c.in_ok-name.name _ room (named.1, named.2) c.in_ok-expect.ensures named.3 c.in_ok-value.ensures

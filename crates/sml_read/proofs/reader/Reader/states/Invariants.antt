@@ -3,11 +3,12 @@ use Rattle.sml_tree.specs.Content.{state_content}
 use Rattle.sml_tree.specs.Form.{State}
 use Rattle.sml_read.specs.Reads.{Leads}
 use Rattle.sml_read.proofs.reader.Reader.states.Given as goal
+use Rattle.sml_tree.specs.declared.limits.TheConstants.{MAX_STATES}
 
 -- what was read stands before what is left
 abbrev pub invariant-more : goal.invariant-more
 invariant-more g l =
-    (length l.self ≤ length l.fn.self) × (vec_len l.states ≤ 32) × Leads (State 0) (State (vec_len l.states)) (λ v. map state_content l.states.items ++ v) l.fn.self l.self
+    (length l.self ≤ length l.fn.self) × (vec_len l.states ≤ MAX_STATES) × Leads (State 0) (State (vec_len l.states)) (λ v. map state_content l.states.items ++ v) l.fn.self l.self
 
 abbrev pub decreases-more : goal.decreases-more
 decreases-more g l = length l.self
