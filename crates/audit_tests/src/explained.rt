@@ -1,6 +1,5 @@
 //! What is said to people of lines that may not stand.
 
-use crate::domain_of::domain_of;
 use crate::domains::{Setting, text_of};
 use crate::explained_rows::{ENDS, Explained, POSTS, READINGS, STARTS};
 use crate::judged::joined;
@@ -9,6 +8,7 @@ use smi_audit::audit::audit;
 use smi_audit::judgement::Judgement;
 use smi_explain::explain::explain;
 use smi_journal::read::read_journal;
+use sml_checkable::domain_of;
 use std::alloc::Global;
 use std::test::*;
 
@@ -17,7 +17,7 @@ type Place = (u64, Rule);
 
 // What is said of a line of a journal.
 fn told_of(alloc: Global, setting: Setting, text: &[u8], place: Place) -> Option<Vec<u8>> {
-    let domain = domain_of(alloc, text_of(setting))?;
+    let domain = domain_of(alloc, text_of(setting)).ok()?;
     let journal = read_journal(alloc, &domain, text).ok()?;
     let (line, rule) = place;
     let mut told = Vec::new(alloc);
@@ -37,7 +37,7 @@ fn told_of(alloc: Global, setting: Setting, text: &[u8], place: Place) -> Option
 
 // The first line of a journal that may not stand, and the first rule that it breaks.
 fn first_broken(alloc: Global, setting: Setting, text: &[u8]) -> Option<Place> {
-    let domain = domain_of(alloc, text_of(setting))?;
+    let domain = domain_of(alloc, text_of(setting)).ok()?;
     match audit(alloc, domain, text).ok()? {
         Judgement::Illegal { line, rule } => Some((line, rule)),
         Judgement::Legal => None,

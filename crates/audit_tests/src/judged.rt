@@ -1,10 +1,10 @@
 //! What is said of journals.
 
-use crate::domain_of::domain_of;
 use crate::domains::{Setting, text_of};
 use smi_audit::audit::audit;
 use smi_audit::judgement::Judgement;
 use smi_audit::{JournalError, Rule};
+use sml_checkable::domain_of;
 use std::alloc::Global;
 
 /// What the judge says of a text.
@@ -39,8 +39,8 @@ fn is_answer(answer: Result<Judgement, JournalError>, said: Said) -> bool {
 /// Whether the judge says this of a text.
 pub fn is_said(alloc: Global, setting: Setting, text: &[u8], said: Said) -> bool {
     match domain_of(alloc, text_of(setting)) {
-        Some(domain) => is_answer(audit(alloc, domain, text), said),
-        None => false,
+        Ok(domain) => is_answer(audit(alloc, domain, text), said),
+        Err(_) => false,
     }
 }
 

@@ -4,7 +4,6 @@
 #[cfg(test)]
 mod changed;
 #[cfg(test)]
-mod domain_of;
 #[cfg(test)]
 mod domains;
 #[cfg(test)]

@@ -5,7 +5,6 @@ ghost use Rattle.smi_board.specs.Contacts.{RepliesTaskOf, StartsTaskOf};
 
 use crate::acts::advanced;
 use crate::boards::{Run, board_of};
-use crate::domain_of::domain_of;
 use crate::lines::{Asked, Line, are_lines};
 use crate::strangers::asks;
 use crate::walk::{Plain, are_values};
@@ -17,6 +16,7 @@ use smi_entry::entry::Verdict::Accepted;
 use smi_entry::session::SessionId;
 use smi_interp::task::Task;
 use smi_mail::plain::PlainMail;
+use sml_checkable::domain_of;
 use sml_domain::domain::Domain;
 use sml_domain::ids::{ObjId, StateId};
 use std::alloc::Global;
@@ -268,8 +268,8 @@ fn is_kept(alloc: Global, domain: &Arc<Domain>, skipped: usize) -> bool {
 // The domain, asked for a second time where it was refused.
 fn domain_at_last(alloc: Global) -> Option<Arc<Domain>> {
     match domain_of(alloc, TEXT) {
-        Some(domain) => Some(domain),
-        None => domain_of(alloc, TEXT),
+        Ok(domain) => Some(domain),
+        Err(_) => domain_of(alloc, TEXT).ok(),
     }
 }
 

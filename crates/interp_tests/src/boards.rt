@@ -6,7 +6,6 @@ ghost use Rattle.smi_mail.specs.Boxes.{sent_at, taken_at};
 ghost use Rattle.smi_board.specs.Refusals.{is_operator};
 
 use crate::acts::{Made, acts, rests, resumes};
-use crate::domain_of::domain_of;
 use crate::lines::{Asked, Line, are_lines, is_letter};
 use crate::walk::{Plain, are_values, values_of};
 use smi_board::board::Board;
@@ -18,6 +17,7 @@ use smi_entry::envelope::Envelope;
 use smi_entry::session::SessionId;
 use smi_interp::task::Task;
 use smi_mail::plain::{MAX_CAPACITY, PlainMail};
+use sml_checkable::domain_of;
 use sml_domain::domain::Domain;
 use sml_domain::ids::{ActionId, ObjId, StateId};
 use std::alloc::Global;
@@ -236,7 +236,7 @@ pub fn board_of(alloc: Global, domain: &Arc<Domain>, run: Run) -> Option<Board<P
 
 /// Whether the board of a run answers each call as it must, and its journal is the run's in the end.
 pub fn is_kept(alloc: Global, run: Run) -> bool {
-    let Some(domain) = domain_of(alloc, run.text) else {
+    let Ok(domain) = domain_of(alloc, run.text) else {
         return false;
     };
     let Some(board) = board_of(alloc, &domain, run) else {

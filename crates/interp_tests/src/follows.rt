@@ -1,6 +1,5 @@
 //! Actions of known domains, followed by hand.
 
-use crate::domain_of::domain_of;
 use crate::texts::{COUNTER, EMPTY, LISTS, NESTED, SUPPLIES};
 use crate::walk::{Plain, are_values, values_of};
 use smi_entry::args::{Args, Reading};
@@ -10,6 +9,7 @@ use smi_entry::session::SessionId;
 use smi_follower::follower::{Expected, Follower};
 use smi_interp::contact::Post;
 use smi_interp::task::Ready;
+use sml_checkable::domain_of;
 use sml_domain::ids::{ActionId, ObjId, StateId};
 use std::alloc::Global;
 use std::test::*;
@@ -171,7 +171,7 @@ const ROWS: &[(Opened, &[Told], Next)] = &[
 ];
 
 fn begun(alloc: Global, opened: &Opened) -> Option<Follower> {
-    let domain = domain_of(alloc, opened.text)?;
+    let domain = domain_of(alloc, opened.text).ok()?;
     let object = ObjId::new(opened.object);
     let state = StateId::new(opened.state);
     let action = ActionId::new(opened.action);

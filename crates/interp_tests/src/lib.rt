@@ -12,7 +12,6 @@ mod boards;
 #[cfg(test)]
 mod counters;
 #[cfg(test)]
-mod domain_of;
 #[cfg(test)]
 mod follows;
 #[cfg(test)]

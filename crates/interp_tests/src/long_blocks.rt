@@ -2,10 +2,10 @@
 
 use crate::beginnings::task_of;
 use crate::boards::envelope_of;
-use crate::domain_of::domain_of;
 use crate::lines::Asked;
 use smi_interp::contact::Contact;
 use smi_interp::task::Task;
+use sml_checkable::domain_of;
 use sml_domain::ids::{ObjId, StateId};
 use sml_domain::value::Value;
 use std::alloc::Global;
@@ -46,7 +46,7 @@ fn text_of(alloc: Global, piece: &[u8], count: usize) -> Option<Vec<u8>> {
 }
 
 fn begun(alloc: Global, text: &[u8]) -> Option<Task> {
-    let domain = domain_of(alloc, text)?;
+    let domain = domain_of(alloc, text).ok()?;
     let envelope = envelope_of(alloc, GO)?;
     let params = vec![in alloc; Value::Int(0)].ok()?;
     task_of(

@@ -6,7 +6,6 @@ ghost use Rattle.smi_board.specs.Refusals.{is_operator};
 use crate::acts::{Made, acts, advanced};
 use crate::beginnings::task_of;
 use crate::boards::{Run, board_of, envelope_of};
-use crate::domain_of::domain_of;
 use crate::lines::Asked;
 use crate::texts::{COUNTER, SUPPLIES};
 use smi_board::board::Board;
@@ -15,6 +14,7 @@ use smi_board::starting::Started;
 use smi_entry::session::SessionId;
 use smi_interp::task::Task;
 use smi_mail::plain::PlainMail;
+use sml_checkable::domain_of;
 use sml_domain::domain::Domain;
 use sml_domain::ids::ObjId;
 use std::alloc::Global;
@@ -181,7 +181,7 @@ struct Fresh {
 fn fresh_of(alloc: Global, text: &'static [u8]) -> Option<Fresh>
     ensures { IfSome result (λ f. f.board.domain ≡ arc_value f.domain) }
 {
-    let domain = domain_of(alloc, text)?;
+    let domain = domain_of(alloc, text).ok()?;
     let run = Run {
         text,
         capacity: 4,

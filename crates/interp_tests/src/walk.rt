@@ -2,13 +2,13 @@
 
 use crate::beginnings::task_of;
 use crate::boards::envelope_of;
-use crate::domain_of::domain_of;
 use crate::lines::Asked;
 use smi_entry::args::Reading;
 use smi_entry::entry::Verdict;
 use smi_interp::contact::{Contact, Post};
 use smi_interp::task::Task;
 use smi_interp::turn::{Move, TurnRecord};
+use sml_checkable::domain_of;
 use sml_domain::domain::Domain;
 use sml_domain::ids::{ObjId, StateId};
 use sml_domain::text::Text;
@@ -278,7 +278,7 @@ fn begun(alloc: Global, domain: Arc<Domain>, walk: &Walk) -> Option<Task> {
 /// Whether the task of a walk makes its steps, each in the hands of another worker, records them, and
 /// leaves the parameters.
 pub fn is_walked(alloc: Global, walk: &Walk) -> bool {
-    let Some(domain) = domain_of(alloc, walk.text) else {
+    let Ok(domain) = domain_of(alloc, walk.text) else {
         return false;
     };
     let Some(task) = begun(alloc, domain, walk) else {
@@ -299,7 +299,7 @@ pub fn is_walked(alloc: Global, walk: &Walk) -> bool {
 // The task of the walk, asked for a second time where it was refused.
 fn begun_at_last(alloc: Global, walk: &Walk) -> Option<Task> {
     for _ in 0..2u32 {
-        if let Some(domain) = domain_of(alloc, walk.text) {
+        if let Ok(domain) = domain_of(alloc, walk.text) {
             if let Some(task) = begun(alloc, domain, walk) {
                 return Some(task);
             }

@@ -1,8 +1,8 @@
 //! What values passed by name make for the actions of a counter and of its sink.
 
-use crate::domain_of::domain_of;
 use smi_entry::args::Args;
 use smi_entry::completing::{Passed, complete};
+use sml_checkable::domain_of;
 use sml_domain::domain::Domain;
 use sml_domain::ids::{ActionId, ObjId};
 use sml_domain::text::Text;
@@ -244,6 +244,6 @@ fn wrong_row(alloc: Global, domain: &Domain) -> Option<usize> {
 
 #[test]
 fn completes_by_name(rt: HostRuntime) {
-    let domain = domain_of(rt.alloc(), COUNTER);
+    let domain = domain_of(rt.alloc(), COUNTER).ok();
     assert!(rt; domain.is_some_and(|domain| wrong_row(rt.alloc(), &domain).is_none()));
 }

@@ -1,12 +1,12 @@
 //! Whether envelopes fit a counter and its sink, and what each of their four owners is given.
 
 use crate::completing::{C, COUNTER, OUT, PUT, Plain, SHOW, TAKE, value_of};
-use crate::domain_of::domain_of;
 use smi_entry::args::Args;
 use smi_entry::entry::Sender;
 use smi_entry::envelope::Envelope;
 use smi_entry::letter::Letter;
 use smi_entry::session::SessionId;
+use sml_checkable::domain_of;
 use sml_domain::domain::Domain;
 use sml_domain::ids::{ActionId, ObjId};
 use std::alloc::Global;
@@ -70,7 +70,7 @@ fn wrong_row(alloc: Global, domain: &Domain) -> Option<usize> {
 
 #[test]
 fn fits_by_kind_and_order(rt: HostRuntime) {
-    let domain = domain_of(rt.alloc(), COUNTER);
+    let domain = domain_of(rt.alloc(), COUNTER).ok();
     assert!(rt; domain.is_some_and(|domain| wrong_row(rt.alloc(), &domain).is_none()));
 }
 

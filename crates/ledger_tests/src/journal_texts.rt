@@ -2,10 +2,10 @@
 
 use crate::adding::adds;
 use crate::completing::{COUNTER, Plain};
-use crate::domain_of::domain_of;
 use crate::runs::{ARGUMENTS, By, KILLED_SUPPLY, KILLS, Line, Run, STANDARD, SUPPLIES};
 use smi_journal::journal_text::write_journal;
 use smi_ledger::ledger::Ledger;
+use sml_checkable::domain_of;
 use std::alloc::Global;
 
 /// The text of a journal.
@@ -95,7 +95,7 @@ const NO_ENTRIES: Run = Run {
 
 // The text of the journal of a run, or none where a line can't be added or memory is refused.
 fn text_of(alloc: Global, run: Run) -> Option<Vec<u8>> {
-    let mut ledger = Ledger::new(alloc, domain_of(alloc, run.text)?).ok()?;
+    let mut ledger = Ledger::new(alloc, domain_of(alloc, run.text).ok()?).ok()?;
     for line in run.lines {
         if !adds(alloc, &mut ledger, *line) {
             return None;

@@ -1,13 +1,13 @@
 //! Journals that are read, and bytes that are the text of none.
 
 use crate::completing::COUNTER;
-use crate::domain_of::domain_of;
 use crate::journal_texts::{
     ARGUMENTS_TEXT, ENDS_OF_RANGES_TEXT, KILLED_SUPPLY_TEXT, KILLS_TEXT, STANDARD_TEXT,
 };
 use crate::runs::SUPPLIES;
 use smi_journal::journal_text::write_journal;
 use smi_journal::read::{JournalError, read_journal};
+use sml_checkable::domain_of;
 use sml_domain::domain::Domain;
 use std::alloc::{AllocError, Global};
 use std::io::{Error, Write};
@@ -71,7 +71,7 @@ const TEXTS: &[(&[u8], &[u8])] = &[
 #[test]
 fn journals_are_read(rt: HostRuntime) {
     for (domain, text) in TEXTS {
-        let domain = domain_of(rt.alloc(), *domain);
+        let domain = domain_of(rt.alloc(), *domain).ok();
         assert!(rt; is_read_in(rt.alloc(), &domain, *text));
     }
 }
@@ -88,7 +88,7 @@ const NO_HEADERS: &[&[u8]] = &[
 
 #[test]
 fn texts_without_the_first_line(rt: HostRuntime) {
-    let domain = domain_of(rt.alloc(), SUPPLIES);
+    let domain = domain_of(rt.alloc(), SUPPLIES).ok();
     for text in NO_HEADERS {
         assert!(rt; is_refused_in(rt.alloc(), &domain, *text, JournalError::BadHeader));
     }
@@ -145,7 +145,7 @@ fn is_bad_behind_a_wait(alloc: Global, domain: &Option<Arc<Domain>>, line: &[u8]
 
 #[test]
 fn bad_lines_by_their_numbers(rt: HostRuntime) {
-    let domain = domain_of(rt.alloc(), SUPPLIES);
+    let domain = domain_of(rt.alloc(), SUPPLIES).ok();
     for line in BAD_LINES {
         assert!(rt; is_bad_behind_a_wait(rt.alloc(), &domain, *line));
     }
@@ -169,7 +169,7 @@ const BAD_ARGUMENTS: &[&[u8]] = &[
 
 #[test]
 fn bad_arguments(rt: HostRuntime) {
-    let domain = domain_of(rt.alloc(), COUNTER);
+    let domain = domain_of(rt.alloc(), COUNTER).ok();
     for text in BAD_ARGUMENTS {
         assert!(rt; is_refused_in(rt.alloc(), &domain, *text, JournalError::BadLine(2)));
     }
@@ -223,7 +223,7 @@ fn is_front_written(
 
 #[test]
 fn a_front_is_written_at_a_fault(rt: HostRuntime) {
-    let domain = domain_of(rt.alloc(), SUPPLIES);
+    let domain = domain_of(rt.alloc(), SUPPLIES).ok();
     for calls in 0..STANDARD_TEXT.len() + 2 {
         assert!(rt; is_front_written(rt.alloc(), &domain, STANDARD_TEXT, calls));
     }

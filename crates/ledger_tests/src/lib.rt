@@ -6,7 +6,6 @@ mod adding;
 #[cfg(test)]
 mod completing;
 #[cfg(test)]
-mod domain_of;
 #[cfg(test)]
 mod facts;
 #[cfg(test)]

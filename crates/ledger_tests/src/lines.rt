@@ -1,7 +1,6 @@
 //! Lines of schedules: what they ask, and what answers write.
 
 use crate::completing::{C, COUNTER, Plain, value_of};
-use crate::domain_of::domain_of;
 use smi_entry::args::Args;
 use smi_entry::completing::Passed;
 use smi_entry::entry::{ActionEnd, Entry};
@@ -9,6 +8,7 @@ use smi_lines::answer::tell_answer;
 use smi_lines::line::{LineError, read_step};
 use smi_world::refusal::StepError;
 use smi_world::step::{Answer, Step};
+use sml_checkable::domain_of;
 use sml_domain::domain::Domain;
 use sml_domain::ids::{ObjId, ParamId, StateId};
 use sml_domain::value::Value;
@@ -370,6 +370,6 @@ const ANSWERS: &[(&[u8], Told, &[u8])] = &[
 
 #[test]
 fn answers_write_their_lines(rt: HostRuntime) {
-    let domain = domain_of(rt.alloc(), COUNTER);
+    let domain = domain_of(rt.alloc(), COUNTER).ok();
     assert!(rt; domain.is_some_and(|domain| wrong_answer(rt.alloc(), &domain).is_none()));
 }

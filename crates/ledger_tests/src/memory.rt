@@ -4,7 +4,6 @@
 
 use crate::adding::adds;
 use crate::completing::{Plain, completes_at_last};
-use crate::domain_of::domain_of;
 use crate::look_ups::is_as_walked;
 use crate::runs::{By, Line};
 use smi_entry::entry::{Entry, Verdict};
@@ -12,6 +11,7 @@ use smi_entry::journal::Journal;
 use smi_journal::journal_text::write_journal;
 use smi_journal::read::{JournalError, read_journal};
 use smi_ledger::ledger::Ledger;
+use sml_checkable::domain_of;
 use sml_domain::domain::Domain;
 use sml_domain::ids::ObjId;
 use std::alloc::Global;
@@ -49,8 +49,8 @@ kill OUT @1
 // The domain, asked for a second time where it was refused.
 fn domain_at_last(alloc: Global) -> Option<Arc<Domain>> {
     match domain_of(alloc, SINK) {
-        Some(domain) => Some(domain),
-        None => domain_of(alloc, SINK),
+        Ok(domain) => Some(domain),
+        Err(_) => domain_of(alloc, SINK).ok(),
     }
 }
 

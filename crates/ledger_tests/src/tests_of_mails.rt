@@ -1,10 +1,10 @@
 //! The mail of one thread, step by step.
 
 use crate::completing::{C, COUNTER, OUT, PUT, Plain, SHOW, TAKE};
-use crate::domain_of::domain_of;
 use crate::mails::{Asked, Move, wrong_step};
 use crate::runs::By;
 use smi_mail::plain::PlainMail;
+use sml_checkable::domain_of;
 use std::alloc::Global;
 use std::sync::Arc;
 use std::test::*;
@@ -134,7 +134,7 @@ fn is_answered(alloc: Global, row: Row) -> bool {
     if capacity < 1 || capacity > 1024 {
         return false;
     }
-    let Some(domain) = domain_of(alloc, COUNTER) else {
+    let Ok(domain) = domain_of(alloc, COUNTER) else {
         return false;
     };
     let Ok(shared) = Arc::try_clone(&domain) else {

@@ -1,15 +1,15 @@
 //! Ledgers that are kept up entry by entry.
 
 use crate::adding::adds;
-use crate::domain_of::domain_of;
 use crate::facts::{Fact, is_so};
 use crate::look_ups::is_as_walked;
 use crate::runs::{ARGUMENTS, KILLED_SUPPLY, KILLS, Run, STANDARD};
 use smi_ledger::ledger::Ledger;
+use sml_checkable::domain_of;
 use std::alloc::Global;
 
 fn ledger_of(alloc: Global, text: &[u8]) -> Option<Ledger> {
-    Ledger::new(alloc, domain_of(alloc, text)?).ok()
+    Ledger::new(alloc, domain_of(alloc, text).ok()?).ok()
 }
 
 // Whether each fact that is known of so many entries is so.

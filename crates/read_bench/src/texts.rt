@@ -44,13 +44,8 @@ pub fn checked(alloc: Global, file: &SmlFile<Global>) -> Result<Domain>
 
 /// The domain of a text.
 pub fn domain_of(alloc: Global, text: &[u8]) -> Result<Arc<Domain>> {
-    let file = file_of(alloc, text)?;
-    shared(alloc, checked(alloc, &file)?)
-}
-
-fn shared(alloc: Global, domain: Domain) -> Result<Arc<Domain>> {
-    match Arc::new(alloc, domain) {
+    match sml_checkable::domain_of(alloc, text) {
         Ok(domain) => Ok(domain),
-        Err(_) => bail!("there is no memory for a domain"),
+        Err(_) => bail!("a text has no domain"),
     }
 }

@@ -1,4 +1,3 @@
 pub mod Status
 pub mod Judgement
-pub mod Loading
 pub mod Ruling

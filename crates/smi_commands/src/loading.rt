@@ -1,12 +1,11 @@
 //! The domains of files.
-ghost use Rattle.std.specs.Prelude.{◌≡◌, IfOk};
+ghost use Rattle.std.specs.Prelude.{IfOk};
 ghost use Rattle.std.specs.Arc.{arc_value};
-ghost use Rattle.smi_commands.specs.Loading.{IsDomainOfText};
+ghost use Rattle.sml_checkable.specs.Texts.{IsDomainOfText};
 
 use crate::fault::Fault;
 use crate::text::load_text;
-use sml_check::check;
-use sml_checkable::laws::laws_of_read_files;
+use sml_checkable::TextFault;
 use sml_domain::domain::Domain;
 use std::alloc::Global;
 use std::fs::Files;
@@ -29,23 +28,10 @@ pub fn load_domain<'a, R: Files + AllocGlobal, I: Read>(
 fn domain_of<'a>(heap: Global, file: &'a str, text: &[u8]) -> Result<Arc<Domain>, Fault<'a>>
     ensures { IfOk result (λ shared. IsDomainOfText text.now (arc_value shared)) }
 {
-    // What was read has the strings of a text.
-    laws_of_read_files();
-    let tree = match sml_read::read(heap, text) {
-        Ok(tree) => tree,
-        Err(error) => return Err(Fault::of_text(file, error)),
-    };
-    match check(heap, &tree) {
-        Ok(domain) => shared(heap, domain),
-        Err(error) => Err(Fault::of_file(file, error)),
-    }
-}
-
-fn shared(heap: Global, domain: Domain) -> Result<Arc<Domain>, Fault<'static>>
-    ensures { IfOk result (λ shared. arc_value shared ≡ domain) }
-{
-    match Arc::new(heap, domain) {
+    match sml_checkable::domain_of(heap, text) {
         Ok(domain) => Ok(domain),
-        Err(_) => Err(Fault::Memory),
+        Err(TextFault::Read(error)) => Err(Fault::of_text(file, error)),
+        Err(TextFault::Check(error)) => Err(Fault::of_file(file, error)),
+        Err(TextFault::Memory) => Err(Fault::Memory),
     }
 }

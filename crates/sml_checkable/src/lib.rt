@@ -1,4 +1,7 @@
-//! What is read can be checked.
+//! What is read can be checked: a text has a domain, or a fault.
 #![tactic(auto)]
 
+mod domain_of_text;
 pub mod laws;
+
+pub use domain_of_text::{TextFault, domain_of};
