@@ -1,5 +1,5 @@
 //! Starts: an object takes a request and opens its action.
-ghost use Rattle.std.specs.Prelude.{◌≡◌, ◌≢◌, ◌<◌, ◌≤◌, ◌++◌, ℕ, List, [], IfErr, IfOk, IfSome, IsTrue, is_some, Err, None, OnErr, OnOk, length, true};
+ghost use Rattle.std.specs.Prelude.{◌≡◌, ◌≢◌, ◌<◌, ◌≤◌, ◌++◌, ℕ, List, [], IfErr, IfOk, IfSome, IsTrue, is_some, Err, None, OnErr, OnOk, false, length, true};
 ghost use Rattle.std.specs.Arc.{arc_value};
 ghost use Rattle.sml_domain.specs.Lookups.{block_at};
 ghost use Rattle.sml_domain.specs.declared.value.Value.{Value as Val};
@@ -97,6 +97,27 @@ fn open(ledger: &mut Ledger, ready: Option<Ready>, o: ObjId, envelope: Envelope)
 }
 
 impl<M: Mail> Board<M> {
+    // Whether an object may start a request, by the journal alone.
+    fn may_start(&self, o: ObjId) -> Result<(), StartError>
+        requires { o < length self.now.domain.objects }
+        ensures free { OnOk result (start_refusal self.now.most self.now.journal o ≡ None) }
+        ensures refused { IfErr result (IsStartError (start_refusal self.now.most self.now.journal o)) }
+        ensures alive { OnOk result (says.is_killed o self.now.journal ≡ false) }
+        ensures closed { OnOk result (says.is_open o self.now.journal ≡ false) }
+        ensures waits { result ≢ Err StartError.Empty }
+    {
+        if self.ledger.starts() >= self.most {
+            return Err(StartError::Limit);
+        }
+        if self.ledger.killed(o).is_some() {
+            return Err(StartError::Dead);
+        }
+        if self.ledger.is_open(o) {
+            return Err(StartError::AlreadyOpen);
+        }
+        Ok(())
+    }
+
     /// Starts the next request to an object, as the mail gives it. What can grow grows before the
     /// request is taken. The cost is the count of the object's parameters.
     pub fn start(&mut self, o: ObjId) -> Result<Started, StartError>
@@ -120,15 +141,7 @@ impl<M: Mail> Board<M> {
         ensures serves { M.serves self.new.mail ≡ M.serves self.old.mail }
         ensures capacity { M.capacity self.new.mail ≡ M.capacity self.old.mail }
     {
-        if self.ledger.starts() >= self.most {
-            return Err(StartError::Limit);
-        }
-        if self.ledger.killed(o).is_some() {
-            return Err(StartError::Dead);
-        }
-        if self.ledger.is_open(o) {
-            return Err(StartError::AlreadyOpen);
-        }
+        self.may_start(o)?;
         let own = self.params[o.get()].values();
         let Ok(ready) = make_ready(self.alloc, &self.domain, o, own) else {
             return Err(StartError::Memory);

@@ -1,20 +1,17 @@
 -- The journal with the start is legal, and tied to the mail.
-use Rattle.std.proofs.Common.{arith, rules, ◌≡◌, ◌<◌, ◌++◌, Some, None, true, false, length, sym, ap, subst, ◌∙◌}
+use Rattle.std.proofs.Common.{[], IfSome, arith, rules, ◌≡◌, ◌++◌, true, false, length, sym, ap, subst, ◌∙◌}
 use Rattle.std.proofs.lemmas.Grind.{common_steps}
-use Rattle.std.specs.Prelude.{is_some}
 use Rattle.std.specs.Arc.{arc_value}
 use Rattle.smi_entry.specs.Fits.{letter_fits}
 use Rattle.smi_entry.specs.Requests.{from_sender}
-use Rattle.smi_entry.specs.Words.{all_starts, is_killed, is_open}
+use Rattle.smi_entry.specs.declared.entry.Sender.{Sender}
+use Rattle.smi_entry.specs.Words.{starts_at, is_killed, is_open}
 use Rattle.smi_ledger.specs.Views.{LedgerView}
 use Rattle.smi_mail.specs.Mails.{is_sender}
 use Rattle.smi_board.specs.Boards.{BoardView, own_at}
-use Rattle.smi_board.specs.declared.errors.StartError.TheVariants.{AlreadyOpen, Dead}
-use Rattle.smi_board.specs.Refusals.{start_refusal}
 use Rattle.smi_board.specs.Starts.{Starts, entries_of, ready_for, started_of}
 use Rattle.smi_board.specs.Contacts.{StartsTaskOf}
 use Rattle.smi_board.proofs.Ties.{Took, keeps_start, none_open, ready_is, started_is_of}
-use Rattle.smi_board.proofs.Views.{dead_start, free_start, open_start}
 use Rattle.smi_board.proofs.board.Board.start.Goals as goal
 
 pub open-requires-clause-ready : goal.open-requires-clause-ready
@@ -49,8 +46,8 @@ invariant_of-self-2 g c =
       alike = c.in-Some.ensures.serves;
       front = c.in_order.ensures.begins;
     } in
-    let alive : is_killed o i.ledger.journal ≡ false = ap is_some (sym c.killed.ensures) ∙ sym c.is_some.ensures ∙ c.if-is_some.false in
-    let shut : is_open o i.ledger.journal ≡ false = sym c.is_open.ensures ∙ c.if-is_open.false in
+    let alive : is_killed o i.ledger.journal ≡ false = search rules in
+    let shut : is_open o i.ledger.journal ≡ false = search rules in
     let closed = none_open o i.ledger.journal shut in
     let keeps = keeps_start d i.ledger.journal c.open.new.ledger.journal i.params.items i.kept.items _ _ _ _ _ _ o l own c.open.result c.self.invariant.0 c.self.invariant.1 c.self.invariant.2 took alive closed gives longer in
     (keeps.tied, keeps.all.runs, keeps.all.tasks, c.open.ensures.domain ∙ hd, c.in-Some.ensures.domain ∙ c.self.invariant.4, λ x lt. absurd (omega (arith, lt)))
@@ -93,57 +90,15 @@ returns-clause-task g c =
     c.open.ensures.gives own (ready ∙ ap (λ x. ready_for x o own) (sym hd)) ∙ ap (λ x. started_of x o c.hold.new.self.journal own l) hd ∙ ap (λ K. started_of d o K own l) hj in
     subst (λ (b : BoardView _). StartsTaskOf b.domain o c.open.result) c.self.view_is (subst (StartsTaskOf d o) (sym gives) (started_is_of d o i.ledger.journal own l))
 
-pub returns-clause-free : goal.returns-clause-free
-returns-clause-free g c =
-    let i = c.self.inside in
-    let J = i.ledger.journal in
-    let few : length (all_starts J) < i.most = subst (λ n. n < i.most) c.starts.ensures c.if-starts-self.false in
-    let alive : is_killed c.args.o J ≡ false = ap is_some (sym c.killed.ensures) ∙ sym c.is_some.ensures ∙ c.if-is_some.false in
-    let shut : is_open c.args.o J ≡ false = sym c.is_open.ensures ∙ c.if-is_open.false in
-    subst (λ (b : BoardView _). start_refusal b.most b.journal c.args.o ≡ None) c.self.view_is (free_start i.most J c.args.o few alive shut)
+-- ---- an empty mailbox
 
--- ---- refusals
-
-pub returns-then-is_some-clause-refused : goal.returns-then-is_some-clause-refused
-returns-then-is_some-clause-refused g c =
+pub returns-in_default-take-clause-all : goal.returns-in_default-take-clause-all
+returns-in_default-take-clause-all g c = λ is.
     let i = c.self.inside in
-    let J = i.ledger.journal in
-    let few : length (all_starts J) < i.most = subst (λ n. n < i.most) c.starts.ensures c.if-starts-self.false in
-    let dead : is_killed c.args.o J ≡ true = ap is_some (sym c.killed.ensures) ∙ sym c.is_some.ensures ∙ c.if-is_some.true in
-    subst (λ (b : BoardView _). start_refusal b.most b.journal c.args.o ≡ Some Dead) c.self.view_is (dead_start i.most J c.args.o few dead)
+    let o = c.args.o in
+    subst (λ (b : BoardView _). (s : Sender) → g.M.Mail.serves b.mail s ≡ true → from_sender s (starts_at o b.journal) ≡ g.M.Mail.sent b.mail s o) c.self.view_is (λ s served.
+      ap (from_sender s) (sym (c.self.invariant.0.taken_is o)) ∙ c.in_default-take.ensures.all s served)
 
-pub returns-then-is_open-clause-refused : goal.returns-then-is_open-clause-refused
-returns-then-is_open-clause-refused g c =
-    let i = c.self.inside in
-    let J = i.ledger.journal in
-    let few : length (all_starts J) < i.most = subst (λ n. n < i.most) c.starts.ensures c.if-starts-self.false in
-    let alive : is_killed c.args.o J ≡ false = ap is_some (sym c.killed.ensures) ∙ sym c.is_some.ensures ∙ c.if-is_some.false in
-    let opened : is_open c.args.o J ≡ true = sym c.is_open.ensures ∙ c.if-is_open.true in
-    subst (λ (b : BoardView _). start_refusal b.most b.journal c.args.o ≡ Some AlreadyOpen) c.self.view_is (open_start i.most J c.args.o few alive opened)
-
-pub returns-in_default-clause-refused : goal.returns-in_default-clause-refused
-returns-in_default-clause-refused g c =
-    let i = c.self.inside in
-    let J = i.ledger.journal in
-    let few : length (all_starts J) < i.most = subst (λ n. n < i.most) c.starts.ensures c.if-starts-self.false in
-    let alive : is_killed c.args.o J ≡ false = ap is_some (sym c.killed.ensures) ∙ sym c.is_some.ensures ∙ c.if-is_some.false in
-    let shut : is_open c.args.o J ≡ false = sym c.is_open.ensures ∙ c.if-is_open.false in
-    subst (λ (b : BoardView _). start_refusal b.most b.journal c.args.o ≡ None) c.self.view_is (free_start i.most J c.args.o few alive shut)
-
-pub returns-in_default-hold-clause-refused : goal.returns-in_default-hold-clause-refused
-returns-in_default-hold-clause-refused g c =
-    let i = c.self.inside in
-    let J = i.ledger.journal in
-    let few : length (all_starts J) < i.most = subst (λ n. n < i.most) c.starts.ensures c.if-starts-self.false in
-    let alive : is_killed c.args.o J ≡ false = ap is_some (sym c.killed.ensures) ∙ sym c.is_some.ensures ∙ c.if-is_some.false in
-    let shut : is_open c.args.o J ≡ false = sym c.is_open.ensures ∙ c.if-is_open.false in
-    subst (λ (b : BoardView _). start_refusal b.most b.journal c.args.o ≡ None) c.self.view_is (free_start i.most J c.args.o few alive shut)
-
-pub returns-in_default-take-clause-refused : goal.returns-in_default-take-clause-refused
-returns-in_default-take-clause-refused g c =
-    let i = c.self.inside in
-    let J = i.ledger.journal in
-    let few : length (all_starts J) < i.most = subst (λ n. n < i.most) c.starts.ensures c.if-starts-self.false in
-    let alive : is_killed c.args.o J ≡ false = ap is_some (sym c.killed.ensures) ∙ sym c.is_some.ensures ∙ c.if-is_some.false in
-    let shut : is_open c.args.o J ≡ false = sym c.is_open.ensures ∙ c.if-is_open.false in
-    subst (λ (b : BoardView _). start_refusal b.most b.journal c.args.o ≡ None) c.self.view_is (free_start i.most J c.args.o few alive shut)
+pub returns-in_default-take-clause-empty : goal.returns-in_default-take-clause-empty
+returns-in_default-take-clause-empty g c = λ is.
+    subst (λ (b : BoardView _). IfSome (g.M.Mail.waiting b.mail c.args.o) (λ w. w ≡ [])) c.self.view_is c.in_default-take.ensures.empty
