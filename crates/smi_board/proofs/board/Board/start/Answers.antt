@@ -97,7 +97,7 @@ returns-in_default-take-clause-all g c = λ is.
     let i = c.self.inside in
     let o = c.args.o in
     subst (λ (b : BoardView _). (s : Sender) → g.M.Mail.serves b.mail s ≡ true → from_sender s (starts_at o b.journal) ≡ g.M.Mail.sent b.mail s o) c.self.view_is (λ s served.
-      ap (from_sender s) (sym (c.self.invariant.0.taken_is o)) ∙ c.in_default-take.ensures.all s served)
+    ap (from_sender s) (sym (c.self.invariant.0.taken_is o)) ∙ c.in_default-take.ensures.all s served)
 
 pub returns-in_default-take-clause-empty : goal.returns-in_default-take-clause-empty
 returns-in_default-take-clause-empty g c = λ is.
