@@ -1,12 +1,10 @@
 //! Tasks of a board, followed from contact to contact.
 ghost use Rattle.std.specs.Prelude.{◌≡◌, ◌<◌, IfSome, IsSome, false, length};
-ghost use Rattle.smi_interp.specs.Task.{shown};
 
 use smi_board::board::Board;
 use smi_board::contacts::Reply;
 use smi_board::resuming::Work;
 use smi_board::starting::Started;
-use smi_interp::contact::Contact;
 use smi_interp::task::Task;
 use smi_mail::plain::PlainMail;
 use sml_domain::ids::ObjId;
@@ -69,14 +67,12 @@ fn hand_back(board: &mut Board<PlainMail>, task: Task) -> Option<Option<Task>>
     }
 }
 
-// The next contact of a task, which is asked for again where memory is refused.
-fn next_contact(task: &mut Task) -> Option<Contact>
-    ensures { IfSome result (λ c. task.new ≡ shown task.old c) }
+// Whether a task makes its next move, where memory is refused at the second try.
+fn moves_on(task: &mut Task) -> bool
+    ensures domain { task.new.domain ≡ task.old.domain }
+    ensures object { task.new.turn.object ≡ task.old.turn.object }
 {
-    match task.advance() {
-        Ok(contact) => Some(contact),
-        Err(_) => task.advance().ok(),
-    }
+    task.advance().is_ok() || task.advance().is_ok()
 }
 
 /// Whether the next contact of a task is a set, and the task after it.
@@ -86,12 +82,11 @@ pub fn advanced(task: Task) -> Option<(bool, Task)>
     ensures waits { IfSome result (λ r. r.0 ≡ false → IsSome r.1.pending) }
 {
     let mut task = task;
-    match next_contact(&mut task)? {
-        Contact::Local { .. } => Some((true, task)),
-        Contact::Send(_) => Some((false, task)),
-        Contact::Read(_) => Some((false, task)),
-        Contact::End(_) => Some((false, task)),
+    if !moves_on(&mut task) {
+        return None;
     }
+    let is_set = task.pending().is_none();
+    Some((is_set, task))
 }
 
 // Lets a task make its next move: where it is answered so, what comes back.
