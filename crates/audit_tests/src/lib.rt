@@ -4,7 +4,6 @@
 #[cfg(test)]
 mod changed;
 #[cfg(test)]
-#[cfg(test)]
 mod domains;
 #[cfg(test)]
 mod ends;

@@ -12,7 +12,6 @@ mod boards;
 #[cfg(test)]
 mod counters;
 #[cfg(test)]
-#[cfg(test)]
 mod follows;
 #[cfg(test)]
 mod lines;

@@ -6,7 +6,6 @@ mod adding;
 #[cfg(test)]
 mod completing;
 #[cfg(test)]
-#[cfg(test)]
 mod facts;
 #[cfg(test)]
 mod fits;
