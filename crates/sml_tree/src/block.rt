@@ -4,7 +4,7 @@ ghost use Rattle.sml_tree.specs.Content.{arg_content, passed_content, instr_cont
 ghost use Rattle.sml_tree.specs.Syntax.{send, assign, move_to, terminate, block_depth, instr_depth};
 
 use crate::cond::Cond;
-use crate::lists::{add, room_for};
+use crate::lists::{add, copy_list, same_list};
 use crate::literal::{Arg, Passed};
 use crate::name::Name;
 use std::alloc::{AllocError, Allocator};
@@ -61,7 +61,7 @@ impl<A: Allocator + Clone> Instr<A> {
                 target,
             } => Ok(Instr::Do {
                 action: *action,
-                args: copy_args(args, alloc)?,
+                args: copy_list(args, alloc)?,
                 all: *all,
                 target: *target,
             }),
@@ -126,7 +126,7 @@ impl<A: Allocator + Clone> Instr<A> {
             } => *action == *own_action
                 && all == *own_all
                 && *target == *own_target
-                && same_args(args, own_args),
+                && same_list(args, own_args),
             _ => false,
         }
     }
@@ -227,36 +227,4 @@ impl<A: Allocator + Clone> Block<A> {
         }
         deepest
     }
-}
-
-// The same arguments in other memory.
-fn copy_args<A: Allocator + Clone, B: Allocator + Clone>(
-    args: &Vec<Passed<A>, A>,
-    alloc: &B,
-) -> Result<Vec<Passed<B>, B>, AllocError>
-    ensures { IfOk result (λ v. map passed_content v.items ≡ map passed_content args.now.items) }
-{
-    let mut copies = room_for(alloc, args.len())?;
-    for passed in args {
-        add(&mut copies, passed.copy_in(alloc.clone()?))?;
-    }
-    Ok(copies)
-}
-
-// Whether two lists of arguments are the same.
-fn same_args<A: Allocator + Clone, B: Allocator + Clone>(
-    args: &Vec<Passed<A>, A>,
-    others: &Vec<Passed<B>, B>,
-) -> bool
-    ensures { IsTrue result ↔ (map passed_content args.now.items ≡ map passed_content others.now.items) }
-{
-    if args.len() != others.len() {
-        return false;
-    }
-    for (i, passed) in args.iter().enumerate() {
-        if !passed.same(&others[i]) {
-            return false;
-        }
-    }
-    true
 }

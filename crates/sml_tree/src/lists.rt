@@ -1,6 +1,6 @@
-//! The steps in which lists are copied. They are functions of their own, since each `?` of a caller
-//! has to let go all that the caller holds.
-ghost use Rattle.std.specs.Prelude.{◌≡◌, ◌++◌, ◌∷◌, [], IfOk, Ok, OnOk};
+//! Lists of a tree's parts: how they are copied and compared. The steps in which a list is copied are functions
+//! of their own, since each `?` of a caller has to let go all that the caller holds.
+ghost use Rattle.std.specs.Prelude.{◌≡◌, ◌↔◌, ◌++◌, ◌∷◌, [], map, IfOk, IsTrue, Ok, OnOk};
 
 use std::alloc::{AllocError, Allocator};
 
@@ -23,4 +23,54 @@ pub(crate) fn add<T: Drop, A: Allocator>(
 {
     copies.push(copy?)?;
     Ok(())
+}
+
+/// A part of a tree that stands in lists, beside the same part in memory of another kind.
+pub(crate) trait Part<B: Allocator + Clone> {
+    type Other: Drop;
+
+    // What a part says, whatever memory it is in.
+    ghost Said: { Type 0 };
+
+    ghost said: { Self → Said };
+
+    ghost other_said: { Self.Other → Said };
+
+    fn copy_of(&self, alloc: &B) -> Result<Self::Other, AllocError>
+        ensures { IfOk result (λ x. other_said x ≡ said self.now) };
+
+    fn is_same(&self, other: &Self::Other) -> bool
+        ensures { IsTrue result ↔ (said self.now ≡ other_said other.now) };
+}
+
+/// The same parts in other memory.
+pub(crate) fn copy_list<T: Part<B>, A: Allocator + Clone, B: Allocator + Clone>(
+    list: &Vec<T, A>,
+    alloc: &B,
+) -> Result<Vec<T::Other, B>, AllocError>
+    ensures { IfOk result (λ v. map T.other_said v.items ≡ map T.said list.now.items) }
+{
+    let mut copies = room_for(alloc, list.len())?;
+    for part in list {
+        add(&mut copies, part.copy_of(alloc))?;
+    }
+    Ok(copies)
+}
+
+/// Whether two lists have the same parts.
+pub(crate) fn same_list<T: Part<B>, A: Allocator + Clone, B: Allocator + Clone>(
+    list: &Vec<T, A>,
+    other: &Vec<T::Other, B>,
+) -> bool
+    ensures { IsTrue result ↔ (map T.said list.now.items ≡ map T.other_said other.now.items) }
+{
+    if list.len() != other.len() {
+        return false;
+    }
+    for (i, part) in list.iter().enumerate() {
+        if !part.is_same(&other[i]) {
+            return false;
+        }
+    }
+    true
 }
