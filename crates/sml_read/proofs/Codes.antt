@@ -1,5 +1,5 @@
 -- The numbers of kinds.
-use Rattle.std.proofs.Common.{◌≡◌, IsTrue, ℕ, [], ◌∷◌, refl, true, nat_eq, get_or, sym, ap, ◌∙◌, arith}
+use Rattle.std.proofs.Common.{◌≡◌, IsTrue, ℕ, List, [], ◌∷◌, refl, true, nat_eq, get_or, sym, ap, ◌∙◌, arith}
 use Rattle.std.proofs.lemmas.Bool.Decides.{nat_tests}
 use Rattle.sml_tree.specs.contracts.token_kind.TokenKind.{the_type}
 use Rattle.sml_tree.specs.declared.token_kind.TokenKind.{TokenKind}
@@ -7,10 +7,14 @@ use Rattle.sml_tree.specs.declared.token_kind.TokenKind.TheVariants.{Class, Obje
 use Rattle.sml_read.specs.Machine.{code}
 use denote.Enum.Declared.{tag_of}
 
-abbrev kind_at : ℕ → TokenKind
-kind_at n = get_or (Class ∷ Object ∷ ObjectSet ∷ IsOfClass ∷ State ∷ Action ∷ Parameters ∷ IntKind ∷ StringKind ∷ Do ∷ If ∷ Then ∷ Else ∷ Endif ∷ Set ∷ MoveTo ∷ TerminateAction ∷ InState ∷ NotInState ∷ AllIn ∷ AnyIn ∷ And ∷ Or ∷ Not ∷ Wait ∷ Insert ∷ Remove ∷ In ∷ From ∷ Associated ∷ InitialState ∷ DeadState ∷ Colon ∷ Comma ∷ Equals ∷ OpenBracket ∷ CloseBracket ∷ OpenBrace ∷ CloseBrace ∷ Slash ∷ Name ∷ Int ∷ Str ∷ Stray ∷ []) n Class
+-- all kinds, by their numbers
+abbrev pub kinds : List TokenKind
+kinds = Class ∷ Object ∷ ObjectSet ∷ IsOfClass ∷ State ∷ Action ∷ Parameters ∷ IntKind ∷ StringKind ∷ Do ∷ If ∷ Then ∷ Else ∷ Endif ∷ Set ∷ MoveTo ∷ TerminateAction ∷ InState ∷ NotInState ∷ AllIn ∷ AnyIn ∷ And ∷ Or ∷ Not ∷ Wait ∷ Insert ∷ Remove ∷ In ∷ From ∷ Associated ∷ InitialState ∷ DeadState ∷ Colon ∷ Comma ∷ Equals ∷ OpenBracket ∷ CloseBracket ∷ OpenBrace ∷ CloseBrace ∷ Slash ∷ Name ∷ Int ∷ Str ∷ Stray ∷ []
 
-kind_at_code : (a : TokenKind) → kind_at (code a) ≡ a
+abbrev pub kind_at : ℕ → TokenKind
+kind_at n = get_or kinds n Class
+
+pub kind_at_code : (a : TokenKind) → kind_at (code a) ≡ a
 kind_at_code Class = refl
 kind_at_code _ = refl
 

@@ -1,11 +1,12 @@
 -- What the table of the grammar has: one token tells the rules of a part apart, and no token that may follow a part begins it.
-use Rattle.std.proofs.Common.{◌≡◌, List, [], ◌∷◌, refl, Option, Some, None, Bool, true, false, nat_eq, ◌&&◌, ◌||◌, not}
+use Rattle.std.proofs.Common.{◌≡◌, ℕ, zero, suc, List, [], ◌∷◌, refl, sym, subst, get_or, Option, Some, None, Bool, true, false, nat_eq, ◌&&◌, ◌||◌, not}
 use Rattle.sml_tree.specs.declared.token_kind.TokenKind.{TokenKind}
 use Rattle.sml_tree.specs.declared.token_kind.TokenKind.TheVariants.{Class, Object, ObjectSet, State, Action, Parameters, IntKind, StringKind, Do, If, Then, Else, Endif, Set, MoveTo, TerminateAction, InState, NotInState, AllIn, AnyIn, And, Or, Not, InitialState, DeadState, Comma, Equals, OpenBracket, CloseBracket, OpenBrace, CloseBrace, Slash, Name, Int, Str}
 use Rattle.sml_tree.specs.Form as of
 use Rattle.sml_tree.specs.Form.{Bone, B, P, Form, Mark, Part, Family, family, Value, Files, ClassMarks, ClassParamLists, Sorts, ClassParams, MoreClassParams, Literals, States, StateMarks, FirstMarks, InitialMarks, DeadMarks, Actions, ActionParamLists, ActionParams, MoreActionParams, Defaults, Blocks, ArgLists, PassedArgs, MorePassed, Everys, Args, Branches, Arms, Elses, Conds, Conjs, Units, MoreAnds, MoreOrs, Senses, StateLists, NameLists, MoreNames, MemberLists, MoreMembers}
 use Rattle.sml_tree.specs.Grammar.{Rule, rules, empty}
 use Rattle.sml_read.specs.Machine.{code, chosen}
+use Rattle.sml_read.proofs.Codes.{kinds, kind_at_code}
 
 abbrev pub is_there : {A : Type 0} → Option A → Bool
 is_there None = false
@@ -166,81 +167,57 @@ pub record Tested (n : Part) (c : TokenKind) : Type 0 where
   pub apart : (skips (family n) && follows (family n) c && begins (family n) c) ≡ false
   pub fit : all_fit n (rules n) c ≡ true
 
+-- the same as one test
+abbrev pub same : Bool → Bool → Bool
+same true b = b
+same false b = not b
+
+abbrev pub test : Part → TokenKind → Bool
+test n c = same (is_there (chosen (rules n) c)) (begins (family n) c) && (not (skips (family n) && follows (family n) c && begins (family n) c) && all_fit n (rules n) c)
+
+abbrev pub all : (TokenKind → Bool) → List TokenKind → Bool
+all Q [] = true
+all Q (k ∷ ks) = Q k && all Q ks
+
+-- every kind passes it at every part, which is computed
+tests : (n : Part) → all (test n) kinds ≡ true
+tests (of.File a b d) = refl
+tests _ = refl
+
+left_of : (a b : Bool) → (a && b) ≡ true → a ≡ true
+left_of true b h = refl
+left_of false b h = h
+
+right_of : (a b : Bool) → (a && b) ≡ true → b ≡ true
+right_of true b h = h
+right_of false b h = absurd (cc h)
+
+agree : (a b : Bool) → same a b ≡ true → a ≡ b
+agree true b h = sym h
+agree false true h = absurd (cc h)
+agree false false h = refl
+
+denied : (a : Bool) → not a ≡ true → a ≡ false
+denied true h = absurd (cc h)
+denied false h = refl
+
+reached : (Q : TokenKind → Bool) (ks : List TokenKind) (i : ℕ) (d : TokenKind) → all Q ks ≡ true → Q d ≡ true → Q (get_or ks i d) ≡ true
+reached Q [] i d h e = e
+reached Q (k ∷ ks) zero d h e = left_of (Q k) (all Q ks) h
+reached Q (k ∷ ks) (suc i) d h e = reached Q ks i d (right_of (Q k) (all Q ks) h) e
+
+passes : (n : Part) (c : TokenKind) → test n c ≡ true
+passes n c = subst (λ k. test n k ≡ true) (kind_at_code c) (reached (test n) kinds (code c) Class (tests n) (left_of (test n Class) _ (tests n)))
+
 pub tested : (n : Part) (c : TokenKind) → Tested n c
-tested (of.File a b d) Class = record { begun = refl; apart = refl; fit = refl }
-tested (of.File a b d) _ = record { begun = refl; apart = refl; fit = refl }
-tested of.ClassMark Class = record { begun = refl; apart = refl; fit = refl }
-tested of.ClassMark _ = record { begun = refl; apart = refl; fit = refl }
-tested of.ClassParamList Class = record { begun = refl; apart = refl; fit = refl }
-tested of.ClassParamList _ = record { begun = refl; apart = refl; fit = refl }
-tested (of.Sort a) Class = record { begun = refl; apart = refl; fit = refl }
-tested (of.Sort a) _ = record { begun = refl; apart = refl; fit = refl }
-tested (of.ClassParam a) Class = record { begun = refl; apart = refl; fit = refl }
-tested (of.ClassParam a) _ = record { begun = refl; apart = refl; fit = refl }
-tested (of.MoreClassParam a) Class = record { begun = refl; apart = refl; fit = refl }
-tested (of.MoreClassParam a) _ = record { begun = refl; apart = refl; fit = refl }
-tested of.Literal Class = record { begun = refl; apart = refl; fit = refl }
-tested of.Literal _ = record { begun = refl; apart = refl; fit = refl }
-tested (of.State a) Class = record { begun = refl; apart = refl; fit = refl }
-tested (of.State a) _ = record { begun = refl; apart = refl; fit = refl }
-tested of.StateMark Class = record { begun = refl; apart = refl; fit = refl }
-tested of.StateMark _ = record { begun = refl; apart = refl; fit = refl }
-tested of.FirstMark Class = record { begun = refl; apart = refl; fit = refl }
-tested of.FirstMark _ = record { begun = refl; apart = refl; fit = refl }
-tested of.InitialMark Class = record { begun = refl; apart = refl; fit = refl }
-tested of.InitialMark _ = record { begun = refl; apart = refl; fit = refl }
-tested of.DeadMark Class = record { begun = refl; apart = refl; fit = refl }
-tested of.DeadMark _ = record { begun = refl; apart = refl; fit = refl }
-tested (of.Action a) Class = record { begun = refl; apart = refl; fit = refl }
-tested (of.Action a) _ = record { begun = refl; apart = refl; fit = refl }
-tested of.ActionParamList Class = record { begun = refl; apart = refl; fit = refl }
-tested of.ActionParamList _ = record { begun = refl; apart = refl; fit = refl }
-tested (of.ActionParam a) Class = record { begun = refl; apart = refl; fit = refl }
-tested (of.ActionParam a) _ = record { begun = refl; apart = refl; fit = refl }
-tested (of.MoreActionParam a) Class = record { begun = refl; apart = refl; fit = refl }
-tested (of.MoreActionParam a) _ = record { begun = refl; apart = refl; fit = refl }
-tested of.Default Class = record { begun = refl; apart = refl; fit = refl }
-tested of.Default _ = record { begun = refl; apart = refl; fit = refl }
-tested (of.Block a) Class = record { begun = refl; apart = refl; fit = refl }
-tested (of.Block a) _ = record { begun = refl; apart = refl; fit = refl }
-tested of.ArgList Class = record { begun = refl; apart = refl; fit = refl }
-tested of.ArgList _ = record { begun = refl; apart = refl; fit = refl }
-tested (of.Passed a) Class = record { begun = refl; apart = refl; fit = refl }
-tested (of.Passed a) _ = record { begun = refl; apart = refl; fit = refl }
-tested (of.MorePassedArg a) Class = record { begun = refl; apart = refl; fit = refl }
-tested (of.MorePassedArg a) _ = record { begun = refl; apart = refl; fit = refl }
-tested of.Every Class = record { begun = refl; apart = refl; fit = refl }
-tested of.Every _ = record { begun = refl; apart = refl; fit = refl }
-tested of.Arg Class = record { begun = refl; apart = refl; fit = refl }
-tested of.Arg _ = record { begun = refl; apart = refl; fit = refl }
-tested (of.Branch a) Class = record { begun = refl; apart = refl; fit = refl }
-tested (of.Branch a) _ = record { begun = refl; apart = refl; fit = refl }
-tested (of.Arm a) Class = record { begun = refl; apart = refl; fit = refl }
-tested (of.Arm a) _ = record { begun = refl; apart = refl; fit = refl }
-tested (of.Else a) Class = record { begun = refl; apart = refl; fit = refl }
-tested (of.Else a) _ = record { begun = refl; apart = refl; fit = refl }
-tested (of.Cond a b) Class = record { begun = refl; apart = refl; fit = refl }
-tested (of.Cond a b) _ = record { begun = refl; apart = refl; fit = refl }
-tested (of.Conj a b) Class = record { begun = refl; apart = refl; fit = refl }
-tested (of.Conj a b) _ = record { begun = refl; apart = refl; fit = refl }
-tested (of.Unit' a b) Class = record { begun = refl; apart = refl; fit = refl }
-tested (of.Unit' a b) _ = record { begun = refl; apart = refl; fit = refl }
-tested (of.MoreAnd a b d) Class = record { begun = refl; apart = refl; fit = refl }
-tested (of.MoreAnd a b d) _ = record { begun = refl; apart = refl; fit = refl }
-tested (of.MoreOr a b d) Class = record { begun = refl; apart = refl; fit = refl }
-tested (of.MoreOr a b d) _ = record { begun = refl; apart = refl; fit = refl }
-tested of.Sense Class = record { begun = refl; apart = refl; fit = refl }
-tested of.Sense _ = record { begun = refl; apart = refl; fit = refl }
-tested of.StateList Class = record { begun = refl; apart = refl; fit = refl }
-tested of.StateList _ = record { begun = refl; apart = refl; fit = refl }
-tested of.Names Class = record { begun = refl; apart = refl; fit = refl }
-tested of.Names _ = record { begun = refl; apart = refl; fit = refl }
-tested (of.MoreName a) Class = record { begun = refl; apart = refl; fit = refl }
-tested (of.MoreName a) _ = record { begun = refl; apart = refl; fit = refl }
-tested of.Members Class = record { begun = refl; apart = refl; fit = refl }
-tested of.Members _ = record { begun = refl; apart = refl; fit = refl }
-tested (of.MoreMember a) Class = record { begun = refl; apart = refl; fit = refl }
-tested (of.MoreMember a) _ = record { begun = refl; apart = refl; fit = refl }
+tested n c =
+    let h = passes n c in
+    let rest = right_of (same (is_there (chosen (rules n) c)) (begins (family n) c)) _ h in
+    record {
+      begun = agree (is_there (chosen (rules n) c)) (begins (family n) c) (left_of _ _ h);
+      apart = denied (skips (family n) && follows (family n) c && begins (family n) c) (left_of _ _ rest);
+      fit = right_of (not (skips (family n) && follows (family n) c && begins (family n) c)) _ rest;
+    }
 
 -- the test that one token tells the rules apart
 abbrev pub lacks : (n : Part) → TokenKind → List (Rule n) → Bool
