@@ -112,12 +112,19 @@ struct Pair<A: Allocator + Clone> {
     right: Box<Cond<A>, A>,
 }
 
+/// A condition in memory of its own. No other value is held while memory may run out.
+fn kept<A: Allocator + Clone>(alloc: &A, cond: Cond<A>) -> Result<Box<Cond<A>, A>, Stop>
+    ensures { OrMemory result (λ b. cond_content b.value ≡ cond_content cond) }
+{
+    Ok(Box::new(alloc.clone()?, cond)?)
+}
+
 /// Two conditions, each in memory of its own.
 fn boxed<A: Allocator + Clone>(alloc: &A, left: Cond<A>, right: Cond<A>) -> Result<Pair<A>, Stop>
     ensures { OrMemory result (λ pair. (cond_content pair.left.value ≡ cond_content left) × (cond_content pair.right.value ≡ cond_content right)) }
 {
-    let left = Box::new(alloc.clone()?, left)?;
-    let right = Box::new(alloc.clone()?, right)?;
+    let left = kept(alloc, left)?;
+    let right = kept(alloc, right)?;
     Ok(Pair { left, right })
 }
 
@@ -149,7 +156,7 @@ pub(crate) fn either<A: Allocator + Clone>(
 pub(crate) fn neither<A: Allocator + Clone>(alloc: &A, inner: Cond<A>) -> Result<Cond<A>, Stop>
     ensures { OrMemory result (λ c. cond_content c ≡ said.neither (cond_content inner)) }
 {
-    Ok(Cond::Not(Box::new(alloc.clone()?, inner)?))
+    Ok(Cond::Not(kept(alloc, inner)?))
 }
 
 /// A test.
