@@ -69,7 +69,7 @@ impl Reader<'_> {
         ensures room { IfOk result (λ p. before < MAX_ARGUMENTS) }
     {
         let name = self.limited(before, MAX_ARGUMENTS)?;
-        self.expect(TokenKind::Equals)?;
+        self.sign(TokenKind::Equals)?;
         let value = self.arg(alloc)?;
         Ok(Passed { name, value })
     }

@@ -19,8 +19,9 @@ impl Reader<'_> {
         if before >= limit {
             return Err(Stop::Fault(Fault::TooMany(held.at())));
         }
-        self.expect(TokenKind::Colon)?;
-        Ok(self.expect(TokenKind::Name)?.name())
+        self.sign(TokenKind::Colon)?;
+        let name = self.named()?;
+        Ok(name)
     }
 
     /// Takes the token in front, which stands inside so many of its sort where so many may be open.

@@ -70,8 +70,8 @@ impl Reader<'_> {
         ensures within { OnOk result (IsWithin counts.new) }
     {
         let name = self.head(counts.objects, MAX_OBJECTS)?;
-        self.expect(TokenKind::IsOfClass)?;
-        let class = self.expect(TokenKind::Name)?.name();
+        self.sign(TokenKind::IsOfClass)?;
+        let class = self.named()?;
         counts.objects += 1;
         Ok(Item::Object(Object { name, class }))
     }

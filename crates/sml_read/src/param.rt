@@ -51,8 +51,8 @@ impl Reader<'_> {
         ensures room { IfOk result (λ p. before < MAX_PARAMETERS) }
     {
         let kind = self.sort(before)?;
-        let name = self.expect(TokenKind::Name)?.name();
-        self.expect(TokenKind::Equals)?;
+        let name = self.named()?;
+        self.sign(TokenKind::Equals)?;
         let value = self.literal(alloc)?;
         Ok(ClassParam { kind, name, value })
     }
@@ -81,7 +81,7 @@ impl Reader<'_> {
         ensures room { IfOk result (λ p. before < MAX_PARAMETERS) }
     {
         let kind = self.sort(before)?;
-        let name = self.expect(TokenKind::Name)?.name();
+        let name = self.named()?;
         let default = self.default(alloc)?;
         Ok(ActionParam {
             kind,

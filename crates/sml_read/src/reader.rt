@@ -1,15 +1,17 @@
 //! The tokens that are left, one at a time.
-ghost use Rattle.std.specs.Prelude.{◌≡◌, ◌≤◌, ◌+◌, ◌^◌, List, [], ◌∷◌, length, Option, IsSome, slice_get, false};
+ghost use Rattle.std.specs.Prelude.{◌≡◌, ◌≤◌, ◌+◌, ◌^◌, List, [], ◌∷◌, length, Option, IsSome, slice_get, false, Err, IfOk, IfErr};
 ghost use Rattle.sml_tree.specs.Piece.{Piece};
 ghost use Rattle.sml_read.specs.Left.{left, led};
 ghost use Rattle.sml_read.specs.Reads.{ReadsToken, Sees, Refusal, IfFault};
-ghost use Rattle.sml_read.specs.Stands.{Stands, Skips, Closes};
+ghost use Rattle.sml_read.specs.Stands.{Stands, Skips, Closes, IsTaken, ReadsLimited};
+ghost use Rattle.sml_tree.specs.declared.token_kind.TokenKind.TheVariants as kinds;
 
 use crate::fault::{Fault, Stop};
 use crate::held::Held;
 use crate::same_kind::same_kind;
 use sml_text::source::{Sign, Source};
 use sml_text::tokens::{Lexeme, next_token};
+use sml_tree::name::Name;
 use sml_tree::token_kind::TokenKind;
 use std::marker::Model;
 
@@ -149,6 +151,23 @@ impl Reader<'_> {
     {
         self.expect(kind)?;
         Ok(inner)
+    }
+
+    /// Takes a token of this kind, of which nothing more is wanted: the caller holds no token.
+    pub fn sign(&mut self, kind: TokenKind) -> Result<(), Stop>
+        ensures read { IfOk result (λ x. IsTaken kind self.old self.new) }
+        ensures none { IfErr result (λ e. ReadsToken kind self.old self.new (Err e)) }
+    {
+        self.expect(kind)?;
+        Ok(())
+    }
+
+    /// The name that stands in front: the caller holds no token.
+    pub fn named(&mut self) -> Result<Name, Stop>
+        ensures read { ReadsLimited 1 0 self.old self.new result }
+        ensures none { IfErr result (λ e. ReadsToken kinds.Name self.old self.new (Err e)) }
+    {
+        Ok(self.expect(TokenKind::Name)?.name())
     }
 
     /// The fault, where the next token is none that may stand there.
