@@ -96,10 +96,10 @@ impl Reader<'_> {
         ensures { ReadsFront (Block' depth) (Block' depth) (λ i v. instr_content i ∷ v) self.old self.new result }
     {
         self.take();
-        let action = self.expect(TokenKind::Name)?.name();
+        let action = self.named()?;
         let args = self.args(alloc)?;
         let all = self.every();
-        let target = self.expect(TokenKind::Name)?.name();
+        let target = self.named()?;
         Ok(make::send(action, args, all, target))
     }
 
@@ -109,8 +109,8 @@ impl Reader<'_> {
         ensures { ReadsFront (Block' depth) (Block' depth) (λ i v. instr_content i ∷ v) self.old self.new result }
     {
         self.take();
-        let param = self.expect(TokenKind::Name)?.name();
-        self.expect(TokenKind::Equals)?;
+        let param = self.named()?;
+        self.sign(TokenKind::Equals)?;
         let value = self.arg(alloc)?;
         Ok(make::set(param, value))
     }
@@ -121,7 +121,7 @@ impl Reader<'_> {
         ensures { ReadsFront (Block' depth) (Block' depth) (λ i v. instr_content i ∷ v) self.old self.new result }
     {
         self.take();
-        let state = self.expect(TokenKind::Name)?.name();
+        let state = self.named()?;
         Ok(make::move_to(state))
     }
 
@@ -131,10 +131,10 @@ impl Reader<'_> {
         ensures { ReadsFront (Block' depth) (Block' depth) (λ i v. instr_content i ∷ v) self.old self.new result }
     {
         self.take();
-        self.expect(TokenKind::Slash)?;
-        self.expect(TokenKind::State)?;
-        self.expect(TokenKind::Equals)?;
-        let state = self.expect(TokenKind::Name)?.name();
+        self.sign(TokenKind::Slash)?;
+        self.sign(TokenKind::State)?;
+        self.sign(TokenKind::Equals)?;
+        let state = self.named()?;
         Ok(make::terminate(state))
     }
 
