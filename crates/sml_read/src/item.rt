@@ -99,9 +99,9 @@ impl Reader<'_> {
         ensures within { OnOk result (IsWithin counts.new) }
     {
         let name = self.head(counts.sets, MAX_SETS)?;
-        self.expect(TokenKind::OpenBrace)?;
+        self.sign(TokenKind::OpenBrace)?;
         let members = self.members(alloc)?;
-        self.expect(TokenKind::CloseBrace)?;
+        self.sign(TokenKind::CloseBrace)?;
         counts.sets += 1;
         Ok(Item::Group(Group { name, members }))
     }

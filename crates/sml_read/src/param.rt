@@ -100,7 +100,7 @@ impl Reader<'_> {
         if !self.skip(TokenKind::Parameters) {
             return make::none(alloc);
         }
-        self.expect(TokenKind::Colon)?;
+        self.sign(TokenKind::Colon)?;
         let first = self.class_param(alloc, 0)?;
         let mut params = make::one(alloc, first)?;
         'more: while self.skip(TokenKind::Comma) {

@@ -13,9 +13,9 @@ pub more-init : goal.more-init
 more-init g c =
     let word = c.if-not-skip.ensures in
     let made = c.in_ok-params.ensures in (
-      omega (arith, ap length word.1, ap length c.in_ok-expect.ensures.0, c.in_ok-first.ensures.read.0),
+      omega (arith, ap length word.1, ap length c.in_ok-sign.ensures.read.1, c.in_ok-first.ensures.read.0),
       omega (arith, made.len),
-      rw (made.items, made.len) (class_params_begun word.0 c.in_ok-expect.field-0 c.args.self.now c.skip.new.self c.expect.new.self c.class_param.new.self (class_param_content c.in_ok-first.first) word.1 word.2 c.in_ok-expect.ensures c.in_ok-first.ensures.read.1),
+      rw (made.items, made.len) (class_params_begun word.0 c.in_ok-sign.ensures.read.0 c.args.self.now c.skip.new.self c.sign.new.self c.class_param.new.self (class_param_content c.in_ok-first.first) word.1 word.2 (c.in_ok-sign.ensures.read.1, c.in_ok-sign.ensures.read.2) c.in_ok-first.ensures.read.1),
     )
 
 -- one more was read
