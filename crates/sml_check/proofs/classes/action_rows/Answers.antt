@@ -1,9 +1,9 @@
-use Rattle.std.proofs.Common.{◌≡◌, ◌∙◌, [], ◌∷◌, ◌++◌, length, map, ap}
+use Rattle.std.proofs.Common.{◌≡◌, ◌∙◌, [], ◌∷◌, ◌++◌, ◌≤◌, length, map, ap, refl, subst}
 use Rattle.sml_tree.specs.Content.{action_content, class_content}
 use Rattle.sml_check.specs.Placed.{ActionPlaced}
 use Rattle.sml_check.specs.Layout.{rows_from, blocks_from, action_laid, action_blocks, blocks_of_action}
 use Rattle.sml_check.proofs.Elements.{all_of}
-use Rattle.sml_check.proofs.Gathered.{moves_of}
+use Rattle.sml_check.proofs.Gathered.{moves_of, gathered_all}
 use Rattle.sml_check.proofs.Layouts.{action_long, more_rows, more_blocks, one_block}
 use Rattle.sml_check.proofs.classes.action_rows.Goals as goal
 
@@ -29,3 +29,13 @@ loop-action-preserved g c =
           c.args.actions.now.items c.deref-action-items.result.now c.loop-action.action-index _ c.action-item.result c.loop-action.invariant.blocks c.deref-action-items.ensures.value c.loop-action-test.true c.action-item.is
           (λ zs. more_blocks (action_blocks n k) blocks_of_action (action_long n k) was now (x ∷ []) (map action_content zs) grown);
     }
+
+pub returns-clause-is : goal.returns-clause-is
+returns-clause-is g c =
+    gathered_all (λ ys. rows_from (action_laid c.args.names.now (class_content c.args.class.now)) blocks_of_action (length c.loop-action.blocks) (map action_content ys)) c.loop-action.made.items c.args.actions.now.items c.loop-action.action-index _ c.loop-action.invariant.rows
+    (subst (λ ys. length ys ≤ c.loop-action.action-index) c.deref-action-items.ensures.value c.loop-action-test.false) refl
+
+pub returns-clause-blocks : goal.returns-clause-blocks
+returns-clause-blocks g c =
+    gathered_all (λ ys. blocks_from (action_blocks c.args.names.now (class_content c.args.class.now)) blocks_of_action (length c.loop-action.blocks) (map action_content ys)) c.loop-action.blocks c.args.actions.now.items c.loop-action.action-index _ c.loop-action.invariant.blocks
+    (subst (λ ys. length ys ≤ c.loop-action.action-index) c.deref-action-items.ensures.value c.loop-action-test.false) refl

@@ -4,7 +4,7 @@ use Rattle.sml_check.specs.Numbers.{class_list, classes_in}
 use Rattle.sml_check.specs.Placed.{ItemPlaced}
 use Rattle.sml_check.specs.Layout.{rows_from, blocks_from, class_laid, class_blocks, blocks_of_class}
 use Rattle.sml_check.proofs.Elements.{all_mapped}
-use Rattle.sml_check.proofs.Gathered.{moves_of}
+use Rattle.sml_check.proofs.Gathered.{moves_of, gathered_all}
 use Rattle.sml_check.proofs.Layouts.{class_long, more_rows, more_blocks}
 use Rattle.sml_check.proofs.classes.class_rows.Goals as goal
 
@@ -28,3 +28,11 @@ loop-item-preserved g c =
           c.args.items.now c.args.items.now c.loop-item.item-index _ c.item-item.result c.loop-item.invariant.blocks refl c.loop-item-test.true c.item-item.is
           (λ zs. more_blocks (class_blocks n) blocks_of_class (class_long n) was now own (classes_in (map item_content zs)) grown);
     }
+
+pub returns-clause-is : goal.returns-clause-is
+returns-clause-is g c =
+    gathered_all (λ ys. rows_from (class_laid c.args.names.now) blocks_of_class (length c.loop-item.blocks) (classes_in (map item_content ys))) c.loop-item.made.items c.args.items.now c.loop-item.item-index _ c.loop-item.invariant.rows c.loop-item-test.false refl
+
+pub returns-clause-blocks : goal.returns-clause-blocks
+returns-clause-blocks g c =
+    gathered_all (λ ys. blocks_from (class_blocks c.args.names.now) blocks_of_class (length c.loop-item.blocks) (classes_in (map item_content ys))) c.loop-item.blocks c.args.items.now c.loop-item.item-index _ c.loop-item.invariant.blocks c.loop-item-test.false refl

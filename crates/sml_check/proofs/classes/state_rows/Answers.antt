@@ -1,9 +1,9 @@
-use Rattle.std.proofs.Common.{◌≡◌, ◌∙◌, [], ◌∷◌, ◌++◌, length, map, ap}
+use Rattle.std.proofs.Common.{◌≡◌, ◌∙◌, [], ◌∷◌, ◌++◌, ◌≤◌, length, map, ap, refl, subst}
 use Rattle.sml_tree.specs.Content.{state_content, class_content}
 use Rattle.sml_check.specs.Placed.{StatePlaced}
 use Rattle.sml_check.specs.Layout.{rows_from, blocks_from, state_laid, state_blocks, blocks_of_state}
 use Rattle.sml_check.proofs.Elements.{all_of}
-use Rattle.sml_check.proofs.Gathered.{moves_of}
+use Rattle.sml_check.proofs.Gathered.{moves_of, gathered_all}
 use Rattle.sml_check.proofs.Layouts.{state_long, more_rows, more_blocks, one_block}
 use Rattle.sml_check.proofs.classes.state_rows.Goals as goal
 
@@ -29,3 +29,13 @@ loop-state-preserved g c =
           c.args.class.now.states.items c.deref-state-items.result.now c.loop-state.state-index _ c.state-item.result c.loop-state.invariant.blocks c.deref-state-items.ensures.value c.loop-state-test.true c.state-item.is
           (λ zs. more_blocks (state_blocks n k) blocks_of_state (state_long n k) was now (x ∷ []) (map state_content zs) grown);
     }
+
+pub returns-clause-is : goal.returns-clause-is
+returns-clause-is g c =
+    gathered_all (λ ys. rows_from (state_laid c.args.names.now (class_content c.args.class.now)) blocks_of_state (length c.loop-state.blocks) (map state_content ys)) c.loop-state.made.items c.args.class.now.states.items c.loop-state.state-index _ c.loop-state.invariant.rows
+    (subst (λ ys. length ys ≤ c.loop-state.state-index) c.deref-state-items.ensures.value c.loop-state-test.false) refl
+
+pub returns-clause-blocks : goal.returns-clause-blocks
+returns-clause-blocks g c =
+    gathered_all (λ ys. blocks_from (state_blocks c.args.names.now (class_content c.args.class.now)) blocks_of_state (length c.loop-state.blocks) (map state_content ys)) c.loop-state.blocks c.args.class.now.states.items c.loop-state.state-index _ c.loop-state.invariant.blocks
+    (subst (λ ys. length ys ≤ c.loop-state.state-index) c.deref-state-items.ensures.value c.loop-state-test.false) refl
