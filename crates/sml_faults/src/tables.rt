@@ -19,12 +19,19 @@ use std::alloc::{AllocError, Allocator, Global};
 #[derive(Drop)]
 pub struct Tables<'a, A: Allocator + Clone> {
     pub file: &'a SmlFile<A>,
+    names: NameTables,
+    pub actions: Vec<IndexMap<Name, ActionPlace>>,
+    ghost places: { HasTables (file_content file.now) names.classes names.objects names.groups },
+    ghost declared: { ActionTables (file_content file.now) actions.items },
+}
+
+// The places of items by their names, kind by kind: one value, so that there is one to give back where
+// memory ends.
+#[derive(Drop)]
+struct NameTables {
     classes: IndexMap<Name, usize>,
     objects: IndexMap<Name, usize>,
     groups: IndexMap<Name, usize>,
-    pub actions: Vec<IndexMap<Name, ActionPlace>>,
-    ghost places: { HasTables (file_content file.now) classes objects groups },
-    ghost declared: { ActionTables (file_content file.now) actions.items },
 }
 
 // The kinds of items.
@@ -70,19 +77,71 @@ fn note_item<A: Allocator + Clone>(
     }
 }
 
-// The places of the items of a kind.
-fn places_of<A: Allocator + Clone>(
-    alloc: Global,
+// Gives the names of the items of a kind their places in a table that has none.
+fn note_items<A: Allocator + Clone>(
+    table: &mut IndexMap<Name, usize>,
     kind: ItemKind,
     items: &[Item<A>],
-) -> Result<IndexMap<Name, usize>, AllocError>
-    ensures { IfOk result (λ m. spec.Places (spec.is_named kind) (map item_content items.now) m) }
+) -> Result<(), AllocError>
+    requires { (q : List ℕ) → get (pointwise nat_eq) table.old q ≡ None }
+    ensures { OnOk result (spec.Places (spec.is_named kind) (map item_content items.now) table.new) }
 {
-    let mut table = IndexMap::new(alloc);
     for (i, item) in items.iter().enumerate() {
-        note_item(&mut table, kind, item, i)?;
+        note_item(table, kind, item, i)?;
     }
-    Ok(table)
+    Ok(())
+}
+
+// Gives a table back: by a call, so that no caller holds the steps of it.
+fn give_back(_table: IndexMap<Name, usize>) {}
+
+impl NameTables {
+    // The tables of some items.
+    fn new<A: Allocator + Clone>(alloc: Global, items: &[Item<A>]) -> Result<NameTables, AllocError>
+        ensures { IfOk result (λ n. HasTables (map item_content items.now) n.classes n.objects n.groups) }
+    {
+        let mut names = NameTables::empty(alloc);
+        match names.note_all(items) {
+            Ok(()) => Ok(names),
+            Err(error) => {
+                names.give_back();
+                Err(error)
+            }
+        }
+    }
+
+    // Gives the tables back, one by one.
+    fn give_back(self) {
+        give_back(self.classes);
+        give_back(self.objects);
+        give_back(self.groups);
+    }
+
+    // Tables with no name.
+    fn empty(alloc: Global) -> NameTables
+        ensures classes { (q : List ℕ) → get (pointwise nat_eq) result.classes q ≡ None }
+        ensures objects { (q : List ℕ) → get (pointwise nat_eq) result.objects q ≡ None }
+        ensures groups { (q : List ℕ) → get (pointwise nat_eq) result.groups q ≡ None }
+    {
+        NameTables {
+            classes: IndexMap::new(alloc),
+            objects: IndexMap::new(alloc),
+            groups: IndexMap::new(alloc),
+        }
+    }
+
+    // Gives the names of some items their places in tables that have none.
+    fn note_all<A: Allocator + Clone>(&mut self, items: &[Item<A>]) -> Result<(), AllocError>
+        requires classes { (q : List ℕ) → get (pointwise nat_eq) self.old.classes q ≡ None }
+        requires objects { (q : List ℕ) → get (pointwise nat_eq) self.old.objects q ≡ None }
+        requires groups { (q : List ℕ) → get (pointwise nat_eq) self.old.groups q ≡ None }
+        ensures { OnOk result (HasTables (map item_content items.now) self.new.classes self.new.objects self.new.groups) }
+    {
+        note_items(&mut self.classes, ItemKind::Class, items)?;
+        note_items(&mut self.objects, ItemKind::Object, items)?;
+        note_items(&mut self.groups, ItemKind::Group, items)?;
+        Ok(())
+    }
 }
 
 impl<'a, A: Allocator + Clone> Tables<'a, A> {
@@ -90,24 +149,25 @@ impl<'a, A: Allocator + Clone> Tables<'a, A> {
     pub fn new(alloc: Global, file: &'a SmlFile<A>) -> Result<Self, AllocError>
         ensures { IfOk result (λ t. t.file.now ≡ file.now) }
     {
-        let actions = item_tables(alloc, &file.items)?;
-        let classes = places_of(alloc, ItemKind::Class, &file.items)?;
-        let objects = places_of(alloc, ItemKind::Object, &file.items)?;
-        let groups = places_of(alloc, ItemKind::Group, &file.items)?;
-        Ok(Tables {
-            file,
-            classes,
-            objects,
-            groups,
-            actions,
-        })
+        let names = NameTables::new(alloc, &file.items)?;
+        match item_tables(alloc, &file.items) {
+            Ok(actions) => Ok(Tables {
+                file,
+                names,
+                actions,
+            }),
+            Err(error) => {
+                names.give_back();
+                Err(error)
+            }
+        }
     }
 
     /// The class of a name.
     pub fn class(&self, name: &Name) -> Option<&'a Class<A>>
         ensures { option_map (λ x. class_content x.now) result ≡ class_named (file_content self.now.file.now) name.now }
     {
-        match self.classes.get(name) {
+        match self.names.classes.get(name) {
             Some(place) => self.class_at(*place),
             None => None,
         }
@@ -117,7 +177,7 @@ impl<'a, A: Allocator + Clone> Tables<'a, A> {
     pub fn object(&self, name: &Name) -> Option<&'a Object>
         ensures { option_map (λ x. object_content x.now) result ≡ object_named (file_content self.now.file.now) name.now }
     {
-        match self.objects.get(name) {
+        match self.names.objects.get(name) {
             Some(place) => self.object_at(*place),
             None => None,
         }
@@ -127,7 +187,7 @@ impl<'a, A: Allocator + Clone> Tables<'a, A> {
     pub fn group(&self, name: &Name) -> Option<&'a Group<A>>
         ensures { option_map (λ x. group_content x.now) result ≡ group_named (file_content self.now.file.now) name.now }
     {
-        match self.groups.get(name) {
+        match self.names.groups.get(name) {
             Some(place) => self.group_at(*place),
             None => None,
         }
@@ -175,7 +235,7 @@ impl<'a, A: Allocator + Clone> Tables<'a, A> {
     pub fn class_action(&self, class: &Name, action: &Name) -> Option<&'a Action<A>>
         ensures { option_map (λ a. action_content a.now) result ≡ action_in (class_named (file_content self.now.file.now) class.now) action.now }
     {
-        match self.classes.get(class) {
+        match self.names.classes.get(class) {
             Some(place) => self.action_at(*place, action),
             None => None,
         }
@@ -185,21 +245,21 @@ impl<'a, A: Allocator + Clone> Tables<'a, A> {
     pub fn names_class(&self, name: &Name, end: usize) -> bool
         ensures { result ≡ list_any (is_class name.now) (map item_content (take end self.now.file.now.items.items)) }
     {
-        stands_before(&self.classes, name, end)
+        stands_before(&self.names.classes, name, end)
     }
 
     /// Whether an object of this name stands before a place.
     pub fn names_object(&self, name: &Name, end: usize) -> bool
         ensures { result ≡ list_any (is_object name.now) (map item_content (take end self.now.file.now.items.items)) }
     {
-        stands_before(&self.objects, name, end)
+        stands_before(&self.names.objects, name, end)
     }
 
     /// Whether a set of this name stands before a place.
     pub fn names_group(&self, name: &Name, end: usize) -> bool
         ensures { result ≡ list_any (is_group name.now) (map item_content (take end self.now.file.now.items.items)) }
     {
-        stands_before(&self.groups, name, end)
+        stands_before(&self.names.groups, name, end)
     }
 }
 

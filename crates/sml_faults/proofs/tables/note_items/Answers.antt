@@ -3,7 +3,7 @@ use Rattle.std.proofs.lemmas.List.{take_all}
 use Rattle.sml_tree.specs.Content.{item_content}
 use Rattle.sml_faults.specs.Tables.{Places, is_named}
 use Rattle.sml_faults.proofs.Places.{places_noted}
-use Rattle.sml_faults.proofs.tables.places_of.Goals as goal
+use Rattle.sml_faults.proofs.tables.note_items.Goals as goal
 
 pub loop-i-preserved : goal.loop-i-preserved
 loop-i-preserved g c =
