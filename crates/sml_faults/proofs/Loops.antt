@@ -22,6 +22,22 @@ module _ {X D : Type 0} (p : D → Bool) (g : X → D) (xs : List X) (k : ℕ) (
   pub any_more : false ≡ p (g x) → Rest (λ ys. list_any p (map g ys)) xs (k + 1) r
   any_more not_so = rest_more (λ ys. list_any p (map g ys)) xs k r x h within is (λ zs. ap (λ b. b || list_any p (map g zs)) (sym not_so))
 
+-- the same, of the elements themselves
+module _ {X : Type 0} (p : X → Bool) (xs : List X) (k : ℕ) (r : Bool) (x : X) (h : Rest (list_any p) xs k r) (within : k < length xs) (is : x ≡ get_or xs k x) where
+  pub any_itself : true ≡ p x → true ≡ r
+  any_itself so = rest_here (list_any p) xs k r x true h within is (λ zs. ap (λ b. b || list_any p zs) (sym so))
+
+  pub any_after : false ≡ p x → Rest (list_any p) xs (k + 1) r
+  any_after not_so = rest_more (list_any p) xs k r x h within is (λ zs. ap (λ b. b || list_any p zs) (sym not_so))
+
+-- the first of what all have, of the elements themselves
+module _ {X Y : Type 0} (f : X → List Y) (xs : List X) (k : ℕ) (r : Option Y) (x : X) (h : Rest (λ ys. first (flat_map f ys)) xs k r) (within : k < length xs) (is : x ≡ get_or xs k x) where
+  pub first_itself : (n : Y) → Some n ≡ first (f x) → Some n ≡ r
+  first_itself n here = rest_here (λ ys. first (flat_map f ys)) xs k r x (Some n) h within is (λ zs. first-append (f x) (flat_map f zs) ∙ ap (λ o. or_else o (first (flat_map f zs))) (sym here))
+
+  pub first_after : None ≡ first (f x) → Rest (λ ys. first (flat_map f ys)) xs (k + 1) r
+  first_after none = rest_more (λ ys. first (flat_map f ys)) xs k r x h within is (λ zs. first-append (f x) (flat_map f zs) ∙ ap (λ o. or_else o (first (flat_map f zs))) (sym none))
+
 -- the first that passes a test
 module _ {X D : Type 0} (p : D → Bool) (g : X → D) (xs : List X) (k : ℕ) (r : Option D) (x : X) (h : Rest (λ ys. find p (map g ys)) xs k r) (within : k < length xs) (is : x ≡ get_or xs k x) where
   pub find_one : true ≡ p (g x) → Some (g x) ≡ r

@@ -27,6 +27,14 @@ module _ {X R : Type 0} (F : List X → R) (xs : List X) (k : ℕ) (r : R) where
   pub rest_none : Rest F xs k r → length xs ≤ k → F [] ≡ r
   rest_none h over = sym (ap F (drop_all k xs over)) ∙ h.is
 
+-- where nothing is left, what the recursion has for no element is the result
+pub rest_end : {X R : Type 0} {F : List X → R} {xs : List X} {k : ℕ} {r : R} → Rest F xs k r → length xs ≤ k → F [] ≡ r
+rest_end {F = F} {xs = xs} {k = k} {r = r} h over = rest_none F xs k r h over
+
+-- the same, where the elements are seen through a loan
+pub rest_end_lent : {X R : Type 0} {F : List X → R} {xs : List X} {k : ℕ} {r : R} (ys : List X) → ys ≡ xs → Rest F xs k r → length ys ≤ k → F [] ≡ r
+rest_end_lent {F = F} {xs = xs} {k = k} {r = r} ys same h over = rest_none F xs k r h (subst (λ zs. length zs ≤ k) same over)
+
 pub first-append : {X : Type 0} (xs ys : List X) → first (xs ++ ys) ≡ or_else (first xs) (first ys)
 first-append [] ys = refl
 first-append (x ∷ xs) ys = refl
@@ -65,6 +73,13 @@ module _ {X Y : Type 0} (F : List X → Option Y) (xs ys : List X) (k : ℕ) (r 
 -- ---- what is left of a list, where those before it count too
 pub record Past {X D R : Type 0} (F : List D → List D → R) (g : X → D) (xs : List X) (k : ℕ) (r : R) : Type 0 where
   pub is : F (map g (take k xs)) (map g (drop k xs)) ≡ r
+
+-- nothing is left
+pub past_end : {X D R : Type 0} {F : List D → List D → R} {g : X → D} {xs : List X} {k : ℕ} {r : R} → Past F g xs k r → length xs ≤ k → F (map g (take k xs)) [] ≡ r
+past_end {F = F} {g = g} {xs = xs} {k = k} h over = sym (ap (λ ys. F (map g (take k xs)) (map g ys)) (drop_all k xs over)) ∙ h.is
+
+pub past_end_lent : {X D R : Type 0} {F : List D → List D → R} {g : X → D} {xs : List X} {k : ℕ} {r : R} (ys : List X) → ys ≡ xs → Past F g xs k r → length ys ≤ k → F (map g (take k xs)) [] ≡ r
+past_end_lent {F = F} {g = g} {xs = xs} {k = k} {r = r} ys same h over = past_end h (subst (λ zs. length zs ≤ k) same over)
 
 module _ {X D R : Type 0} (F : List D → List D → R) (g : X → D) (xs : List X) (k : ℕ) (r : R) (x : X) (h : Past F g xs k r) (within : k < length xs) (is : x ≡ get_or xs k x) where
   before : map g (take k xs) ++ g x ∷ [] ≡ map g (take (k + 1) xs)

@@ -10,6 +10,11 @@ abbrev pub two_more : {X : Type 0} → Bool → (X → Bool) → List X → Bool
 two_more true p xs = list_any p xs
 two_more false p xs = has_two p xs
 
+-- none of no elements passes
+pub none_more : {X : Type 0} (seen : Bool) (p : X → Bool) → false ≡ two_more seen p []
+none_more true p = refl
+none_more false p = refl
+
 -- what is left of two lists of one length
 pub record Pairs {X : Type 0} (g : X → ActionParamData) (xs ys : List X) (k : ℕ) (r : Bool) : Type 0 where
   pub even : length xs ≡ length ys

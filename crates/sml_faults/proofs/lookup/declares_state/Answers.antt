@@ -1,6 +1,7 @@
 use Rattle.sml_tree.specs.Content.{state_content}
 use Rattle.sml_faults.specs.Lookup.{is_state}
 use Rattle.sml_faults.proofs.Loops.{any_one, any_more}
+use Rattle.sml_faults.proofs.Rests.{rest_end}
 use Rattle.sml_faults.proofs.lookup.declares_state.Goals as goal
 
 pub returns-then-is_name : goal.returns-then-is_name
@@ -8,3 +9,6 @@ returns-then-is_name g c = any_one (is_state c.args.state.now) state_content c.a
 
 pub loop-declared-preserved : goal.loop-declared-preserved
 loop-declared-preserved g c = any_more (is_state c.args.state.now) state_content c.args.states.now c.loop-declared.declared-index _ c.declared-item.result c.loop-declared.invariant c.loop-declared-test.true c.declared-item.is c.if-is_name.ensures
+
+pub returns : goal.returns
+returns g c = rest_end c.loop-declared.invariant c.loop-declared-test.false

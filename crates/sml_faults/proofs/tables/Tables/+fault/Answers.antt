@@ -6,6 +6,7 @@ use Rattle.sml_faults.specs.Sites.{asks, sets, ends, cond_sites, block_sites, in
 use Rattle.sml_faults.specs.Kinds.{site_faults, send_faults}
 use Rattle.sml_faults.proofs.Instrs.{says_Do, says_Set, ends_in}
 use Rattle.sml_faults.proofs.BlockRests.{block_here, block_next, first_first, first_second, first_third, one_site}
+use Rattle.sml_faults.proofs.Rests.{rest_end_lent}
 use Rattle.sml_faults.proofs.tables.Tables.+fault.Goals as goal
 
 pub block_fault-returns-in-Some : goal.block_fault-returns-in-Some
@@ -59,3 +60,6 @@ instr_fault-returns-in-None-block_fault g t c =
     let f = site_faults c.args.kind (file_content c.args.self.now.file.now) (class_content c.args.class.now) (action_content c.args.action.now) in
     first_third f (cond_sites (cond_content c.in-If.cond)) (block_sites (block_content c.in-If.yes)) (block_sites (block_content c.in-If.no)) _ c.in-None.ensures c.in-None-block_fault.ensures c.block_fault-in-None-block_fault.ensures
     ∙ sym (ap (λ i. first (flat_map f (instr_sites (instr_content i)))) c.in-If.is ∙ ap (λ i. first (flat_map f (instr_sites i))) (instr_content-If c.in-If.cond c.in-If.yes c.in-If.no))
+
+pub block_fault-returns : goal.block_fault-returns
+block_fault-returns g t c = rest_end_lent c.deref-instr-items.result.now c.deref-instr-items.ensures.value c.loop-instr.invariant c.loop-instr-test.false

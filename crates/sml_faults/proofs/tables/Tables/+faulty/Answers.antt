@@ -8,6 +8,7 @@ use Rattle.sml_faults.specs.Lookup.{objects_meant}
 use Rattle.sml_faults.specs.InBlocks.{is_faulty_site, is_faulty_send}
 use Rattle.sml_faults.proofs.Instrs.{says_Do, says_Set, ends_in}
 use Rattle.sml_faults.proofs.InBlocks.{any_here, any_next, one_any, any_early, any_late, first_so, second_so}
+use Rattle.sml_faults.proofs.Rests.{rest_end_lent}
 use Rattle.sml_faults.proofs.tables.Tables.+faulty.Goals as goal
 use Rattle.sml_faults.proofs.tables.Tables.+faulty.Goals.{is_faulty_instr-then-is_faulty_cond, is_faulty_instr-else-is_faulty_cond}
 
@@ -72,3 +73,6 @@ is_faulty_instr-returns-else-is_faulty_block g t c =
     ] in
     any_late p cs xs (block_sites (block_content c.in-If.no)) c.if-is_faulty_cond.value two _ c.if-is_faulty_block.false c.is_faulty_block-else-is_faulty_block.ensures
     ∙ sym (ap (λ i. list_any p (instr_sites (instr_content i))) c.in-If.is ∙ ap (λ i. list_any p (instr_sites i)) (instr_content-If c.in-If.cond c.in-If.yes c.in-If.no))
+
+pub is_faulty_block-returns : goal.is_faulty_block-returns
+is_faulty_block-returns g t c = rest_end_lent c.deref-instr-items.result.now c.deref-instr-items.ensures.value c.loop-instr.invariant c.loop-instr-test.false

@@ -4,7 +4,7 @@ use Rattle.sml_tree.specs.Content.{item_content}
 use Rattle.sml_faults.specs.Lookup.{first}
 use Rattle.sml_faults.specs.Heads as heads
 use Rattle.sml_faults.specs.Tables.{class_item, differing_at}
-use Rattle.sml_faults.proofs.Rests.{first_here, first_next, first-append}
+use Rattle.sml_faults.proofs.Rests.{first_here, first_next, first-append, rest_end_lent}
 use Rattle.sml_faults.proofs.Places.{item_there}
 use Rattle.sml_faults.proofs.tables.Tables.differing.Goals as goal
 
@@ -30,3 +30,6 @@ loop-i-preserved g c =
     first_next (λ ys. first (flat_map heads.differing (map item_content ys))) items c.deref-item-items.result.now c.loop-i.i _ c.item-item.result (first (heads.differing x))
     c.loop-i.invariant c.deref-item-items.ensures.value c.loop-i-test.true c.item-item.is (λ zs. first-append (heads.differing x) (flat_map heads.differing (map item_content zs)))
     (c.in_default.ensures ∙ ap (λ k. first (differing_at k x)) at ∙ ap first (as_there x))
+
+pub returns : goal.returns
+returns g c = rest_end_lent c.deref-item-items.result.now c.deref-item-items.ensures.value c.loop-i.invariant c.loop-i-test.false

@@ -5,6 +5,7 @@ use Rattle.sml_tree.specs.Content.{file_content, class_content, state_content, a
 use Rattle.sml_faults.specs.Lookup.{actions_of}
 use Rattle.sml_faults.specs.InBlocks.{is_faulty_action}
 use Rattle.sml_faults.proofs.InBlocks.{any_here, any_next}
+use Rattle.sml_faults.proofs.Rests.{rest_end}
 use Rattle.sml_faults.proofs.tables.Tables.has_faulty_state.Goals as goal
 
 pub returns-then-has_faulty_action : goal.returns-then-has_faulty_action
@@ -22,3 +23,6 @@ loop-state-preserved g c =
     any_next (λ ys. list_any p (flat_map actions_of (map state_content ys))) c.args.states.now c.args.states.now c.loop-state.state-index _ c.state-item.result (list_any p own)
     c.loop-state.invariant refl c.loop-state-test.true c.state-item.is (λ zs. list_any-append p own (flat_map actions_of (map state_content zs)))
     (ap (λ es. list_any p (map action_content es)) (sym c.deref.ensures.value) ∙ sym c.has_faulty_action.ensures ∙ c.if-has_faulty_action.false)
+
+pub returns : goal.returns
+returns g c = rest_end c.loop-state.invariant c.loop-state-test.false

@@ -2,7 +2,7 @@ use Rattle.std.proofs.Common.{flat_map, map, refl}
 use Rattle.sml_tree.specs.Content.{file_content, passed_content}
 use Rattle.sml_faults.specs.Lookup.{first}
 use Rattle.sml_faults.specs.Faults.{missing_at}
-use Rattle.sml_faults.proofs.Rests.{first_here, first_next, first-append}
+use Rattle.sml_faults.proofs.Rests.{first_here, first_next, first-append, rest_end}
 use Rattle.sml_faults.proofs.tables.Tables.missing_arg.Goals as goal
 
 pub returns-in-Some : goal.returns-in-Some
@@ -16,3 +16,6 @@ loop-object-preserved g c =
     let f = missing_at (file_content c.args.self.now.file.now) c.args.called.now (map passed_content c.args.args.now) in
     first_next (λ ys. first (flat_map f ys)) c.args.objects.now c.args.objects.now c.loop-object.object-index _ c.object-item.result (first (f c.object-item.result))
     c.loop-object.invariant refl c.loop-object-test.true c.object-item.is (λ zs. first-append (f c.object-item.result) (flat_map f zs)) c.in_default.ensures
+
+pub returns : goal.returns
+returns g c = rest_end c.loop-object.invariant c.loop-object-test.false

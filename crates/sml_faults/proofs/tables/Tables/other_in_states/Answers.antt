@@ -3,7 +3,7 @@ use Rattle.sml_tree.specs.Content.{action_content, file_content, state_content}
 use Rattle.sml_faults.specs.Lookup.{first, actions_of}
 use Rattle.sml_faults.specs.Heads.{other_params}
 use Rattle.sml_faults.specs.Tables.{class_at}
-use Rattle.sml_faults.proofs.Rests.{first_here, first_next, first_in-append}
+use Rattle.sml_faults.proofs.Rests.{first_here, first_next, first_in-append, rest_end}
 use Rattle.sml_faults.proofs.tables.Tables.other_in_states.Goals as goal
 
 pub returns-in-Some : goal.returns-in-Some
@@ -19,3 +19,6 @@ loop-state-preserved g c =
     first_next (λ ys. first (flat_map f (flat_map actions_of (map state_content ys)))) c.args.states.now c.args.states.now c.loop-state.state-index _ c.state-item.result (first (flat_map f (state_content c.state-item.result).actions))
     c.loop-state.invariant refl c.loop-state-test.true c.state-item.is (λ zs. first_in-append f (state_content c.state-item.result).actions (flat_map actions_of (map state_content zs)))
     (c.in_default.ensures ∙ ap (λ es. first (flat_map f (map action_content es))) c.deref.ensures.value)
+
+pub returns : goal.returns
+returns g c = rest_end c.loop-state.invariant c.loop-state-test.false

@@ -3,7 +3,7 @@ use Rattle.std.specs.List.{list_any}
 use Rattle.sml_tree.specs.Content.{action_content, class_content}
 use Rattle.sml_faults.specs.Lookup.{is_action}
 use Rattle.sml_faults.specs.Repeats.{repeated_action, repeated_in_action}
-use Rattle.sml_faults.proofs.Rests.{each_here, each_next, where_not}
+use Rattle.sml_faults.proofs.Rests.{each_here, each_next, where_not, past_end}
 use Rattle.sml_faults.proofs.Loops.{named_first}
 use Rattle.sml_faults.proofs.tables.Tables.repeated_action.Goals as goal
 
@@ -29,3 +29,6 @@ loop-i-preserved g c =
     let before = map action_content (take c.loop-i.i c.args.actions.now) in
     each_next (repeated_action k) action_content c.args.actions.now c.loop-i.i _ c.index-actions-i.result c.loop-i.invariant c.loop-i-test.true c.index-actions-i.is
     (c.in_default.ensures ∙ sym (where_not (list_any (is_action x.name) before) x.name (repeated_in_action k x) c.if-names_action.ensures))
+
+pub returns : goal.returns
+returns g c = past_end c.loop-i.invariant c.loop-i-test.false

@@ -3,7 +3,8 @@ use Rattle.std.specs.List.{list_any}
 use Rattle.sml_tree.specs.Content.{action_content, class_content, state_content}
 use Rattle.sml_faults.specs.Lookup.{first, is_state}
 use Rattle.sml_faults.specs.Repeats.{each_after, repeated_action, repeated_state}
-use Rattle.sml_faults.proofs.Rests.{each_here, each_next, where_not}
+use Rattle.sml_faults.proofs.Rests.{each_here, each_next, where_not, past_end}
+use Rattle.sml_faults.proofs.Loops.{named_first}
 use Rattle.sml_faults.proofs.tables.Tables.repeated_state.Goals as goal
 
 pub returns-in-Some : goal.returns-in-Some
@@ -23,3 +24,13 @@ loop-i-preserved g c =
     each_next (repeated_state k) state_content c.args.states.now c.loop-i.i _ c.index-states-i.result c.loop-i.invariant c.loop-i-test.true c.index-states-i.is
     (c.in_default.ensures ∙ ap (λ ys. first (each_after (repeated_action k) [] (map action_content ys))) c.deref.ensures.value
     ∙ sym (where_not (list_any (is_state x.name) before) x.name (each_after (repeated_action k) [] x.actions) c.if-declares_state.ensures))
+
+pub returns : goal.returns
+returns g c = past_end c.loop-i.invariant c.loop-i-test.false
+
+pub returns-then-declares_state : goal.returns-then-declares_state
+returns-then-declares_state g c =
+    let k = class_content c.args.class.now in
+    let x = state_content c.index-states-i.result in
+    each_here (repeated_state k) state_content c.args.states.now c.loop-i.i _ c.index-states-i.result c.loop-i.invariant c.loop-i-test.true c.index-states-i.is x.name
+    (named_first (list_any (is_state x.name) (map state_content (take c.loop-i.i c.args.states.now))) x.name (each_after (repeated_action k) [] x.actions) c.if-declares_state.ensures)
