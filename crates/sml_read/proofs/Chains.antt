@@ -1,5 +1,5 @@
 -- A conjunction is read as its first operand, and a condition as its first conjunction.
-use Rattle.std.proofs.Common.{◌≡◌, ◌+◌, ℕ, true, false, List, [], ◌∷◌, refl, ap, ◌∙◌, length, nat_lt, Result, Ok, Err, OnOk, arith}
+use Rattle.std.proofs.Common.{◌≡◌, ◌≤◌, ◌+◌, ℕ, true, false, List, [], ◌∷◌, refl, ap, ◌∙◌, length, nat_lt, Result, Ok, Err, OnOk, arith}
 use Rattle.sml_tree.specs.declared.token_kind.TokenKind.{TokenKind}
 use Rattle.sml_tree.specs.declared.token_kind.TokenKind.TheVariants.{Class, And, Or, Not, OpenBracket, CloseBracket}
 use Rattle.sml_tree.specs.Piece.{Piece}
@@ -12,13 +12,13 @@ use Rattle.sml_tree.specs.Grammar.{rules}
 use Rattle.sml_read.specs.declared.fault.Fault.TheVariants.{TooDeep}
 use Rattle.sml_read.specs.declared.fault.Stop.{Stop}
 use Rattle.sml_read.specs.declared.fault.Stop.TheVariants as stop
-use Rattle.sml_read.specs.Reads.{Reads, Passes, Refuses, Stops, SeesKind, ReadsToken}
+use Rattle.sml_read.specs.Reads.{Reads, Leads, Passes, Refuses, Stops, SeesKind, ReadsToken}
 use Rattle.sml_read.specs.Machine.{chosen, Move, Stuck, take_rule, or_else, run}
-use Rattle.sml_read.specs.Made.{OrMemory}
-use Rattle.sml_read.specs.Stands.{Closes}
+use Rattle.sml_read.specs.Made.{MadeOf}
+use Rattle.sml_read.specs.Stands.{Ends}
 use Rattle.sml_read.proofs.Heads.{Read}
 use Rattle.sml_read.proofs.Steps.{Taken, seen}
-use Rattle.sml_tree.specs.declared.limits.TheConstants.{MAX_OPEN}
+use Rattle.sml_tree.specs.declared.limits.TheConstants.{MAX_OPEN, MAX_TESTS}
 
 -- what a token does to a part that may not be left out
 abbrev moved : (n g : Part) (more : List Bone) → (Value n → Form (Value g) more) → Piece → TokenKind → Move g
@@ -100,12 +100,25 @@ bracket_open d n v t old mid u new (stop.Fault f) first sees room a none =
     let kind = seen OpenBracket t old mid first sees in
     λ g more k. rw (first, kind, room) (a.1 g _ _ ∙ none g _ _ _)
 
+-- where nothing was made of it, memory ran out or it is refused
+pub not_made_of : {X Y : Type 0} (Q : X → Y → Type 0) (n : Part) (view : X → Value n) (r : Result X Stop) (made : Result Y Stop) (e : Stop) (old new : List Piece) → made ≡ Err e → MadeOf r made Q → Reads n view old new r → Stops n old e
+not_made_of Q n view r (Ok y) e old new none is a = absurd (cc none)
+not_made_of Q n view (Ok x) (Err s) e old new none is a = let same : e ≡ stop.Memory = cc (none, is) in rw same tt
+not_made_of Q n view (Err s') (Err s) e old new none is a = let same : e ≡ s' = cc (none, is) in rw same a
+
+-- what holds where something was read holds where something was made of it
+pub made_room : {X Y : Type 0} (Q : X → Y → Type 0) (r : Result X Stop) (made : Result Y Stop) (R : Type 0) → MadeOf r made Q → OnOk r R → OnOk made R
+made_room Q (Ok x) (Ok y) R is h = h
+made_room Q (Err e) (Ok y) R is h = absurd (cc is)
+made_room Q r (Err e) R is h = tt
+
 -- a `not` was made
-pub not_made : {A : Type 0} (d n n' : ℕ) (inner : CondData) (r : Result (Cond A) Stop) (t : Piece) (old mid new : List Piece) → old ≡ t ∷ mid → SeesKind Not old → nat_lt d MAX_OPEN ≡ true
-    → Read (of.Unit' (d + 1) n) (record { formula = inner; count = n' }) mid new → OrMemory r (λ x. cond_content x ≡ neither inner)
-    → Reads (of.Unit' d n) (λ c. record { formula = cond_content c; count = n' }) old new r
-not_made d n n' inner (Ok x) t old mid new first sees room a made = not_ok d n n' inner (cond_content x) t old mid new first sees room a made
-not_made d n n' inner (Err e) t old mid new first sees room a made = rw made tt
+pub not_made : {A : Type 0} (d n n' : ℕ) (r made : Result (Cond A) Stop) (t : Piece) (old mid new : List Piece) → old ≡ t ∷ mid → SeesKind Not old → nat_lt d MAX_OPEN ≡ true
+    → Reads (of.Unit' (d + 1) n) (λ c. record { formula = cond_content c; count = n' }) mid new r → MadeOf r made (λ x c. cond_content c ≡ neither (cond_content x))
+    → Reads (of.Unit' d n) (λ c. record { formula = cond_content c; count = n' }) old new made
+not_made d n n' (Ok x) (Ok c) t old mid new first sees room a is = not_ok d n n' (cond_content x) (cond_content c) t old mid new first sees room a is
+not_made d n n' (Ok x) (Err e) t old mid new first sees room a is = rw is tt
+not_made d n n' (Err e) made t old mid new first sees room a is = rw is (not_err d n t old mid e first sees room a)
 
 pub bracket_ok : (d n : ℕ) (v : Counted) (t s : Piece) (old mid u new : List Piece) → old ≡ t ∷ mid → SeesKind OpenBracket old → nat_lt d MAX_OPEN ≡ true
     → Read (of.Cond (d + 1) n) v mid u → Taken CloseBracket s u new → Read (of.Unit' d n) v old new
@@ -114,15 +127,17 @@ bracket_ok d n v t s old mid u new first sees room a close =
     (omega (arith, ap length first, a.0, ap length close.0), λ g more k. rw (first, kind, room) (a.1 g _ _ ∙ rw close.0 (rw close.1 refl)))
 
 -- what stands in brackets, and what may be the second of them
-pub bracket_closed : {X : Type 0} (view : X → Counted) (d n : ℕ) (x : X) (r : Result X Stop) (t : Piece) (old mid u new : List Piece) → old ≡ t ∷ mid → SeesKind OpenBracket old → nat_lt d MAX_OPEN ≡ true
-    → Read (of.Cond (d + 1) n) (view x) mid u → Closes CloseBracket u new x r → Reads (of.Unit' d n) view old new r
-bracket_closed view d n x (Ok y) t old mid u new first sees room a close = rw close.0 (bracket_ok d n (view x) t close.1.0 old mid u new first sees room a (close.1.1, close.1.2))
-bracket_closed view d n x (Err e) t old mid u new first sees room a close = bracket_open d n (view x) t old mid u new e first sees room a close
+pub bracket_closed : {X : Type 0} (view : X → Counted) (d n : ℕ) (r made : Result X Stop) (t : Piece) (old mid u new : List Piece) → old ≡ t ∷ mid → SeesKind OpenBracket old → nat_lt d MAX_OPEN ≡ true
+    → Reads (of.Cond (d + 1) n) view mid u r → Ends CloseBracket u new (λ x. x) r made → Reads (of.Unit' d n) view old new made
+bracket_closed view d n (Ok x) (Ok y) t old mid u new first sees room a close = rw close.0 (bracket_ok d n (view x) t close.1.0 old mid u new first sees room a (close.1.1, close.1.2))
+bracket_closed view d n (Ok x) (Err e) t old mid u new first sees room a close = bracket_open d n (view x) t old mid u new e first sees room a close
+bracket_closed view d n (Err e) made t old mid u new first sees room a close = rw close (bracket_err d n t old mid e first sees room a)
 
--- what holds whatever was read holds where something was
-pub on_ok : {X Y : Type 0} (r : Result X Y) (Q : Type 0) → Q → OnOk r Q
-on_ok (Ok x) Q q = q
-on_ok (Err e) Q q = tt
+-- what holds where something was read holds where it was handed on
+pub ended_room : {X Y : Type 0} (kind : TokenKind) (form : X → Y) (r : Result X Stop) (made : Result Y Stop) (old new : List Piece) (R : Type 0) → Ends kind old new form r made → OnOk r R → OnOk made R
+ended_room kind form (Ok x) (Ok y) old new R close h = h
+ended_room kind form (Err e) (Ok y) old new R close h = absurd (cc close)
+ended_room kind form r (Err e) old new R close h = tt
 
 -- the first operand is refused
 pub conj_err : (d n : ℕ) (old : List Piece) (e : Stop) → Stops (of.Unit' d n) old e → Stops (of.Conj d n) old e
@@ -134,23 +149,38 @@ pub cond_err : (d n : ℕ) (old : List Piece) (e : Stop) → Stops (of.Conj d n)
 cond_err d n old stop.Memory a = tt
 cond_err d n old (stop.Fault f) a = λ g more k. cond_run d n g more k old ∙ a g _ _
 
--- the first operand and the others
-pub conj_more : {X : Type 0} (view : X → Counted) (d n m : ℕ) (first : CondData) (r : Result X Stop) (old u new : List Piece) → Read (of.Unit' d n) (record { formula = first; count = m }) old u
-    → Reads (of.MoreAnd d m first) view u new r → Reads (of.Conj d n) view old new r
-conj_more view d n m first (Ok x) old u new a b = (omega (arith, a.0, b.0), λ g more k. conj_run d n g more k old ∙ a.1 g _ _ ∙ b.1 g _ _)
-conj_more view d n m first (Err stop.Memory) old u new a b = tt
-conj_more view d n m first (Err (stop.Fault f)) old u new a b = λ g more k. conj_run d n g more k old ∙ a.1 g _ _ ∙ b g _ _
+-- the first operand was read, and others may follow
+pub conj_begun : (d n m : ℕ) (first : CondData) (old new : List Piece) → Passes (of.Unit' d n) (record { formula = first; count = m }) old new
+    → Leads (of.Conj d n) (of.MoreAnd d m first) (λ v. v) old new
+conj_begun d n m first old new a g more k = conj_run d n g more k old ∙ a g _ _
 
--- the first conjunction and the others
-pub cond_more : {X : Type 0} (view : X → Counted) (d n m : ℕ) (first : CondData) (r : Result X Stop) (old u new : List Piece) → Read (of.Conj d n) (record { formula = first; count = m }) old u
-    → Reads (of.MoreOr d m first) view u new r → Reads (of.Cond d n) view old new r
-cond_more view d n m first (Ok x) old u new a b = (omega (arith, a.0, b.0), λ g more k. cond_run d n g more k old ∙ a.1 g _ _ ∙ b.1 g _ _)
-cond_more view d n m first (Err stop.Memory) old u new a b = tt
-cond_more view d n m first (Err (stop.Fault f)) old u new a b = λ g more k. cond_run d n g more k old ∙ a.1 g _ _ ∙ b g _ _
+-- the first conjunction was read, and others may follow
+pub cond_begun : (d n m : ℕ) (first : CondData) (old new : List Piece) → Passes (of.Conj d n) (record { formula = first; count = m }) old new
+    → Leads (of.Cond d n) (of.MoreOr d m first) (λ v. v) old new
+cond_begun d n m first old new a g more k = cond_run d n g more k old ∙ a g _ _
 
--- reading went on as another chain, which is refused
-pub chain_err : (n mid : Part) (same : Value mid → Value n) (old middle : List Piece) (e : Stop)
-    → ((g : Part) (more : List Bone) (k : Value n → Form (Value g) more) → run g (P (family n) ∷ more) (calls n k) old ≡ run g (P (family mid) ∷ more) (calls mid (λ v. k (same v))) middle)
-    → Stops mid middle e → Stops n old e
-chain_err n mid same old middle stop.Memory a b = tt
-chain_err n mid same old middle (stop.Fault f) a b = λ g more k. a g more k ∙ b g more (λ v. k (same v))
+-- one more operand of a chain of `and` was read
+pub and_more : {A : Type 0} (n d m m' : ℕ) (left x : Cond A) (r made : Result (Cond A) Stop) (t : Piece) (first old mid new : List Piece) → made ≡ Ok x → MadeOf r made (λ y c. cond_content c ≡ both (cond_content left) (cond_content y))
+    → length old ≤ length first → OnOk r (m' ≤ MAX_TESTS) → Leads (of.Conj d n) (of.MoreAnd d m (cond_content left)) (λ v. v) first old → old ≡ t ∷ mid → t.kind ≡ And
+    → Reads (of.Unit' d m) (λ c. record { formula = cond_content c; count = m' }) mid new r
+    → (length new ≤ length first) × (m' ≤ MAX_TESTS) × Leads (of.Conj d n) (of.MoreAnd d m' (cond_content x)) (λ v. v) first new
+and_more n d m m' left x (Ok y) made t first old mid new got is le room before e kind a =
+    let content = rw got at is in (
+      omega (arith, le, ap length e, a.0),
+      room,
+      λ g more k. before g more k ∙ and_step d m m' (cond_content left) (cond_content y) (cond_content x) t old mid new e kind content a.1 g more k,
+    )
+and_more n d m m' left x (Err s) made t first old mid new got is le room before e kind a = absurd (cc (got, is))
+
+-- one more operand of a chain of `or` was read
+pub or_more : {A : Type 0} (n d m m' : ℕ) (left x : Cond A) (r made : Result (Cond A) Stop) (t : Piece) (first old mid new : List Piece) → made ≡ Ok x → MadeOf r made (λ y c. cond_content c ≡ either (cond_content left) (cond_content y))
+    → length old ≤ length first → OnOk r (m' ≤ MAX_TESTS) → Leads (of.Cond d n) (of.MoreOr d m (cond_content left)) (λ v. v) first old → old ≡ t ∷ mid → t.kind ≡ Or
+    → Reads (of.Conj d m) (λ c. record { formula = cond_content c; count = m' }) mid new r
+    → (length new ≤ length first) × (m' ≤ MAX_TESTS) × Leads (of.Cond d n) (of.MoreOr d m' (cond_content x)) (λ v. v) first new
+or_more n d m m' left x (Ok y) made t first old mid new got is le room before e kind a =
+    let content = rw got at is in (
+      omega (arith, le, ap length e, a.0),
+      room,
+      λ g more k. before g more k ∙ or_step d m m' (cond_content left) (cond_content y) (cond_content x) t old mid new e kind content a.1 g more k,
+    )
+or_more n d m m' left x (Err s) made t first old mid new got is le room before e kind a = absurd (cc (got, is))

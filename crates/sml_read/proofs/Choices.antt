@@ -1,5 +1,5 @@
 -- What is read of an `if`, by the tokens and parts that were read of it.
-use Rattle.std.proofs.Common.{◌≡◌, ◌≤◌, ◌+◌, ℕ, Option, map, List, [], ◌∷◌, refl, ap, ◌∙◌, length, nat_lt, true, false, Result, Ok, Err, arith}
+use Rattle.std.proofs.Common.{◌≡◌, ◌≤◌, ◌+◌, ℕ, Option, map, List, [], ◌∷◌, refl, ap, ◌∙◌, length, nat_lt, true, false, Result, Ok, Err, OnOk, arith}
 use Rattle.sml_tree.specs.declared.token_kind.TokenKind.TheVariants.{If, Then, Else, Endif, OpenBracket, CloseBracket}
 use Rattle.sml_tree.specs.Piece.{Piece}
 use Rattle.sml_tree.specs.Syntax as said
@@ -14,8 +14,8 @@ use Rattle.sml_read.specs.declared.fault.Stop.TheVariants as stop
 use Rattle.sml_read.specs.declared.fault.Fault.TheVariants.{TooDeep}
 use Rattle.sml_read.specs.Reads.{Reads, ReadsNext, ReadsFront, Refuses, Stops, SeesKind, ReadsToken}
 use Rattle.sml_read.specs.Arms.{armed, ReadsAskedFor}
-use Rattle.sml_read.specs.Made.{OrMemory, found_of}
-use Rattle.sml_read.specs.Stands.{Lacks, Closes}
+use Rattle.sml_read.specs.Made.{OrMemory, OfRead, found_of}
+use Rattle.sml_read.specs.Stands.{Lacks, Ends}
 use Rattle.sml_read.specs.Trails.{Trail}
 use Rattle.sml_read.proofs.Behind.{lacking}
 use Rattle.sml_read.proofs.Steps.{Taken, seen}
@@ -64,12 +64,13 @@ branch_sign_err d count old u x new t formula stop.Memory first a none = tt
 branch_sign_err d count old u x new t formula (stop.Fault f) first a none = λ g more k. rw (first.0, first.1) (a.1 g _ _ ∙ none g _ _ _)
 
 -- the condition, and what may be the second bracket
-pub asked_for_closed : {X : Type 0} (view : X → CondData) (count : ℕ) (old u v new : List Piece) (t : Piece) (x : X) (r : Result X Stop) → Taken OpenBracket t old u
-    → Read (Cond 0 0) (record { formula = view x; count = count }) u v → Closes CloseBracket v new x r → ReadsAskedFor view old new r
-asked_for_closed view count old u v new t x (Ok y) first a close =
+pub asked_for_closed : {X : Type 0} (view : X → CondData) (count : ℕ) (old u v new : List Piece) (t : Piece) (read r : Result X Stop) → Taken OpenBracket t old u
+    → Reads (Cond 0 0) (λ x. record { formula = view x; count = count }) u v read → Ends CloseBracket v new (λ x. x) read r → ReadsAskedFor view old new r
+asked_for_closed view count old u v new t (Ok x) (Ok y) first a close =
     let sign = close.1 in
     (omega (arith, ap length first.0, a.0, ap length sign.1), λ depth g more k. rw (first.0, first.1, close.0) (a.1 g _ _ ∙ rw sign.1 (rw sign.2 refl)))
-asked_for_closed view count old u v new t x (Err e) first a close = λ depth. branch_sign_err depth count old u v new t (view x) e first a close
+asked_for_closed view count old u v new t (Ok x) (Err e) first a close = λ depth. branch_sign_err depth count old u v new t (view x) e first a close
+asked_for_closed view count old u v new t (Err e) r first a close = rw close (λ depth. branch_cond_err depth old u t e first a)
 
 -- the blocks stand behind the condition
 pub branch_read : (d : ℕ) (old u new : List Piece) (formula : CondData) (yes' no' : List InstrData) → length u ≤ length old → Trail (Branch d) (P of.Arms ∷ []) (armed d formula) old u
@@ -99,16 +100,26 @@ arms_open d old u x y new t yes' no' stop.Memory first kind a b none = tt
 arms_open d old u x y new t yes' no' (stop.Fault f) first kind a b none = λ g more k. rw (first, kind) (a.1 g _ _ ∙ b.1 g _ _ ∙ none g _ _ _)
 
 -- two blocks, and what may be `endif`
-pub arms_closed : {X : Type 0} (view : X → of.Two) (d : ℕ) (old u x y new : List Piece) (t : Piece) (both : X) (r : Result X Stop) (yes' no' : List InstrData) → old ≡ t ∷ u → t.kind ≡ Then
-    → view both ≡ record { yes_part = yes'; no_part = no' } → Read (Block (d + 1)) yes' u x → Read (of.Else (d + 1)) no' x y → Closes Endif y new both r → Reads (Arm d) view old new r
-arms_closed view d old u x y new t both (Ok z) yes' no' first kind is a b close =
+pub arms_closed : {X Y : Type 0} (view : Y → of.Two) (second : X → List InstrData) (form : X → Y) (d : ℕ) (old u x y new : List Piece) (t : Piece) (no' : Result X Stop) (r : Result Y Stop) (yes' : List InstrData)
+    → ((z : X) → view (form z) ≡ record { yes_part = yes'; no_part = second z }) → Taken Then t old u → Read (Block (d + 1)) yes' u x → Reads (of.Else (d + 1)) second x y no' → Ends Endif y new form no' r
+    → Reads (Arm d) view old new r
+arms_closed view second form d old u x y new t (Ok z) (Ok both) yes' is first a b close =
     let word' = close.1 in
-    rw (close.0, is) (arms_ok d old u x y new t word'.0 yes' no' first kind a b (word'.1, word'.2))
-arms_closed view d old u x y new t both (Err e) yes' no' first kind is a b close = arms_open d old u x y new t yes' no' e first kind a b close
+    rw (close.0, is z) (arms_ok d old u x y new t word'.0 yes' (second z) first.0 first.1 a b (word'.1, word'.2))
+arms_closed view second form d old u x y new t (Ok z) (Err e) yes' is first a b close = arms_open d old u x y new t yes' (second z) e first.0 first.1 a b close
+arms_closed view second form d old u x y new t (Err e) r yes' is first a b close = rw close (arms_err d old u x t yes' e first.0 first.1 a b)
 
 -- an `if` inside too many others
 pub if_deep : (d : ℕ) (t : Piece) (old new : List Piece) → old ≡ t ∷ new → SeesKind If old → nat_lt d MAX_IFS ≡ false → Refuses (Block d) old (TooDeep t.at)
 if_deep d t old new e sees full = let kind = seen If t old new e sees in λ g more k. rw (e, kind, full) refl
+
+-- the blocks of an `if`, and what is made of them
+pub branch_made : {X Y : Type 0} (arms : X → of.Two) (view : Y → InstrData) (d : ℕ) (old u new : List Piece) (formula : CondData) (r : Result X Stop) (made : Result Y Stop) → length u ≤ length old
+    → Trail (Branch d) (P of.Arms ∷ []) (armed d formula) old u → Reads (Arm d) arms u new r
+    → OfRead r made (λ a i. view i ≡ said.choose formula (block_of (arms a).yes_part) (block_of (arms a).no_part)) → Reads (Branch d) view old new made
+branch_made arms view d old u new formula (Ok a) (Ok i) le first b is = rw is (branch_read d old u new formula (arms a).yes_part (arms a).no_part le first b)
+branch_made arms view d old u new formula (Ok a) (Err e) le first b is = absurd is
+branch_made arms view d old u new formula (Err e) made le first b is = rw is (branch_refused d old u formula e first b)
 
 -- an `if` and what follows it
 pub if_front : {X : Type 0} (view : X → InstrData) (d : ℕ) (r : Result X Stop) (t : Piece) (old u new : List Piece) → old ≡ t ∷ u → SeesKind If old → nat_lt d MAX_IFS ≡ true
@@ -128,6 +139,11 @@ pub found_front : {X : Type 0} (n next : of.Part) (front : X → Value next → 
     → r ≡ found_of read → ReadsFront n next front old new read → ReadsNext n next front none old new r
 found_front n next front none (Ok x) r old new e h = rw e h
 found_front n next front none (Err s) r old new e h = rw e h
+
+-- what holds where something was read holds where it was found
+pub found_room : {X : Type 0} (read : Result X Stop) (r : Result (Option X) Stop) (R : Type 0) → r ≡ found_of read → OnOk read R → OnOk r R
+found_room (Ok x) r R e h = rw e h
+found_room (Err s) r R e h = rw e tt
 
 -- an `else` and its block
 pub else_block : {X : Type 0} (view : X → List InstrData) (d : ℕ) (r : Result X Stop) (t : Piece) (old u new : List Piece) → old ≡ t ∷ u → t.kind ≡ Else

@@ -1,3 +1,4 @@
+pub mod Args
 pub mod Asked
 pub mod Behind
 pub mod Bracketed

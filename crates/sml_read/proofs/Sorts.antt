@@ -1,11 +1,19 @@
 -- A parameter is read as its kind, and then the rest.
-use Rattle.std.proofs.Common.{◌≡◌, ℕ, List, [], ◌∷◌, refl}
+use Rattle.std.proofs.Common.{◌≡◌, ℕ, List, [], ◌∷◌, refl, ap, length, nat_lt, true, false, arith}
 use Rattle.sml_tree.specs.declared.token_kind.TokenKind.{TokenKind}
-use Rattle.sml_tree.specs.declared.token_kind.TokenKind.TheVariants.{Class}
+use Rattle.sml_tree.specs.declared.token_kind.TokenKind.TheVariants.{Class, IntKind, StringKind}
 use Rattle.sml_tree.specs.Piece.{Piece}
 use Rattle.sml_tree.specs.Form as of
 use Rattle.sml_tree.specs.Form.{Bone, B, P, Form, Part, Value, calls, family, ◌>>=◌}
 use Rattle.sml_tree.specs.Grammar.{rules, class_param, action_param}
+use Rattle.sml_tree.specs.declared.file.Kind.{Kind}
+use Rattle.sml_tree.specs.declared.file.Kind.TheVariants.{Int, Str}
+use Rattle.sml_read.specs.declared.fault.Fault.TheVariants.{TooMany}
+use Rattle.sml_read.specs.Asks.{word_of}
+use Rattle.sml_read.specs.Reads.{Refuses, SeesKind}
+use Rattle.sml_read.proofs.Heads.{Read}
+use Rattle.sml_read.proofs.Steps.{seen}
+use Rattle.sml_tree.specs.declared.limits.TheConstants.{MAX_PARAMETERS}
 use Rattle.sml_read.specs.Machine.{chosen, Move, Stuck, take_rule, or_else, run}
 
 -- what a token does to a part that may not be left out
@@ -31,3 +39,13 @@ pub action_param_run : (n : ℕ) (g : Part) (more : List Bone) (k : Value (of.Ac
     → run g (P of.ActionParams ∷ more) (calls (of.ActionParam n) k) ts ≡ run g _ (calls (of.Sort n) (λ sort. action_param sort >>= k)) ts
 action_param_run n g more k [] = refl
 action_param_run n g more k (t ∷ ts) = rw (action_param_moved n g more k t t.kind) refl
+
+-- a parameter too many
+pub sort_full : (kind : Kind) (n : ℕ) (t : Piece) (old new : List Piece) → old ≡ t ∷ new → SeesKind (word_of kind) old → nat_lt n MAX_PARAMETERS ≡ false → Refuses (of.Sort n) old (TooMany t.at)
+sort_full Int n t old new e sees full = let kind = seen IntKind t old new e sees in λ g more k. rw (e, kind, full) refl
+sort_full Str n t old new e sees full = let kind = seen StringKind t old new e sees in λ g more k. rw (e, kind, full) refl
+
+-- the kind of a parameter
+pub sort_read : (kind : Kind) (n : ℕ) (t : Piece) (old new : List Piece) → old ≡ t ∷ new → SeesKind (word_of kind) old → nat_lt n MAX_PARAMETERS ≡ true → Read (of.Sort n) kind old new
+sort_read Int n t old new e sees room = let kind = seen IntKind t old new e sees in (omega (arith, ap length e), λ g more k. rw (e, kind, room) refl)
+sort_read Str n t old new e sees room = let kind = seen StringKind t old new e sees in (omega (arith, ap length e), λ g more k. rw (e, kind, room) refl)

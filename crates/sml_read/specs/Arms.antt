@@ -4,7 +4,8 @@ use Rattle.sml_tree.specs.Piece.{Piece}
 use Rattle.sml_tree.specs.Syntax.{CondData, choose}
 use Rattle.sml_tree.specs.Form.{P, Form, Arms as Armed, Branch, Arm, Two, Value, part, gives, ◌>>=◌}
 use Rattle.sml_tree.specs.Content.{instr_content, block_of}
-use Rattle.sml_read.specs.declared.block.Arms.{Arms}
+use Rattle.sml_tree.specs.declared.block.Block.{Block}
+use Rattle.sml_read.specs.declared.make.Arms.{Arms}
 use Rattle.sml_read.specs.declared.fault.Stop.{Stop}
 use Rattle.sml_read.specs.Reads.{Stops}
 use Rattle.sml_read.specs.Trails.{Trail}
@@ -12,6 +13,10 @@ use Rattle.sml_read.specs.Trails.{Trail}
 -- what the two blocks say
 abbrev pub arms_content : {A : Type 0} → Arms A → Two
 arms_content a = record { yes_part = map instr_content a.yes.instrs.items; no_part = map instr_content a.no.instrs.items }
+
+-- two blocks
+abbrev pub arms_of : {A : Type 0} → Block A → Block A → Arms A
+arms_of yes' no' = record { yes = yes'; no = no' }
 
 -- the rest of an `if` behind its condition
 abbrev pub armed : (depth : ℕ) → CondData → Form (Value (Branch depth)) (P Armed ∷ [])

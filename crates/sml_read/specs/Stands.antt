@@ -45,3 +45,8 @@ ReadsLimited limit before old new (Err (stop.Fault f)) = (g : Part) (more : List
 abbrev pub Deeper : {X : Type 0} → (limit depth : ℕ) → List Piece → List Piece → Result X Stop → Type 0
 Deeper limit depth old new (Ok x) = (t : Piece) × (old ≡ t ∷ new) × (nat_lt depth limit ≡ true)
 Deeper limit depth old new (Err e) = (t : Piece) × (old ≡ t ∷ new) × (nat_lt depth limit ≡ false) × (e ≡ stop.Fault (TooDeep t.at))
+
+-- what was read before it, if anything was, is handed on in another form, where a token of this kind stands behind it
+abbrev pub Ends : {X Y : Type 0} → TokenKind → List Piece → List Piece → (X → Y) → Result X Stop → Result Y Stop → Type 0
+Ends kind old new form (Ok x) made = Closes kind old new (form x) made
+Ends kind old new form (Err e) made = made ≡ Err e

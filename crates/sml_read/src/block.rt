@@ -1,15 +1,17 @@
 //! Instructions.
 ghost use Rattle.std.specs.Prelude.{◌≤◌, ◌<◌, [], ◌∷◌, map, Ok, IfOk};
-ghost use Rattle.sml_tree.specs.Form.{Literal as Literal', Arg as Arg', Every, Passed as Passed', ArgList, Branch, Arm, Block as Block'};
+ghost use Rattle.sml_tree.specs.Form.{Literal as Literal', Arg as Arg', Every, Passed as Passed', ArgList, Arm, Block as Block'};
 ghost use Rattle.sml_tree.specs.Form.{Else};
 ghost use Rattle.sml_tree.specs.Content.{literal_content, arg_content, passed_content, cond_content, instr_content};
 ghost use Rattle.sml_tree.specs.declared.token_kind.TokenKind.TheVariants as kinds;
 ghost use Rattle.sml_read.specs.Reads.{Reads, ReadsNext, ReadsFront, SeesKind};
-ghost use Rattle.sml_read.specs.Arms.{arms_content, ReadsAskedFor};
+ghost use Rattle.sml_read.specs.Arms.{arms_content, arms_of, ReadsAskedFor};
+ghost use Rattle.sml_read.specs.Stands.{Lacks, Ends};
 ghost use Rattle.sml_tree.specs.declared.limits.TheConstants.{MAX_ARGUMENTS, MAX_IFS};
 
 use crate::fault::Stop;
 use crate::make;
+use crate::make::Arms;
 use crate::reader::Reader;
 use sml_tree::block::{Block, Instr};
 use sml_tree::cond::Cond;
@@ -17,13 +19,6 @@ use sml_tree::limits::{MAX_ARGUMENTS, MAX_IFS};
 use sml_tree::literal::{Arg, Literal, Passed};
 use sml_tree::token_kind::TokenKind;
 use std::alloc::Allocator;
-
-/// The two blocks of an `if`.
-#[derive(Drop)]
-pub(crate) struct Arms<A: Allocator + Clone> {
-    pub yes: Block<A>,
-    pub no: Block<A>,
-}
 
 impl Reader<'_> {
     /// A value that is written out.
@@ -44,15 +39,10 @@ impl Reader<'_> {
     fn arg<A: Allocator + Clone>(&mut self, alloc: &A) -> Result<Arg<A>, Stop>
         ensures { Reads Arg' arg_content self.old self.new result }
     {
-        match self.peek() {
-            Some(TokenKind::Int) => Ok(Arg::Lit(Literal::Int(self.take().int()))),
-            Some(TokenKind::Str) => {
-                let held = self.take();
-                Ok(Arg::Lit(Literal::Str(Vec::from_slice(alloc.clone()?, held.bytes())?)))
-            }
-            Some(TokenKind::Name) => Ok(Arg::Param(self.take().name())),
-            _ => Err(self.refusal()),
+        if self.stands(TokenKind::Name) {
+            return Ok(Arg::Param(self.take().name()));
         }
+        make::written(self.literal(alloc))
     }
 
     /// Whether `all_in` stands here.
@@ -138,6 +128,48 @@ impl Reader<'_> {
         Ok(make::terminate(state))
     }
 
+    /// The next instruction of a block, where one stands there that is no `if`.
+    fn plain<A: Allocator + Clone>(
+        &mut self,
+        alloc: &A,
+        depth: u32,
+    ) -> Result<Option<Instr<A>>, Stop>
+        requires { Lacks kinds.If self.old }
+        ensures { ReadsNext (Block' depth) (Block' depth) (λ i v. instr_content i ∷ v) [] self.old self.new result }
+    {
+        match self.peek() {
+            Some(TokenKind::Do) => make::found(self.send(alloc, depth)),
+            Some(TokenKind::Set) => make::found(self.assignment(alloc, depth)),
+            Some(TokenKind::MoveTo) => make::found(self.movement(depth)),
+            Some(TokenKind::TerminateAction) => make::found(self.termination(depth)),
+            _ => Ok(None),
+        }
+    }
+
+    /// The condition of an `if`, in its brackets.
+    fn asked_for<A: Allocator + Clone>(&mut self, alloc: &A) -> Result<Cond<A>, Stop>
+        ensures { ReadsAskedFor cond_content self.old self.new result }
+    {
+        self.sign(TokenKind::OpenBracket)?;
+        let mut tests = 0;
+        let cond = self.condition(alloc, 0, &mut tests);
+        self.ended(TokenKind::CloseBracket, cond)
+    }
+
+    /// The two blocks of an `if`, if the second was read and the last word stands behind it.
+    fn arms_ended<A: Allocator + Clone>(
+        &mut self,
+        yes: Block<A>,
+        no: Result<Block<A>, Stop>,
+    ) -> Result<Arms<A>, Stop>
+        ensures { Ends kinds.Endif self.old self.new (arms_of yes) no result }
+    {
+        match no {
+            Ok(no) => self.closed(TokenKind::Endif, Arms { yes, no }),
+            Err(stop) => Err(stop),
+        }
+    }
+
     /// The next instruction of a block inside so many `if`s, where one stands there.
     #[cycle(instructions)]
     fn instr<A: Allocator + Clone>(
@@ -148,14 +180,10 @@ impl Reader<'_> {
         requires { depth ≤ MAX_IFS }
         ensures { ReadsNext (Block' depth) (Block' depth) (λ i v. instr_content i ∷ v) [] self.old self.new result }
     {
-        match self.peek() {
-            Some(TokenKind::Do) => make::found(self.send(alloc, depth)),
-            Some(TokenKind::If) => make::found(self.choice(alloc, depth)),
-            Some(TokenKind::Set) => make::found(self.assignment(alloc, depth)),
-            Some(TokenKind::MoveTo) => make::found(self.movement(depth)),
-            Some(TokenKind::TerminateAction) => make::found(self.termination(depth)),
-            _ => Ok(None),
+        if self.stands(TokenKind::If) {
+            return make::found(self.choice(alloc, depth));
         }
+        self.plain(alloc, depth)
     }
 
     /// An `if`, whose word stands in front.
@@ -166,28 +194,9 @@ impl Reader<'_> {
         ensures { ReadsFront (Block' depth) (Block' depth) (λ i v. instr_content i ∷ v) self.old self.new result }
     {
         self.deeper(depth, MAX_IFS)?;
-        self.branch(alloc, depth)
-    }
-
-    /// The condition of an `if`, in its brackets.
-    fn asked_for<A: Allocator + Clone>(&mut self, alloc: &A) -> Result<Cond<A>, Stop>
-        ensures { ReadsAskedFor cond_content self.old self.new result }
-    {
-        self.expect(TokenKind::OpenBracket)?;
-        let mut tests = 0;
-        let cond = self.condition(alloc, 0, &mut tests)?;
-        self.closed(TokenKind::CloseBracket, cond)
-    }
-
-    /// What follows the word of an `if` inside so many others.
-    #[cycle(instructions)]
-    fn branch<A: Allocator + Clone>(&mut self, alloc: &A, depth: u32) -> Result<Instr<A>, Stop>
-        requires { depth < MAX_IFS }
-        ensures { Reads (Branch depth) instr_content self.old self.new result }
-    {
         let cond = self.asked_for(alloc)?;
-        let arms = self.arms(alloc, depth)?;
-        Ok(make::choose(cond, arms.yes, arms.no))
+        let arms = self.arms(alloc, depth);
+        make::chosen(cond, arms)
     }
 
     /// The two blocks of an `if`.
@@ -196,10 +205,10 @@ impl Reader<'_> {
         requires { depth < MAX_IFS }
         ensures { Reads (Arm depth) arms_content self.old self.new result }
     {
-        self.expect(TokenKind::Then)?;
+        self.sign(TokenKind::Then)?;
         let yes = self.block(alloc, depth + 1)?;
-        let no = self.otherwise(alloc, depth + 1)?;
-        self.closed(TokenKind::Endif, Arms { yes, no })
+        let no = self.otherwise(alloc, depth + 1);
+        self.arms_ended(yes, no)
     }
 
     /// The second block of an `if`, which may be left out.

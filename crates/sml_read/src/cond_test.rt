@@ -4,6 +4,8 @@ ghost use Rattle.sml_tree.specs.Form.{Sense, StateList, Names, Unit' as Operand}
 ghost use Rattle.sml_tree.specs.Content.{cond_content};
 ghost use Rattle.sml_read.specs.Reads.{Reads, SeesKind};
 ghost use Rattle.sml_read.specs.Asks.{first_of, ReadsAsked};
+ghost use Rattle.sml_read.specs.Stands.{Lacks};
+ghost use Rattle.sml_tree.specs.declared.token_kind.TokenKind.TheVariants as kinds;
 ghost use Rattle.sml_tree.specs.declared.limits.TheConstants.{MAX_TESTS};
 
 use crate::fault::{Fault, Stop};
@@ -77,7 +79,7 @@ impl Reader<'_> {
     }
 
     /// A test of one object, or of all or any of a set, whose first token stands in front.
-    pub fn test<A: Allocator + Clone>(
+    fn test<A: Allocator + Clone>(
         &mut self,
         alloc: &A,
         scope: Scope,
@@ -94,5 +96,26 @@ impl Reader<'_> {
         let states = self.state_list(alloc)?;
         *tests += 1;
         Ok(make::test(scope, name, negated, states))
+    }
+
+    /// The test that stands in front, where neither a `not` nor a bracket does.
+    pub fn tested<A: Allocator + Clone>(
+        &mut self,
+        alloc: &A,
+        depth: u32,
+        tests: &mut u32,
+    ) -> Result<Cond<A>, Stop>
+        requires no_not { Lacks kinds.Not self.old }
+        requires no_bracket { Lacks kinds.OpenBracket self.old }
+        requires tests { tests.old ≤ MAX_TESTS }
+        ensures read { Reads (Operand depth tests.old) (λ c. record { formula = cond_content c; count = tests.new }) self.old self.new result }
+        ensures room { OnOk result (tests.new ≤ MAX_TESTS) }
+    {
+        match self.peek() {
+            Some(TokenKind::Name) => self.test(alloc, Scope::One, depth, tests),
+            Some(TokenKind::AllIn) => self.test(alloc, Scope::All, depth, tests),
+            Some(TokenKind::AnyIn) => self.test(alloc, Scope::Any, depth, tests),
+            _ => Err(self.refusal()),
+        }
     }
 }

@@ -1,6 +1,6 @@
 //! Conditions.
 ghost use Rattle.std.specs.Prelude.{◌≡◌, ◌≤◌, ◌<◌, OnOk};
-ghost use Rattle.sml_tree.specs.Form.{Unit' as Operand, Conj, MoreAnd, MoreOr};
+ghost use Rattle.sml_tree.specs.Form.{Unit' as Operand, Conj};
 ghost use Rattle.sml_tree.specs.Form.{Cond as Cond'};
 ghost use Rattle.sml_tree.specs.Content.{cond_content};
 ghost use Rattle.sml_tree.specs.declared.token_kind.TokenKind.TheVariants as kinds;
@@ -10,13 +10,15 @@ ghost use Rattle.sml_tree.specs.declared.limits.TheConstants.{MAX_OPEN, MAX_TEST
 use crate::fault::Stop;
 use crate::make;
 use crate::reader::Reader;
-use sml_tree::cond::{Cond, Scope};
+use sml_tree::cond::Cond;
 use sml_tree::limits::MAX_OPEN;
 use sml_tree::token_kind::TokenKind;
 use std::alloc::Allocator;
 
 impl Reader<'_> {
     /// An operand inside so many open `not`s and brackets: a `not`, a bracket or a test.
+    ///
+    /// What may recurse hands on what it read, an error too, so that no condition is held at a way out.
     #[cycle(conditions)]
     fn operand<A: Allocator + Clone>(
         &mut self,
@@ -29,14 +31,13 @@ impl Reader<'_> {
         ensures read { Reads (Operand depth tests.old) (λ c. record { formula = cond_content c; count = tests.new }) self.old self.new result }
         ensures room { OnOk result (tests.new ≤ MAX_TESTS) }
     {
-        match self.peek() {
-            Some(TokenKind::Not) => self.negation(alloc, depth, tests),
-            Some(TokenKind::OpenBracket) => self.bracket(alloc, depth, tests),
-            Some(TokenKind::Name) => self.test(alloc, Scope::One, depth, tests),
-            Some(TokenKind::AllIn) => self.test(alloc, Scope::All, depth, tests),
-            Some(TokenKind::AnyIn) => self.test(alloc, Scope::Any, depth, tests),
-            _ => Err(self.refusal()),
+        if self.stands(TokenKind::Not) {
+            return self.negation(alloc, depth, tests);
         }
+        if self.stands(TokenKind::OpenBracket) {
+            return self.bracket(alloc, depth, tests);
+        }
+        self.tested(alloc, depth, tests)
     }
 
     /// A `not`, whose word stands in front.
@@ -54,7 +55,7 @@ impl Reader<'_> {
         ensures room { OnOk result (tests.new ≤ MAX_TESTS) }
     {
         self.deeper(depth, MAX_OPEN)?;
-        let operand = self.operand(alloc, depth + 1, tests)?;
+        let operand = self.operand(alloc, depth + 1, tests);
         make::neither(alloc, operand)
     }
 
@@ -73,8 +74,8 @@ impl Reader<'_> {
         ensures room { OnOk result (tests.new ≤ MAX_TESTS) }
     {
         self.deeper(depth, MAX_OPEN)?;
-        let inner = self.condition(alloc, depth + 1, tests)?;
-        self.closed(TokenKind::CloseBracket, inner)
+        let inner = self.condition(alloc, depth + 1, tests);
+        self.ended(TokenKind::CloseBracket, inner)
     }
 
     /// Operands with `and` between them.
@@ -90,26 +91,9 @@ impl Reader<'_> {
         ensures read { Reads (Conj depth tests.old) (λ c. record { formula = cond_content c; count = tests.new }) self.old self.new result }
         ensures room { OnOk result (tests.new ≤ MAX_TESTS) }
     {
-        let left = self.operand(alloc, depth, tests)?;
-        self.more_ands(alloc, depth, tests, left)
-    }
-
-    /// What follows the left operand of a chain of `and`.
-    #[cycle(conditions)]
-    fn more_ands<A: Allocator + Clone>(
-        &mut self,
-        alloc: &A,
-        depth: u32,
-        tests: &mut u32,
-        mut left: Cond<A>,
-    ) -> Result<Cond<A>, Stop>
-        requires depth { depth ≤ MAX_OPEN }
-        requires tests { tests.old ≤ MAX_TESTS }
-        ensures read { Reads (MoreAnd depth tests.old (cond_content left)) (λ c. record { formula = cond_content c; count = tests.new }) self.old self.new result }
-        ensures room { OnOk result (tests.new ≤ MAX_TESTS) }
-    {
+        let mut left = self.operand(alloc, depth, tests)?;
         'ands: while self.skip(TokenKind::And) {
-            let right = self.operand(alloc, depth, tests)?;
+            let right = self.operand(alloc, depth, tests);
             left = make::both(alloc, left, right)?;
         }
         Ok(left)
@@ -128,26 +112,9 @@ impl Reader<'_> {
         ensures read { Reads (Cond' depth tests.old) (λ c. record { formula = cond_content c; count = tests.new }) self.old self.new result }
         ensures room { OnOk result (tests.new ≤ MAX_TESTS) }
     {
-        let left = self.conjunction(alloc, depth, tests)?;
-        self.more_ors(alloc, depth, tests, left)
-    }
-
-    /// What follows the left operand of a chain of `or`.
-    #[cycle(conditions)]
-    fn more_ors<A: Allocator + Clone>(
-        &mut self,
-        alloc: &A,
-        depth: u32,
-        tests: &mut u32,
-        mut left: Cond<A>,
-    ) -> Result<Cond<A>, Stop>
-        requires depth { depth ≤ MAX_OPEN }
-        requires tests { tests.old ≤ MAX_TESTS }
-        ensures read { Reads (MoreOr depth tests.old (cond_content left)) (λ c. record { formula = cond_content c; count = tests.new }) self.old self.new result }
-        ensures room { OnOk result (tests.new ≤ MAX_TESTS) }
-    {
+        let mut left = self.conjunction(alloc, depth, tests)?;
         'ors: while self.skip(TokenKind::Or) {
-            let right = self.conjunction(alloc, depth, tests)?;
+            let right = self.conjunction(alloc, depth, tests);
             left = make::either(alloc, left, right)?;
         }
         Ok(left)

@@ -1,13 +1,13 @@
 //! Lists, instructions and conditions from their parts.
 ghost use Rattle.std.specs.Prelude.{◌≡◌, ◌+◌, [], ◌∷◌, ◌++◌, map, vec_len};
 ghost use Rattle.sml_tree.specs.Syntax as said;
-ghost use Rattle.sml_tree.specs.Content.{arg_content, passed_content, cond_content, instr_content, block_content};
-ghost use Rattle.sml_read.specs.Made.{OrMemory, found_of};
+ghost use Rattle.sml_tree.specs.Content.{literal_content, arg_content, passed_content, cond_content, instr_content, block_content};
+ghost use Rattle.sml_read.specs.Made.{OrMemory, MadeOf, OfRead, found_of};
 
 use crate::fault::Stop;
 use sml_tree::block::{Block, Instr};
 use sml_tree::cond::{Cond, Scope};
-use sml_tree::literal::{Arg, Passed};
+use sml_tree::literal::{Arg, Literal, Passed};
 use sml_tree::name::Name;
 use std::alloc::Allocator;
 
@@ -47,6 +47,16 @@ pub(crate) fn found<T: Drop>(read: Result<T, Stop>) -> Result<Option<T>, Stop>
 {
     match read {
         Ok(item) => Ok(Some(item)),
+        Err(stop) => Err(stop),
+    }
+}
+
+/// A value that was written out, as what is passed or set.
+pub(crate) fn written<A: Allocator + Clone>(read: Result<Literal<A>, Stop>) -> Result<Arg<A>, Stop>
+    ensures { OfRead read result (λ value arg. arg_content arg ≡ said.lit (literal_content value)) }
+{
+    match read {
+        Ok(value) => Ok(Arg::Lit(value)),
         Err(stop) => Err(stop),
     }
 }
@@ -98,11 +108,31 @@ pub(crate) fn terminate<A: Allocator + Clone>(state: Name) -> Instr<A>
     Instr::Terminate(state)
 }
 
+/// The two blocks of an `if`.
+#[derive(Drop)]
+pub(crate) struct Arms<A: Allocator + Clone> {
+    pub yes: Block<A>,
+    pub no: Block<A>,
+}
+
 /// An `if`.
-pub(crate) fn choose<A: Allocator + Clone>(cond: Cond<A>, yes: Block<A>, no: Block<A>) -> Instr<A>
+fn choose<A: Allocator + Clone>(cond: Cond<A>, yes: Block<A>, no: Block<A>) -> Instr<A>
     ensures { instr_content result ≡ said.choose (cond_content cond) (block_content yes) (block_content no) }
 {
     Instr::If { cond, yes, no }
+}
+
+/// An `if`, if its blocks were read.
+pub(crate) fn chosen<A: Allocator + Clone>(
+    cond: Cond<A>,
+    arms: Result<Arms<A>, Stop>,
+) -> Result<Instr<A>, Stop>
+    ensures { OfRead arms result (λ a i. instr_content i ≡ said.choose (cond_content cond) (block_content a.yes) (block_content a.no)) }
+{
+    match arms {
+        Ok(arms) => Ok(choose(cond, arms.yes, arms.no)),
+        Err(stop) => Err(stop),
+    }
 }
 
 /// Two conditions that stand in memory.
@@ -128,35 +158,51 @@ fn boxed<A: Allocator + Clone>(alloc: &A, left: Cond<A>, right: Cond<A>) -> Resu
     Ok(Pair { left, right })
 }
 
-/// A condition where both hold.
+/// A condition where both hold, if the second was read.
 pub(crate) fn both<A: Allocator + Clone>(
     alloc: &A,
     left: Cond<A>,
-    right: Cond<A>,
+    right: Result<Cond<A>, Stop>,
 ) -> Result<Cond<A>, Stop>
-    ensures { OrMemory result (λ c. cond_content c ≡ said.both (cond_content left) (cond_content right)) }
+    ensures { MadeOf right result (λ x c. cond_content c ≡ said.both (cond_content left) (cond_content x)) }
 {
-    let pair = boxed(alloc, left, right)?;
-    Ok(Cond::And(pair.left, pair.right))
+    match right {
+        Ok(right) => {
+            let pair = boxed(alloc, left, right)?;
+            Ok(Cond::And(pair.left, pair.right))
+        }
+        Err(stop) => Err(stop),
+    }
 }
 
-/// A condition where one of two holds.
+/// A condition where one of two holds, if the second was read.
 pub(crate) fn either<A: Allocator + Clone>(
     alloc: &A,
     left: Cond<A>,
-    right: Cond<A>,
+    right: Result<Cond<A>, Stop>,
 ) -> Result<Cond<A>, Stop>
-    ensures { OrMemory result (λ c. cond_content c ≡ said.either (cond_content left) (cond_content right)) }
+    ensures { MadeOf right result (λ x c. cond_content c ≡ said.either (cond_content left) (cond_content x)) }
 {
-    let pair = boxed(alloc, left, right)?;
-    Ok(Cond::Or(pair.left, pair.right))
+    match right {
+        Ok(right) => {
+            let pair = boxed(alloc, left, right)?;
+            Ok(Cond::Or(pair.left, pair.right))
+        }
+        Err(stop) => Err(stop),
+    }
 }
 
-/// A condition where another does not hold.
-pub(crate) fn neither<A: Allocator + Clone>(alloc: &A, inner: Cond<A>) -> Result<Cond<A>, Stop>
-    ensures { OrMemory result (λ c. cond_content c ≡ said.neither (cond_content inner)) }
+/// A condition where another does not hold, if that was read.
+pub(crate) fn neither<A: Allocator + Clone>(
+    alloc: &A,
+    inner: Result<Cond<A>, Stop>,
+) -> Result<Cond<A>, Stop>
+    ensures { MadeOf inner result (λ x c. cond_content c ≡ said.neither (cond_content x)) }
 {
-    Ok(Cond::Not(kept(alloc, inner)?))
+    match inner {
+        Ok(inner) => Ok(Cond::Not(kept(alloc, inner)?)),
+        Err(stop) => Err(stop),
+    }
 }
 
 /// A test.

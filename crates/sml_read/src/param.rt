@@ -2,7 +2,8 @@
 ghost use Rattle.std.specs.Prelude.{◌≤◌, ◌<◌, map, option_map, IfOk};
 ghost use Rattle.sml_tree.specs.Form.{Sort, Default, ClassParam as ClassParam', ClassParamList, ActionParam as ActionParam', ActionParamList};
 ghost use Rattle.sml_tree.specs.Content.{literal_content, class_param_content, action_param_content};
-ghost use Rattle.sml_read.specs.Reads.{Reads};
+ghost use Rattle.sml_read.specs.Reads.{Reads, SeesKind};
+ghost use Rattle.sml_read.specs.Asks.{word_of};
 ghost use Rattle.sml_tree.specs.declared.limits.TheConstants.{MAX_PARAMETERS};
 
 use crate::fault::{Fault, Stop};
@@ -15,6 +16,20 @@ use sml_tree::token_kind::TokenKind;
 use std::alloc::Allocator;
 
 impl Reader<'_> {
+    /// The kind of a parameter whose word stands in front, and which has so many before it.
+    fn sort_of(&mut self, kind: Kind, before: usize) -> Result<Kind, Stop>
+        requires at_word { SeesKind (word_of kind) self.old }
+        requires before { before ≤ MAX_PARAMETERS }
+        ensures read { Reads (Sort before) (λ kind. kind) self.old self.new result }
+        ensures room { IfOk result (λ kind. before < MAX_PARAMETERS) }
+    {
+        let held = self.take();
+        if before >= MAX_PARAMETERS {
+            return Err(Stop::Fault(Fault::TooMany(held.at())));
+        }
+        Ok(kind)
+    }
+
     /// The kind of a parameter that has so many before it.
     fn sort(&mut self, before: usize) -> Result<Kind, Stop>
         requires { before ≤ MAX_PARAMETERS }
@@ -22,20 +37,8 @@ impl Reader<'_> {
         ensures room { IfOk result (λ kind. before < MAX_PARAMETERS) }
     {
         match self.peek() {
-            Some(TokenKind::IntKind) => {
-                let held = self.take();
-                if before >= MAX_PARAMETERS {
-                    return Err(Stop::Fault(Fault::TooMany(held.at())));
-                }
-                Ok(Kind::Int)
-            }
-            Some(TokenKind::StringKind) => {
-                let held = self.take();
-                if before >= MAX_PARAMETERS {
-                    return Err(Stop::Fault(Fault::TooMany(held.at())));
-                }
-                Ok(Kind::Str)
-            }
+            Some(TokenKind::IntKind) => self.sort_of(Kind::Int, before),
+            Some(TokenKind::StringKind) => self.sort_of(Kind::Str, before),
             _ => Err(self.refusal()),
         }
     }

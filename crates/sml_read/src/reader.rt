@@ -3,7 +3,7 @@ ghost use Rattle.std.specs.Prelude.{◌≡◌, ◌≤◌, ◌+◌, ◌^◌, List
 ghost use Rattle.sml_tree.specs.Piece.{Piece};
 ghost use Rattle.sml_read.specs.Left.{left, led};
 ghost use Rattle.sml_read.specs.Reads.{ReadsToken, Sees, Refusal, IfFault};
-ghost use Rattle.sml_read.specs.Stands.{Stands, Skips, Closes, IsTaken, ReadsLimited};
+ghost use Rattle.sml_read.specs.Stands.{Stands, Skips, Closes, Ends, IsTaken, ReadsLimited};
 ghost use Rattle.sml_tree.specs.declared.token_kind.TokenKind.TheVariants as kinds;
 
 use crate::fault::{Fault, Stop};
@@ -151,6 +151,16 @@ impl Reader<'_> {
     {
         self.expect(kind)?;
         Ok(inner)
+    }
+
+    /// What was read, if anything was and a token of this kind stands behind it.
+    pub fn ended<T: Drop>(&mut self, kind: TokenKind, read: Result<T, Stop>) -> Result<T, Stop>
+        ensures { Ends kind self.old self.new (λ x. x) read result }
+    {
+        match read {
+            Ok(inner) => self.closed(kind, inner),
+            Err(stop) => Err(stop),
+        }
     }
 
     /// Takes a token of this kind, of which nothing more is wanted: the caller holds no token.

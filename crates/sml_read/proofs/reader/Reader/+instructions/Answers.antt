@@ -1,6 +1,6 @@
-use Rattle.std.proofs.Common.{[], ◌∷◌, ◌++◌, map, length, ap, refl, arith}
+use Rattle.std.proofs.Common.{Err, [], ◌∷◌, ◌++◌, map, length, ap, refl, arith}
 use Rattle.std.proofs.lemmas.List.{append-nil}
-use Rattle.sml_read.proofs.Choices.{arms_closed, arms_err, arms_word_err, arms_yes_err, branch_read, branch_refused, if_deep, if_front, else_left_out, else_block, found_front}
+use Rattle.sml_read.proofs.Choices.{arms_closed, arms_word_err, arms_yes_err, branch_made, if_deep, if_front, else_left_out, else_block, found_front}
 use Rattle.sml_read.proofs.Stopped.{handed}
 use Rattle.sml_read.specs.Arms.{arms_content}
 use Rattle.sml_tree.specs.Content.{instr_content}
@@ -21,46 +21,38 @@ block-more-preserved g t c =
 
 pub arms-returns : goal.arms-returns
 arms-returns g t c =
-    arms_closed arms_content c.args.depth c.args.self.now c.expect.new.self c.block.new.self c.otherwise.new.self c.closed.new.self c.in_ok-expect.field-0 _ c.closed.result _ _
-    c.in_ok-expect.ensures.0 c.in_ok-expect.ensures.1 refl c.in_ok-yes.ensures c.in_ok-no.ensures c.closed.ensures
+    arms_closed arms_content _ _ c.args.depth c.args.self.now c.sign.new.self c.block.new.self c.otherwise-no.new.self c.arms_ended.new.self c.in_ok-sign.ensures.read.0 c.otherwise-no.result c.arms_ended.result _
+    (λ z. refl) (c.in_ok-sign.ensures.read.1, c.in_ok-sign.ensures.read.2) c.in_ok-yes.ensures c.otherwise-no.ensures c.arms_ended.ensures
 
-pub arms-returns-in_err-expect : goal.arms-returns-in_err-expect
-arms-returns-in_err-expect g t c =
-    rw (handed _ c.in_err-expect.field-0.0 c.from_residual.ensures.1)
-    (arms_word_err c.args.depth c.args.self.now c.expect.new.self c.in_err-expect.field-0.0 c.in_err-expect.ensures)
+pub arms-returns-in_err-sign : goal.arms-returns-in_err-sign
+arms-returns-in_err-sign g t c =
+    rw (handed _ c.in_err-sign.field-0.0 c.from_residual.ensures.1)
+    (arms_word_err c.args.depth c.args.self.now c.sign.new.self c.in_err-sign.field-0.0 c.in_err-sign.ensures.none)
 
 pub arms-returns-in_err-yes : goal.arms-returns-in_err-yes
 arms-returns-in_err-yes g t c =
+    let word = c.in_ok-sign.ensures.read in
     rw (handed _ c.in_err-yes.field-0.0 c.from_residual-in_err-yes.ensures.1)
-    (arms_yes_err c.args.depth c.args.self.now c.expect.new.self c.in_ok-expect.field-0 c.in_err-yes.field-0.0 c.in_ok-expect.ensures c.in_err-yes.ensures)
+    (arms_yes_err c.args.depth c.args.self.now c.sign.new.self word.0 c.in_err-yes.field-0.0 (word.1, word.2) c.in_err-yes.ensures)
 
-pub arms-returns-in_err-no : goal.arms-returns-in_err-no
-arms-returns-in_err-no g t c =
-    rw (handed _ c.in_err-no.field-0.0 c.from_residual-in_err-no.ensures.1)
-    (arms_err c.args.depth c.args.self.now c.expect.new.self c.block.new.self c.in_ok-expect.field-0 _ c.in_err-no.field-0.0 c.in_ok-expect.ensures.0 c.in_ok-expect.ensures.1 c.in_ok-yes.ensures c.in_err-no.ensures)
-
-pub branch-returns : goal.branch-returns
-branch-returns g t c =
-    let reads = branch_read c.args.depth c.args.self.now c.asked_for.new.self c.arms.new.self _ _ _ c.in_ok-cond.ensures.0 (c.in_ok-cond.ensures.1 c.args.depth) c.in_ok-arms.ensures in
-    rw c.choose.ensures reads
-
-pub branch-returns-in_err-cond : goal.branch-returns-in_err-cond
-branch-returns-in_err-cond g t c = rw (handed _ c.in_err-cond.field-0.0 c.from_residual.ensures.1) (c.in_err-cond.ensures c.args.depth)
-
-pub branch-returns-in_err-arms : goal.branch-returns-in_err-arms
-branch-returns-in_err-arms g t c =
-    rw (handed _ c.in_err-arms.field-0.0 c.from_residual-in_err-arms.ensures.1)
-    (branch_refused c.args.depth c.args.self.now c.asked_for.new.self _ c.in_err-arms.field-0.0 (c.in_ok-cond.ensures.1 c.args.depth) c.in_err-arms.ensures)
+pub choice-returns : goal.choice-returns
+choice-returns g t c =
+    let word = c.in_ok-deeper.ensures in
+    if_front instr_content c.args.depth c.chosen.result word.0 c.args.self.now c.deeper.new.self c.arms-arms.new.self word.1 c.requires.at_if word.2
+    (branch_made arms_content instr_content c.args.depth c.deeper.new.self c.asked_for.new.self c.arms-arms.new.self _ c.arms-arms.result c.chosen.result
+    c.in_ok-cond.ensures.0 (c.in_ok-cond.ensures.1 c.args.depth) c.arms-arms.ensures c.chosen.ensures)
 
 pub choice-returns-in_err-deeper : goal.choice-returns-in_err-deeper
 choice-returns-in_err-deeper g t c =
     let deep = c.in_err-deeper.ensures in
     rw (handed _ c.in_err-deeper.field-0.0 c.from_residual.ensures.1, deep.3) (if_deep c.args.depth deep.0 c.args.self.now c.deeper.new.self deep.1 c.requires.at_if deep.2)
 
-pub choice-returns : goal.choice-returns
-choice-returns g t c =
+pub choice-returns-in_err-cond : goal.choice-returns-in_err-cond
+choice-returns-in_err-cond g t c =
     let word = c.in_ok-deeper.ensures in
-    if_front instr_content c.args.depth c.branch-self.result word.0 c.args.self.now c.deeper.new.self c.branch-self.new.self word.1 c.requires.at_if word.2 c.branch-self.ensures
+    let e = c.in_err-cond.field-0.0 in
+    rw (handed _ e c.from_residual-in_err-cond.ensures.1)
+    (if_front (instr_content {A = g.row.A.Denot}) c.args.depth (Err e) word.0 c.args.self.now c.deeper.new.self c.asked_for.new.self word.1 c.requires.at_if word.2 (c.in_err-cond.ensures c.args.depth))
 
 pub otherwise-returns : goal.otherwise-returns
 otherwise-returns g t c =
@@ -84,18 +76,6 @@ block-returns-in_err-instr g t c =
     rw (handed _ c.in_err-instr.field-0.0 c.from_residual-in_err-instr.ensures.1)
     (read_err (Block c.args.depth) (Block c.args.depth) (λ v. map instr_content c.more.instrs.items ++ v) c.args.self.now c.more.self c.in_err-instr.field-0.0 c.more.invariant.1 c.in_err-instr.ensures)
 
--- an instruction of each kind
-pub instr-returns-in-Some-Do : goal.instr-returns-in-Some-Do
-instr-returns-in-Some-Do g t c = found_front (Block c.args.depth) (Block c.args.depth) (λ i v. instr_content i ∷ v) [] c.send.result c.found.result c.args.self.now c.send.new.self c.found.ensures c.send.ensures
-
-pub instr-returns-in-Some-If : goal.instr-returns-in-Some-If
-instr-returns-in-Some-If g t c = found_front (Block c.args.depth) (Block c.args.depth) (λ i v. instr_content i ∷ v) [] c.choice.result c.found-in-Some-If.result c.args.self.now c.choice.new.self c.found-in-Some-If.ensures c.choice.ensures
-
-pub instr-returns-in-Some-Set : goal.instr-returns-in-Some-Set
-instr-returns-in-Some-Set g t c = found_front (Block c.args.depth) (Block c.args.depth) (λ i v. instr_content i ∷ v) [] c.assignment.result c.found-in-Some-Set.result c.args.self.now c.assignment.new.self c.found-in-Some-Set.ensures c.assignment.ensures
-
-pub instr-returns-in-Some-MoveTo : goal.instr-returns-in-Some-MoveTo
-instr-returns-in-Some-MoveTo g t c = found_front (Block c.args.depth) (Block c.args.depth) (λ i v. instr_content i ∷ v) [] c.movement.result c.found-in-Some-MoveTo.result c.args.self.now c.movement.new.self c.found-in-Some-MoveTo.ensures c.movement.ensures
-
-pub instr-returns-in-Some-TerminateAction : goal.instr-returns-in-Some-TerminateAction
-instr-returns-in-Some-TerminateAction g t c = found_front (Block c.args.depth) (Block c.args.depth) (λ i v. instr_content i ∷ v) [] c.termination.result c.found-in-Some-TerminateAction.result c.args.self.now c.termination.new.self c.found-in-Some-TerminateAction.ensures c.termination.ensures
+-- an `if` stands there
+pub instr-returns-then-stands : goal.instr-returns-then-stands
+instr-returns-then-stands g t c = found_front (Block c.args.depth) (Block c.args.depth) (λ i v. instr_content i ∷ v) [] c.choice.result c.found.result c.args.self.now c.choice.new.self c.found.ensures c.choice.ensures

@@ -6,22 +6,19 @@ use Rattle.sml_read.proofs.reader.Reader.+instructions.Given as goal
 use Rattle.sml_tree.specs.declared.limits.TheConstants.{MAX_IFS}
 
 abbrev pub decreases-otherwise : goal.decreases-otherwise
-decreases-otherwise g l = 6 * (MAX_IFS - l.depth) + 4
+decreases-otherwise g l = 5 * (MAX_IFS - l.depth) + 3
 
 abbrev pub decreases-block : goal.decreases-block
-decreases-block g l = 6 * (MAX_IFS - l.depth) + 3
+decreases-block g l = 5 * (MAX_IFS - l.depth) + 2
 
 abbrev pub decreases-instr : goal.decreases-instr
-decreases-instr g l = 6 * (MAX_IFS - l.depth) + 2
+decreases-instr g l = 5 * (MAX_IFS - l.depth) + 1
 
 abbrev pub decreases-choice : goal.decreases-choice
-decreases-choice g l = 6 * (MAX_IFS - l.depth) + 1
-
-abbrev pub decreases-branch : goal.decreases-branch
-decreases-branch g l = 6 * (MAX_IFS - l.depth)
+decreases-choice g l = 5 * (MAX_IFS - l.depth)
 
 abbrev pub decreases-arms : goal.decreases-arms
-decreases-arms g l = 6 * (15 - l.depth) + 5
+decreases-arms g l = 5 * (15 - l.depth) + 4
 
 -- what was read stands before what is left
 abbrev pub invariant-block-more : goal.invariant-block-more

@@ -1,7 +1,7 @@
 use Rattle.std.proofs.Common.{[], ◌∷◌}
 use Rattle.sml_tree.specs.Content.{item_content}
 use Rattle.sml_read.specs.Counts.{file_part}
-use Rattle.sml_read.proofs.Choices.{found_front}
+use Rattle.sml_read.proofs.Choices.{found_front, found_room}
 use Rattle.sml_read.proofs.reader.Reader.next_item.Goals as goal
 
 pub returns-in-Some-Class-clause-next : goal.returns-in-Some-Class-clause-next
@@ -15,3 +15,13 @@ returns-in-Some-Object-clause-next g c =
 pub returns-in-Some-ObjectSet-clause-next : goal.returns-in-Some-ObjectSet-clause-next
 returns-in-Some-ObjectSet-clause-next g c =
     found_front (file_part c.args.counts.now) (file_part c.set.new.counts) (λ i v. item_content i ∷ v) [] c.set.result c.found-in-Some-ObjectSet.result c.args.self.now c.set.new.self c.found-in-Some-ObjectSet.ensures c.set.ensures.next
+
+-- the counts stay within their limits
+pub returns-in-Some-Class-clause-within : goal.returns-in-Some-Class-clause-within
+returns-in-Some-Class-clause-within g c = found_room c.class.result c.found.result _ c.found.ensures c.class.ensures.within
+
+pub returns-in-Some-Object-clause-within : goal.returns-in-Some-Object-clause-within
+returns-in-Some-Object-clause-within g c = found_room c.object.result c.found-in-Some-Object.result _ c.found-in-Some-Object.ensures c.object.ensures.within
+
+pub returns-in-Some-ObjectSet-clause-within : goal.returns-in-Some-ObjectSet-clause-within
+returns-in-Some-ObjectSet-clause-within g c = found_room c.set.result c.found-in-Some-ObjectSet.result _ c.found-in-Some-ObjectSet.ensures c.set.ensures.within
