@@ -10,7 +10,8 @@ use Rattle.sml_tree.specs.Form.{B, P, Bone, Part, Value, Fine, needs}
 use Rattle.sml_read.specs.declared.fault.Stop.{Stop}
 use Rattle.sml_read.specs.declared.fault.Stop.TheVariants as stop
 use Rattle.sml_read.specs.Lists.{LeadsTo}
-use Rattle.sml_read.specs.Reads.{Leads, Passes, Reads, Stops}
+use Rattle.sml_read.specs.Made.{MadeOf}
+use Rattle.sml_read.specs.Reads.{IfFault, Leads, Passes, Reads, ReadsToken, Refusal, Stops}
 use Rattle.sml_read.specs.Stands.{Lacks, IsTaken, ReadsLimited, Closes}
 use Rattle.sml_read.proofs.Lists.{read_end_to, read_err_to}
 use Rattle.sml_tree.specs.declared.limits.TheConstants.{MAX_MEMBERS, MAX_NAMES}
@@ -19,6 +20,12 @@ use Rattle.sml_tree.specs.declared.limits.TheConstants.{MAX_MEMBERS, MAX_NAMES}
 pub lacking : (n : Part) (r : Rule n) (none : Value n) (old : List Piece) → rules n ≡ r ∷ [] → empty n ≡ Some none → Lacks r.kind old → Passes n none old old
 lacking n r none [] one can lacks g more k = rw can refl
 lacking n r none (t ∷ ts) one can lacks g more k = rw (one, can) (rw lacks refl)
+
+-- a token that does not stand there
+pub token_lacked : (kind : TokenKind) (e : Stop) (old new : List Piece) → Lacks kind old → IfFault e (Refusal old) → ReadsToken kind old new (Err e)
+token_lacked kind stop.Memory old new lacks fault = absurd fault
+token_lacked kind (stop.Fault f) [] new lacks fault = λ g more mark k. rw fault refl
+token_lacked kind (stop.Fault f) (t ∷ ts) new lacks fault = λ g more mark k. rw (fault, lacks) refl
 
 -- an item behind its comma
 pub class_param_more : (n : ℕ) (x : ClassParamData) (old mid new : List Piece) → IsTaken Comma old mid → Passes (of.ClassParam n) x mid new
@@ -61,6 +68,19 @@ member_refused n old mid new (stop.Fault f) taken a = λ g more k. rw (taken.1, 
 pub name_refused : (n : ℕ) (old mid new : List Piece) (e : Stop) → IsTaken Comma old mid → ReadsLimited MAX_NAMES n mid new (Err e) → Stops (of.MoreName n) old e
 name_refused n old mid new stop.Memory taken a = tt
 name_refused n old mid new (stop.Fault f) taken a = λ g more k. rw (taken.1, taken.2) (a g _ _)
+
+-- nothing was made of a name behind its comma
+pub member_not_made : {X : Type 0} (Q : List ℕ → X → Type 0) (n : ℕ) (r : Result (List ℕ) Stop) (made : Result X Stop) (old mid new : List Piece) (e : Stop) → made ≡ Err e → MadeOf r made Q → IsTaken Comma old mid
+    → ReadsLimited MAX_MEMBERS n mid new r → Stops (of.MoreMember n) old e
+member_not_made Q n r (Ok x) old mid new e none is taken a = absurd (cc none)
+member_not_made Q n (Ok w) (Err s) old mid new e none is taken a = let same : e ≡ stop.Memory = cc (none, is) in rw same tt
+member_not_made Q n (Err s') (Err s) old mid new e none is taken a = let same : e ≡ s' = cc (none, is) in rw same (member_refused n old mid new s' taken a)
+
+pub name_not_made : {X : Type 0} (Q : List ℕ → X → Type 0) (n : ℕ) (r : Result (List ℕ) Stop) (made : Result X Stop) (old mid new : List Piece) (e : Stop) → made ≡ Err e → MadeOf r made Q → IsTaken Comma old mid
+    → ReadsLimited MAX_NAMES n mid new r → Stops (of.MoreName n) old e
+name_not_made Q n r (Ok x) old mid new e none is taken a = absurd (cc none)
+name_not_made Q n (Ok w) (Err s) old mid new e none is taken a = let same : e ≡ stop.Memory = cc (none, is) in rw same tt
+name_not_made Q n (Err s') (Err s) old mid new e none is taken a = let same : e ≡ s' = cc (none, is) in rw same (name_refused n old mid new s' taken a)
 
 -- what stands behind others is refused, in a list that a sign closes
 pub read_refused_to : (n mid : Part) (close : TokenKind) (f : Value mid → Value n) (old middle : List Piece) (e : Stop) → LeadsTo n mid close f old middle → Stops mid middle e → Stops n old e

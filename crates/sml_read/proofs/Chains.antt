@@ -100,12 +100,6 @@ bracket_open d n v t old mid u new (stop.Fault f) first sees room a none =
     let kind = seen OpenBracket t old mid first sees in
     λ g more k. rw (first, kind, room) (a.1 g _ _ ∙ none g _ _ _)
 
--- where nothing was made of it, memory ran out or it is refused
-pub not_made_of : {X Y : Type 0} (Q : X → Y → Type 0) (n : Part) (view : X → Value n) (r : Result X Stop) (made : Result Y Stop) (e : Stop) (old new : List Piece) → made ≡ Err e → MadeOf r made Q → Reads n view old new r → Stops n old e
-not_made_of Q n view r (Ok y) e old new none is a = absurd (cc none)
-not_made_of Q n view (Ok x) (Err s) e old new none is a = let same : e ≡ stop.Memory = cc (none, is) in rw same tt
-not_made_of Q n view (Err s') (Err s) e old new none is a = let same : e ≡ s' = cc (none, is) in rw same a
-
 -- what holds where something was read holds where something was made of it
 pub made_room : {X Y : Type 0} (Q : X → Y → Type 0) (r : Result X Stop) (made : Result Y Stop) (R : Type 0) → MadeOf r made Q → OnOk r R → OnOk made R
 made_room Q (Ok x) (Ok y) R is h = h

@@ -1,5 +1,5 @@
 -- What is read of an item, a state or an action, by the tokens and parts that were read of it.
-use Rattle.std.proofs.Common.{◌≡◌, ◌<◌, ◌≤◌, ◌+◌, ℕ, Bool, true, false, List, [], ◌∷◌, ◌++◌, refl, ap, ◌∙◌, length, nat_lt, arith, Ok, Err}
+use Rattle.std.proofs.Common.{◌≡◌, ◌<◌, ◌≤◌, ◌+◌, ℕ, Bool, true, false, List, [], ◌∷◌, ◌++◌, refl, ap, ◌∙◌, length, nat_lt, arith, Result, Ok, Err}
 use Rattle.sml_tree.specs.declared.token_kind.TokenKind.TheVariants.{Class, Object, State, Action, Colon, Name, IsOfClass, ObjectSet, OpenBrace, CloseBrace}
 use Rattle.sml_tree.specs.Piece.{Piece}
 use Rattle.sml_tree.specs.Syntax as said
@@ -12,8 +12,9 @@ use Rattle.sml_read.specs.declared.fault.Stop.{Stop}
 use Rattle.sml_read.specs.declared.fault.Stop.TheVariants as stop
 use Rattle.sml_read.specs.declared.fault.Fault.TheVariants.{TooMany}
 use Rattle.sml_read.specs.Machine.{Goes, go_on, run}
-use Rattle.sml_read.specs.Reads.{Leads, Passes, Stops, SeesKind, ReadsToken}
+use Rattle.sml_read.specs.Reads.{Leads, Passes, Reads, Stops, SeesKind, ReadsToken}
 use Rattle.sml_read.specs.Heads.{Opens, ReadsHead}
+use Rattle.sml_read.specs.Stands.{Ends}
 use Rattle.sml_read.specs.Trails.{Trail}
 use Rattle.sml_read.proofs.Steps.{Taken, seen}
 use Rattle.sml_tree.specs.declared.limits.TheConstants.{MAX_ACTIONS, MAX_CLASSES, MAX_OBJECTS, MAX_SETS, MAX_STATES}
@@ -246,3 +247,19 @@ pub set_end_err : (c o s : ℕ) (old x y z new : List Piece) (w : List ℕ) (mem
 set_end_err c o s old x y z new w members b stop.Memory sees h open' a none = tt
 set_end_err c o s old x y z new w members b (stop.Fault f) sees h open' a none =
     λ g more k. set_trail c o s old x w sees h g more k ∙ rw open'.0 (rw open'.1 (a.1 g _ _ ∙ none g _ _ _))
+
+-- the members of a set or the brace behind them are refused
+pub set_refused : {X : Type 0} (view : X → List (List ℕ)) (c o s : ℕ) (old x y z new : List Piece) (w : List ℕ) (read made : Result X Stop) (b : Piece) (e : Stop) → made ≡ Err e → SeesKind ObjectSet old
+    → Headed s MAX_SETS old x w → Taken OpenBrace b x y → Reads of.Members view y z read → Ends CloseBrace z new (λ v. v) read made → Stops (of.File c o s) old e
+set_refused view c o s old x y z new w read (Ok v) b e none sees h open' a close = absurd (cc none)
+set_refused view c o s old x y z new w (Ok v) (Err f) b e none sees h open' a close = let same : e ≡ f = cc none in rw same (set_end_err c o s old x y z new w (view v) b f sees h open' a close)
+set_refused view c o s old x y z new w (Err d) (Err f) b e none sees h open' a close = let same : e ≡ d = cc (none, close) in rw same (set_members_err c o s old x y w b d sees h open' a)
+
+-- a set, its members and the brace behind them
+pub set_whole : {X : Type 0} (view : X → List (List ℕ)) (c o s : ℕ) (old x y z new : List Piece) (w : List ℕ) (read made : Result X Stop) (v : X) (b : Piece) → made ≡ Ok v → SeesKind ObjectSet old
+    → Headed s MAX_SETS old x w → Taken OpenBrace b x y → Reads of.Members view y z read → Ends CloseBrace z new (λ v. v) read made
+    → Ahead (of.File c o s) (of.File c o (s + 1)) (λ u. said.group (record { name = w; members = view v }) ∷ u) old new
+set_whole view c o s old x y z new w (Ok u) made v b got sees h open' a close =
+    let close' = rw got at close in
+    rw close'.0 (set_ok c o s old x y z new w (view u) b close'.1.0 sees h open' a (close'.1.1, close'.1.2))
+set_whole view c o s old x y z new w (Err d) made v b got sees h open' a close = absurd (cc (got, close))

@@ -11,6 +11,8 @@ pub mod Faulty
 pub mod Heads
 pub mod Late
 pub mod Lists
+pub mod Made
+pub mod Marks
 pub mod Naming
 pub mod Only
 pub mod Params

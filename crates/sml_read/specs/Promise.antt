@@ -1,5 +1,5 @@
 -- What a reading answers.
-use Rattle.std.specs.Prelude.{◌≡◌, ◌⊎◌, ◌≤◌, ◌<◌, ℕ, ◌^◌, nat_lt, List, length, position, Option, Some, None, Result, Ok, Err}
+use Rattle.std.specs.Prelude.{◌≡◌, ◌⊎◌, ◌≤◌, ◌<◌, ℕ, nat_lt, List, length, position, Option, Some, None, Result, Ok, Err}
 use Rattle.sml_text.specs.declared.source.Source.TheVariants.{Domain}
 use Rattle.sml_text.specs.Tokens.{Token, TokensOf, BadTokenOf}
 use Rattle.sml_tree.specs.Syntax.{ItemData}

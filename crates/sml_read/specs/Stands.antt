@@ -1,7 +1,7 @@
 -- A token that may stand in front, and one that closes what was read.
 use Rattle.std.specs.Prelude.{ℕ, ◌≡◌, ◌==◌, nat_lt, List, [], ◌∷◌, Bool, true, false, Result, Ok, Err}
 use Rattle.sml_tree.specs.declared.token_kind.TokenKind.{TokenKind}
-use Rattle.sml_tree.specs.declared.token_kind.TokenKind.TheVariants.{Name}
+use Rattle.sml_tree.specs.declared.token_kind.TokenKind.TheVariants.{Name, Slash}
 use Rattle.sml_tree.specs.Piece.{Piece}
 use Rattle.sml_tree.specs.Form.{Bone, B, Form, needs, Many, Part, Value}
 use Rattle.sml_tree.specs.Grammar.{most, name}
@@ -50,3 +50,9 @@ Deeper limit depth old new (Err e) = (t : Piece) × (old ≡ t ∷ new) × (nat_
 abbrev pub Ends : {X Y : Type 0} → TokenKind → List Piece → List Piece → (X → Y) → Result X Stop → Result Y Stop → Type 0
 Ends kind old new form (Ok x) made = Closes kind old new (form x) made
 Ends kind old new form (Err e) made = made ≡ Err e
+
+-- whether a slash and this word stand in front, which were taken where they do
+abbrev pub ReadsMark : TokenKind → List Piece → List Piece → Result Bool Stop → Type 0
+ReadsMark word old new (Ok true) = (mid : List Piece) × IsTaken Slash old mid × IsTaken word mid new
+ReadsMark word old new (Ok false) = (new ≡ old) × Lacks Slash old
+ReadsMark word old new (Err e) = (mid : List Piece) × (after : List Piece) × IsTaken Slash old mid × ReadsToken word mid after (Err e)

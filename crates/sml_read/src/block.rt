@@ -74,7 +74,7 @@ impl Reader<'_> {
         let first = self.passed(alloc, 0)?;
         let mut args = make::one(alloc, first)?;
         'more: while self.skip(TokenKind::Comma) {
-            let passed = self.passed(alloc, args.len())?;
+            let passed = self.passed(alloc, args.len());
             args = make::longer(args, passed)?;
         }
         self.closed(TokenKind::CloseBracket, args)
@@ -231,7 +231,7 @@ impl Reader<'_> {
     {
         let mut instrs = make::none(alloc)?;
         'more: while let Some(instr) = self.instr(alloc, depth)? {
-            instrs = make::longer(instrs, instr)?;
+            instrs = make::longer(instrs, Ok(instr))?;
         }
         Ok(Block { instrs })
     }

@@ -42,7 +42,7 @@ impl Reader<'_> {
         let first = self.expect(TokenKind::Name)?;
         let mut names = make::one(alloc, first.name())?;
         'more: while self.skip(TokenKind::Comma) {
-            let state = self.limited(names.len(), MAX_NAMES)?;
+            let state = self.limited(names.len(), MAX_NAMES);
             names = make::longer(names, state)?;
         }
         Ok(names)

@@ -1,7 +1,7 @@
 //! The front of a class, an object, a set, a state or an action.
 ghost use Rattle.std.specs.Prelude.{◌<◌, IfOk, IsSome, slice_get};
 ghost use Rattle.sml_read.specs.Heads.{ReadsHead};
-ghost use Rattle.sml_read.specs.Stands.{ReadsLimited, Deeper};
+ghost use Rattle.sml_read.specs.Stands.{ReadsLimited, ReadsMark, Deeper};
 
 use crate::fault::{Fault, Stop};
 use crate::reader::Reader;
@@ -46,5 +46,16 @@ impl Reader<'_> {
             return Err(Stop::Fault(Fault::TooMany(held.at())));
         }
         Ok(held.name())
+    }
+
+    /// Whether a slash and this word follow.
+    pub fn mark(&mut self, word: TokenKind) -> Result<bool, Stop>
+        ensures { ReadsMark word self.old self.new result }
+    {
+        if !self.skip(TokenKind::Slash) {
+            return Ok(false);
+        }
+        self.sign(word)?;
+        Ok(true)
     }
 }

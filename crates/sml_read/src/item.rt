@@ -28,14 +28,7 @@ impl Reader<'_> {
     fn associated(&mut self) -> Result<bool, Stop>
         ensures { Reads ClassMark (λ b. b) self.old self.new result }
     {
-        match self.peek() {
-            Some(TokenKind::Slash) => {
-                self.take();
-                self.expect(TokenKind::Associated)?;
-                Ok(true)
-            }
-            _ => Ok(false),
-        }
+        self.mark(TokenKind::Associated)
     }
 
     /// The class that stands in front, of a file that has so many items before it.
@@ -85,7 +78,7 @@ impl Reader<'_> {
         }
         let mut members = make::one(alloc, self.take().name())?;
         'more: while self.skip(TokenKind::Comma) {
-            let member = self.limited(members.len(), MAX_MEMBERS)?;
+            let member = self.limited(members.len(), MAX_MEMBERS);
             members = make::longer(members, member)?;
         }
         Ok(members)
@@ -100,8 +93,8 @@ impl Reader<'_> {
     {
         let name = self.head(counts.sets, MAX_SETS)?;
         self.sign(TokenKind::OpenBrace)?;
-        let members = self.members(alloc)?;
-        self.sign(TokenKind::CloseBrace)?;
+        let read = self.members(alloc);
+        let members = self.ended(TokenKind::CloseBrace, read)?;
         counts.sets += 1;
         Ok(Item::Group(Group { name, members }))
     }
@@ -135,7 +128,7 @@ impl Reader<'_> {
             sets: 0,
         };
         'more: while let Some(item) = self.next_item(alloc, &mut counts)? {
-            items = make::longer(items, item)?;
+            items = make::longer(items, Ok(item))?;
         }
         Ok(items)
     }

@@ -29,16 +29,21 @@ pub(crate) fn one<T: Drop, A: Allocator + Clone>(alloc: &A, item: T) -> Result<V
     Ok(items)
 }
 
-/// A list with one thing more.
+/// A list with one thing more, if it was read. So no list is held at a way out while a thing is read.
 pub(crate) fn longer<T: Drop, A: Allocator + Clone>(
     mut items: Vec<T, A>,
-    item: T,
+    item: Result<T, Stop>,
 ) -> Result<Vec<T, A>, Stop>
-    ensures items { OrMemory result (λ v. v.items ≡ items.items ++ item ∷ []) }
-    ensures len { OrMemory result (λ v. vec_len v ≡ vec_len items + 1) }
+    ensures items { MadeOf item result (λ x v. v.items ≡ items.items ++ x ∷ []) }
+    ensures len { MadeOf item result (λ x v. vec_len v ≡ vec_len items + 1) }
 {
-    items.push(item)?;
-    Ok(items)
+    match item {
+        Ok(item) => {
+            items.push(item)?;
+            Ok(items)
+        }
+        Err(stop) => Err(stop),
+    }
 }
 
 /// What was read, as something that may be missing.

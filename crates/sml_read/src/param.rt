@@ -107,7 +107,7 @@ impl Reader<'_> {
         let first = self.class_param(alloc, 0)?;
         let mut params = make::one(alloc, first)?;
         'more: while self.skip(TokenKind::Comma) {
-            let class_param = self.class_param(alloc, params.len())?;
+            let class_param = self.class_param(alloc, params.len());
             params = make::longer(params, class_param)?;
         }
         Ok(params)
@@ -126,7 +126,7 @@ impl Reader<'_> {
         let first = self.action_param(alloc, 0)?;
         let mut params = make::one(alloc, first)?;
         'more: while self.skip(TokenKind::Comma) {
-            let action_param = self.action_param(alloc, params.len())?;
+            let action_param = self.action_param(alloc, params.len());
             params = make::longer(params, action_param)?;
         }
         self.closed(TokenKind::CloseBracket, params)

@@ -100,16 +100,10 @@ impl<'a> Reader<'a> {
     pub fn expect(&mut self, kind: TokenKind) -> Result<Held<'a>, Stop>
         ensures { ReadsToken kind self.old self.new result }
     {
-        match &self.head {
-            None => Err(Stop::Fault(Fault::Ends)),
-            Some(held) => {
-                if same_kind(held.kind(), kind) {
-                    Ok(self.take())
-                } else {
-                    Err(Stop::Fault(Fault::Unexpected(held.at())))
-                }
-            }
+        if self.stands(kind) {
+            return Ok(self.take());
         }
+        Err(self.refusal())
     }
 }
 

@@ -41,7 +41,7 @@ impl Reader<'_> {
     {
         let mut actions = make::none(alloc)?;
         'more: while self.stands(TokenKind::Action) {
-            let action = self.action(alloc, actions.len())?;
+            let action = self.action(alloc, actions.len());
             actions = make::longer(actions, action)?;
         }
         Ok(actions)
@@ -51,28 +51,14 @@ impl Reader<'_> {
     fn initial_mark(&mut self) -> Result<bool, Stop>
         ensures { Reads InitialMark (λ b. b) self.old self.new result }
     {
-        match self.peek() {
-            Some(TokenKind::Slash) => {
-                self.take();
-                self.expect(TokenKind::InitialState)?;
-                Ok(true)
-            }
-            _ => Ok(false),
-        }
+        self.mark(TokenKind::InitialState)
     }
 
     /// Whether the mark of a dead state follows.
     fn dead_mark(&mut self) -> Result<bool, Stop>
         ensures { Reads DeadMark (λ b. b) self.old self.new result }
     {
-        match self.peek() {
-            Some(TokenKind::Slash) => {
-                self.take();
-                self.expect(TokenKind::DeadState)?;
-                Ok(true)
-            }
-            _ => Ok(false),
-        }
+        self.mark(TokenKind::DeadState)
     }
 
     /// What follows the first slash behind a state's name.
@@ -140,7 +126,7 @@ impl Reader<'_> {
     {
         let mut states = make::none(alloc)?;
         'more: while self.stands(TokenKind::State) {
-            let state = self.state(alloc, states.len())?;
+            let state = self.state(alloc, states.len());
             states = make::longer(states, state)?;
         }
         Ok(states)

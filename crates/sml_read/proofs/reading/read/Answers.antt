@@ -1,4 +1,4 @@
-use Rattle.std.proofs.Common.{◌≤◌, ◌^◌, ap, sym, ◌∙◌, Err, rules, length, []}
+use Rattle.std.proofs.Common.{◌≤◌, ap, sym, ◌∙◌, Err, rules, length, []}
 use Rattle.sml_text.specs.declared.source.Source.TheVariants.{Domain}
 use Rattle.sml_read.specs.declared.error.ReadErrorKind.TheVariants as kinds
 use Rattle.sml_read.specs.Promise.{refusal}

@@ -1,8 +1,8 @@
-use Rattle.std.proofs.Common.{arith, ap, ◌∙◌, length}
 use Rattle.sml_tree.specs.Content.{cond_content}
 use Rattle.sml_tree.specs.Form.{Unit', Conj, MoreAnd, Cond, MoreOr}
-use Rattle.sml_read.proofs.Chains.{not_deep, not_made, not_made_of, made_room, bracket_deep, bracket_closed, ended_room, conj_begun, conj_err, and_more, and_err, cond_begun, cond_err, or_more, or_err}
+use Rattle.sml_read.proofs.Chains.{not_deep, not_made, made_room, bracket_deep, bracket_closed, ended_room, conj_begun, conj_err, and_more, and_err, cond_begun, cond_err, or_more, or_err}
 use Rattle.sml_read.proofs.Lists.{read_err}
+use Rattle.sml_read.proofs.Made.{not_made_of}
 use Rattle.sml_read.proofs.Stopped.{handed}
 use Rattle.sml_read.proofs.reader.Reader.+conditions.Goals as goal
 

@@ -2,10 +2,11 @@ use Rattle.std.proofs.Common.{[], ◌∷◌, ◌++◌, ◌+◌, map, vec_len, le
 use Rattle.std.proofs.lemmas.List.{append-nil}
 use Rattle.sml_tree.specs.declared.token_kind.TokenKind.TheVariants.{CloseBracket}
 use Rattle.sml_tree.specs.Content.{action_param_content}
-use Rattle.sml_tree.specs.Form.{ActionParamList, MoreActionParam}
+use Rattle.sml_tree.specs.Form.{ActionParamList, MoreActionParam, ActionParam}
 use Rattle.sml_read.proofs.Lists.{read_more_to, pushed}
 use Rattle.sml_read.proofs.Behind.{lacking, list_closed, read_refused_to, action_param_more, action_param_refused}
 use Rattle.sml_read.proofs.Bracketed.{action_params_begun}
+use Rattle.sml_read.proofs.Made.{grown, not_made_of}
 use Rattle.sml_read.proofs.Stopped.{handed}
 use Rattle.sml_read.proofs.reader.Reader.action_params.Goals as goal
 
@@ -23,14 +24,16 @@ more-init g c =
 pub more-preserved : goal.more-preserved
 more-preserved g c =
     let comma = c.more-test.ensures in
-    let read = rw c.len.ensures at c.in_ok-action_param.ensures.read in
-    let made = c.in_ok-params-2.ensures in (
+    let item = c.action_param-action_param in
+    let made = grown item.result c.longer.result c.in_ok-params-2.params _ _ c.in_ok-params-2.was c.longer.ensures.items c.longer.ensures.len in
+    let read = rw (c.len.ensures, made.1) at item.ensures.read in
+    let room = rw made.1 at item.ensures.room in (
       omega (arith, ap length comma.1, read.0, c.more.invariant.0),
-      omega (arith, c.len.ensures, made.len, c.in_ok-action_param.ensures.room),
-      rw made.len (read_more_to ActionParamList (MoreActionParam (vec_len c.more.params)) (MoreActionParam (vec_len c.more.params + 1)) CloseBracket (λ v. map action_param_content c.more.params.items ++ v) (λ v. action_param_content c.in_ok-action_param.action_param ∷ v)
-          (λ v. map action_param_content c.in_ok-params-2.params.items ++ v) c.args.self.now c.more.self c.action_param-in-more.new.self c.more.invariant.2
-          (action_param_more (vec_len c.more.params) (action_param_content c.in_ok-action_param.action_param) c.more.self c.skip-in-more.new.self c.action_param-in-more.new.self comma read.1)
-          (pushed action_param_content c.more.params.items c.in_ok-params-2.params.items c.in_ok-action_param.action_param made.items)),
+      omega (arith, c.len.ensures, made.3, room),
+      rw made.3 (read_more_to ActionParamList (MoreActionParam (vec_len c.more.params)) (MoreActionParam (vec_len c.more.params + 1)) CloseBracket (λ v. map action_param_content c.more.params.items ++ v) (λ v. action_param_content made.0 ∷ v)
+          (λ v. map action_param_content c.in_ok-params-2.params.items ++ v) c.args.self.now c.more.self item.new.self c.more.invariant.2
+          (action_param_more (vec_len c.more.params) (action_param_content made.0) c.more.self c.skip-in-more.new.self item.new.self comma read.1)
+          (pushed action_param_content c.more.params.items c.in_ok-params-2.params.items made.0 made.2)),
     )
 
 -- nothing more stands there, but the bracket
@@ -41,8 +44,11 @@ returns g c =
     c.more.invariant.0 c.more.invariant.2 (lacking (MoreActionParam (vec_len c.more.params)) _ [] c.more.self refl refl none.1) (append-nil (map action_param_content c.more.params.items)) (rw none.0 at c.closed.ensures)
 
 -- the next is refused
-pub returns-in_err-action_param : goal.returns-in_err-action_param
-returns-in_err-action_param g c =
-    rw (handed _ c.in_err-action_param.field-0.0 c.from_residual-in_err-action_param.ensures.1)
-    (read_refused_to ActionParamList (MoreActionParam (vec_len c.more.params)) CloseBracket (λ v. map action_param_content c.more.params.items ++ v) c.args.self.now c.more.self c.in_err-action_param.field-0.0 c.more.invariant.2
-    (action_param_refused (vec_len c.more.params) c.more.self c.skip-in-more.new.self c.in_err-action_param.field-0.0 c.more-test.ensures (rw c.len.ensures at c.in_err-action_param.ensures.read)))
+pub returns-in_err-params-2 : goal.returns-in_err-params-2
+returns-in_err-params-2 g c =
+    let item = c.action_param-action_param in
+    let e = c.in_err-params-2.field-0.0 in
+    let refused = not_made_of _ (ActionParam (vec_len c.more.params)) action_param_content item.result c.longer.result e c.skip-in-more.new.self item.new.self c.in_err-params-2.was c.longer.ensures.items (rw c.len.ensures at item.ensures.read) in
+    rw (handed _ e c.from_residual-in_err-params-2.ensures.1)
+    (read_refused_to ActionParamList (MoreActionParam (vec_len c.more.params)) CloseBracket (λ v. map action_param_content c.more.params.items ++ v) c.args.self.now c.more.self e c.more.invariant.2
+    (action_param_refused (vec_len c.more.params) c.more.self c.skip-in-more.new.self e c.more-test.ensures refused))

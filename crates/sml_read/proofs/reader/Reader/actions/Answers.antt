@@ -4,19 +4,22 @@ use Rattle.sml_tree.specs.Content.{action_content}
 use Rattle.sml_tree.specs.Form.{Action}
 use Rattle.sml_read.proofs.Lists.{read_more, read_end, read_err, pushed}
 use Rattle.sml_read.proofs.Behind.{lacking}
+use Rattle.sml_read.proofs.Made.{grown, no_front_made}
 use Rattle.sml_read.proofs.Stopped.{handed}
 use Rattle.sml_read.proofs.reader.Reader.actions.Goals as goal
 
 -- one more was read
 pub more-preserved : goal.more-preserved
 more-preserved g c =
-    let next = rw c.len.ensures at c.in_ok-action.ensures.next in
-    let made = c.in_ok-actions-2.ensures in (
+    let item = c.action-action in
+    let made = grown item.result c.longer.result c.in_ok-actions-2.actions _ _ c.in_ok-actions-2.was c.longer.ensures.items c.longer.ensures.len in
+    let next = rw (c.len.ensures, made.1) at item.ensures.next in
+    let room = rw made.1 at item.ensures.room in (
       omega (arith, next.0, c.more.invariant.0),
-      omega (arith, c.len.ensures, made.len, c.in_ok-action.ensures.room),
-      rw made.len (read_more (Action 0) (Action (vec_len c.more.actions)) (Action (vec_len c.more.actions + 1)) (λ v. map action_content c.more.actions.items ++ v) (λ v. action_content c.in_ok-action.action ∷ v) (λ v. map action_content c.in_ok-actions-2.actions.items ++ v)
-          c.args.self.now c.more.self c.action.new.self c.more.invariant.2 next.1
-          (pushed action_content c.more.actions.items c.in_ok-actions-2.actions.items c.in_ok-action.action made.items)),
+      omega (arith, c.len.ensures, made.3, room),
+      rw made.3 (read_more (Action 0) (Action (vec_len c.more.actions)) (Action (vec_len c.more.actions + 1)) (λ v. map action_content c.more.actions.items ++ v) (λ v. action_content made.0 ∷ v) (λ v. map action_content c.in_ok-actions-2.actions.items ++ v)
+          c.args.self.now c.more.self item.new.self c.more.invariant.2 next.1
+          (pushed action_content c.more.actions.items c.in_ok-actions-2.actions.items made.0 made.2)),
     )
 
 -- nothing more stands there
@@ -28,7 +31,10 @@ returns g c = (
 )
 
 -- the next is refused
-pub returns-in_err-action : goal.returns-in_err-action
-returns-in_err-action g c =
-    rw (handed _ c.in_err-action.field-0.0 c.from_residual-in_err-action.ensures.1)
-    (read_err (Action 0) (Action (vec_len c.more.actions)) (λ v. map action_content c.more.actions.items ++ v) c.args.self.now c.more.self c.in_err-action.field-0.0 c.more.invariant.2 (rw c.len.ensures at c.in_err-action.ensures.next))
+pub returns-in_err-actions-2 : goal.returns-in_err-actions-2
+returns-in_err-actions-2 g c =
+    let item = c.action-action in
+    let e = c.in_err-actions-2.field-0.0 in
+    rw (handed _ e c.from_residual-in_err-actions-2.ensures.1)
+    (read_err (Action 0) (Action (vec_len c.more.actions)) (λ v. map action_content c.more.actions.items ++ v) c.args.self.now c.more.self e c.more.invariant.2
+    (no_front_made _ (Action (vec_len c.more.actions)) (Action (vec_len c.more.actions + 1)) (λ x v. action_content x ∷ v) item.result c.longer.result e c.more.self item.new.self c.in_err-actions-2.was c.longer.ensures.items (rw c.len.ensures at item.ensures.next)))

@@ -2,10 +2,11 @@ use Rattle.std.proofs.Common.{[], ◌∷◌, ◌++◌, ◌+◌, map, vec_len, le
 use Rattle.std.proofs.lemmas.List.{append-nil}
 use Rattle.sml_tree.specs.declared.token_kind.TokenKind.TheVariants.{CloseBracket}
 use Rattle.sml_tree.specs.Content.{passed_content}
-use Rattle.sml_tree.specs.Form.{ArgList, MorePassedArg}
+use Rattle.sml_tree.specs.Form.{ArgList, MorePassedArg, Passed}
 use Rattle.sml_read.proofs.Lists.{read_more_to, pushed}
 use Rattle.sml_read.proofs.Behind.{lacking, list_closed, read_refused_to, passed_more, passed_refused}
 use Rattle.sml_read.proofs.Bracketed.{args_begun}
+use Rattle.sml_read.proofs.Made.{grown, not_made_of}
 use Rattle.sml_read.proofs.Stopped.{handed}
 use Rattle.sml_read.proofs.reader.Reader.args.Goals as goal
 
@@ -23,14 +24,16 @@ more-init g c =
 pub more-preserved : goal.more-preserved
 more-preserved g c =
     let comma = c.more-test.ensures in
-    let read = rw c.len.ensures at c.in_ok-passed.ensures.read in
-    let made = c.in_ok-args-2.ensures in (
+    let item = c.passed-passed in
+    let made = grown item.result c.longer.result c.in_ok-args-2.args _ _ c.in_ok-args-2.was c.longer.ensures.items c.longer.ensures.len in
+    let read = rw (c.len.ensures, made.1) at item.ensures.read in
+    let room = rw made.1 at item.ensures.room in (
       omega (arith, ap length comma.1, read.0, c.more.invariant.0),
-      omega (arith, c.len.ensures, made.len, c.in_ok-passed.ensures.room),
-      rw made.len (read_more_to ArgList (MorePassedArg (vec_len c.more.args)) (MorePassedArg (vec_len c.more.args + 1)) CloseBracket (λ v. map passed_content c.more.args.items ++ v) (λ v. passed_content c.in_ok-passed.passed ∷ v)
-          (λ v. map passed_content c.in_ok-args-2.args.items ++ v) c.args.self.now c.more.self c.passed-in-more.new.self c.more.invariant.2
-          (passed_more (vec_len c.more.args) (passed_content c.in_ok-passed.passed) c.more.self c.skip-in-more.new.self c.passed-in-more.new.self comma read.1)
-          (pushed passed_content c.more.args.items c.in_ok-args-2.args.items c.in_ok-passed.passed made.items)),
+      omega (arith, c.len.ensures, made.3, room),
+      rw made.3 (read_more_to ArgList (MorePassedArg (vec_len c.more.args)) (MorePassedArg (vec_len c.more.args + 1)) CloseBracket (λ v. map passed_content c.more.args.items ++ v) (λ v. passed_content made.0 ∷ v)
+          (λ v. map passed_content c.in_ok-args-2.args.items ++ v) c.args.self.now c.more.self item.new.self c.more.invariant.2
+          (passed_more (vec_len c.more.args) (passed_content made.0) c.more.self c.skip-in-more.new.self item.new.self comma read.1)
+          (pushed passed_content c.more.args.items c.in_ok-args-2.args.items made.0 made.2)),
     )
 
 -- nothing more stands there, but the bracket
@@ -41,8 +44,11 @@ returns g c =
     c.more.invariant.0 c.more.invariant.2 (lacking (MorePassedArg (vec_len c.more.args)) _ [] c.more.self refl refl none.1) (append-nil (map passed_content c.more.args.items)) (rw none.0 at c.closed.ensures)
 
 -- the next is refused
-pub returns-in_err-passed : goal.returns-in_err-passed
-returns-in_err-passed g c =
-    rw (handed _ c.in_err-passed.field-0.0 c.from_residual-in_err-passed.ensures.1)
-    (read_refused_to ArgList (MorePassedArg (vec_len c.more.args)) CloseBracket (λ v. map passed_content c.more.args.items ++ v) c.args.self.now c.more.self c.in_err-passed.field-0.0 c.more.invariant.2
-    (passed_refused (vec_len c.more.args) c.more.self c.skip-in-more.new.self c.in_err-passed.field-0.0 c.more-test.ensures (rw c.len.ensures at c.in_err-passed.ensures.read)))
+pub returns-in_err-args-2 : goal.returns-in_err-args-2
+returns-in_err-args-2 g c =
+    let item = c.passed-passed in
+    let e = c.in_err-args-2.field-0.0 in
+    let refused = not_made_of _ (Passed (vec_len c.more.args)) passed_content item.result c.longer.result e c.skip-in-more.new.self item.new.self c.in_err-args-2.was c.longer.ensures.items (rw c.len.ensures at item.ensures.read) in
+    rw (handed _ e c.from_residual-in_err-args-2.ensures.1)
+    (read_refused_to ArgList (MorePassedArg (vec_len c.more.args)) CloseBracket (λ v. map passed_content c.more.args.items ++ v) c.args.self.now c.more.self e c.more.invariant.2
+    (passed_refused (vec_len c.more.args) c.more.self c.skip-in-more.new.self e c.more-test.ensures refused))

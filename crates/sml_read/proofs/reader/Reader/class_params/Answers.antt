@@ -1,10 +1,11 @@
 use Rattle.std.proofs.Common.{[], ◌∷◌, ◌++◌, ◌+◌, map, vec_len, length, ap, refl, arith}
 use Rattle.std.proofs.lemmas.List.{append-nil}
 use Rattle.sml_tree.specs.Content.{class_param_content}
-use Rattle.sml_tree.specs.Form.{ClassParamList, MoreClassParam}
+use Rattle.sml_tree.specs.Form.{ClassParamList, MoreClassParam, ClassParam}
 use Rattle.sml_read.proofs.Lists.{read_more, read_end, read_err, pushed}
 use Rattle.sml_read.proofs.Behind.{lacking, class_param_more, class_param_refused}
 use Rattle.sml_read.proofs.Bracketed.{class_params_begun}
+use Rattle.sml_read.proofs.Made.{grown, not_made_of}
 use Rattle.sml_read.proofs.Stopped.{handed}
 use Rattle.sml_read.proofs.reader.Reader.class_params.Goals as goal
 
@@ -22,14 +23,16 @@ more-init g c =
 pub more-preserved : goal.more-preserved
 more-preserved g c =
     let comma = c.more-test.ensures in
-    let read = rw c.len.ensures at c.in_ok-class_param.ensures.read in
-    let made = c.in_ok-params-2.ensures in (
+    let item = c.class_param-class_param in
+    let made = grown item.result c.longer.result c.in_ok-params-2.params _ _ c.in_ok-params-2.was c.longer.ensures.items c.longer.ensures.len in
+    let read = rw (c.len.ensures, made.1) at item.ensures.read in
+    let room = rw made.1 at item.ensures.room in (
       omega (arith, ap length comma.1, read.0, c.more.invariant.0),
-      omega (arith, c.len.ensures, made.len, c.in_ok-class_param.ensures.room),
-      rw made.len (read_more ClassParamList (MoreClassParam (vec_len c.more.params)) (MoreClassParam (vec_len c.more.params + 1)) (λ v. map class_param_content c.more.params.items ++ v) (λ v. class_param_content c.in_ok-class_param.class_param ∷ v)
-          (λ v. map class_param_content c.in_ok-params-2.params.items ++ v) c.args.self.now c.more.self c.class_param-in-more.new.self c.more.invariant.2
-          (class_param_more (vec_len c.more.params) (class_param_content c.in_ok-class_param.class_param) c.more.self c.skip-in-more.new.self c.class_param-in-more.new.self comma read.1)
-          (pushed class_param_content c.more.params.items c.in_ok-params-2.params.items c.in_ok-class_param.class_param made.items)),
+      omega (arith, c.len.ensures, made.3, room),
+      rw made.3 (read_more ClassParamList (MoreClassParam (vec_len c.more.params)) (MoreClassParam (vec_len c.more.params + 1)) (λ v. map class_param_content c.more.params.items ++ v) (λ v. class_param_content made.0 ∷ v)
+          (λ v. map class_param_content c.in_ok-params-2.params.items ++ v) c.args.self.now c.more.self item.new.self c.more.invariant.2
+          (class_param_more (vec_len c.more.params) (class_param_content made.0) c.more.self c.skip-in-more.new.self item.new.self comma read.1)
+          (pushed class_param_content c.more.params.items c.in_ok-params-2.params.items made.0 made.2)),
     )
 
 -- nothing more stands there
@@ -42,8 +45,11 @@ returns g c =
     )
 
 -- the next parameter is refused
-pub returns-in_err-class_param : goal.returns-in_err-class_param
-returns-in_err-class_param g c =
-    rw (handed _ c.in_err-class_param.field-0.0 c.from_residual-in_err-class_param.ensures.1)
-    (read_err ClassParamList (MoreClassParam (vec_len c.more.params)) (λ v. map class_param_content c.more.params.items ++ v) c.args.self.now c.more.self c.in_err-class_param.field-0.0 c.more.invariant.2
-    (class_param_refused (vec_len c.more.params) c.more.self c.skip-in-more.new.self c.in_err-class_param.field-0.0 c.more-test.ensures (rw c.len.ensures at c.in_err-class_param.ensures.read)))
+pub returns-in_err-params-2 : goal.returns-in_err-params-2
+returns-in_err-params-2 g c =
+    let item = c.class_param-class_param in
+    let e = c.in_err-params-2.field-0.0 in
+    let refused = not_made_of _ (ClassParam (vec_len c.more.params)) class_param_content item.result c.longer.result e c.skip-in-more.new.self item.new.self c.in_err-params-2.was c.longer.ensures.items (rw c.len.ensures at item.ensures.read) in
+    rw (handed _ e c.from_residual-in_err-params-2.ensures.1)
+    (read_err ClassParamList (MoreClassParam (vec_len c.more.params)) (λ v. map class_param_content c.more.params.items ++ v) c.args.self.now c.more.self e c.more.invariant.2
+    (class_param_refused (vec_len c.more.params) c.more.self c.skip-in-more.new.self e c.more-test.ensures refused))

@@ -1,13 +1,14 @@
-use Rattle.std.proofs.Common.{ℕ, Err, [], ◌∷◌, ◌++◌, ◌+◌, vec_len, length, ap, refl, subst, arith}
+use Rattle.std.proofs.Common.{ℕ, [], ◌∷◌, ◌++◌, ◌+◌, vec_len, length, ap, refl, subst, arith}
 use Rattle.std.proofs.lemmas.Bool.{lt-ltb}
 use Rattle.std.proofs.lemmas.List.{append-nil}
 use Rattle.sml_tree.specs.declared.token_kind.TokenKind.TheVariants.{Name}
 use Rattle.sml_tree.specs.Form.{Members, MoreMember}
 use Rattle.sml_read.specs.Stands.{ReadsLimited}
 use Rattle.sml_read.proofs.Lists.{read_more, read_end, read_err, pushed_plain}
-use Rattle.sml_read.proofs.Behind.{lacking, member_more, member_refused}
+use Rattle.sml_read.proofs.Behind.{lacking, member_more, member_not_made}
 use Rattle.sml_read.proofs.Bracketed.{members_begun}
 use Rattle.sml_read.proofs.Steps.{seen}
+use Rattle.sml_read.proofs.Made.{grown}
 use Rattle.sml_read.proofs.Stopped.{handed}
 use Rattle.sml_read.proofs.reader.Reader.members.Goals as goal
 use Rattle.sml_tree.specs.declared.limits.TheConstants.{MAX_MEMBERS}
@@ -22,15 +23,16 @@ more-init g c =
 pub more-preserved : goal.more-preserved
 more-preserved g c =
     let comma = c.more-test.ensures in
-    let room = rw c.len.ensures at c.in_ok-member.ensures.room in
-    let read = c.in_ok-member.ensures.read in
-    let made = c.in_ok-members-2.ensures in (
+    let item = c.limited-member in
+    let made = grown item.result c.longer.result c.in_ok-members-2.members _ _ c.in_ok-members-2.was c.longer.ensures.items c.longer.ensures.len in
+    let room = rw (c.len.ensures, made.1) at item.ensures.room in
+    let read = rw made.1 at item.ensures.read in (
       omega (arith, ap length comma.1, ap length read.1, c.more.invariant.0),
-      omega (arith, made.len, room),
-      rw made.len (read_more Members (MoreMember (vec_len c.more.members)) (MoreMember (vec_len c.more.members + 1)) (λ v. c.more.members.items ++ v) (λ v. c.in_ok-member.member ∷ v)
-          (λ v. c.in_ok-members-2.members.items ++ v) c.args.self.now c.more.self c.limited.new.self c.more.invariant.2
-          (member_more (vec_len c.more.members) c.in_ok-member.member c.more.self c.skip.new.self c.limited.new.self comma (lt-ltb (vec_len c.more.members) MAX_MEMBERS room) read)
-          (pushed_plain c.more.members.items c.in_ok-members-2.members.items c.in_ok-member.member made.items)),
+      omega (arith, made.3, room),
+      rw made.3 (read_more Members (MoreMember (vec_len c.more.members)) (MoreMember (vec_len c.more.members + 1)) (λ v. c.more.members.items ++ v) (λ v. made.0 ∷ v)
+          (λ v. c.in_ok-members-2.members.items ++ v) c.args.self.now c.more.self item.new.self c.more.invariant.2
+          (member_more (vec_len c.more.members) made.0 c.more.self c.skip.new.self item.new.self comma (lt-ltb (vec_len c.more.members) MAX_MEMBERS room) read)
+          (pushed_plain c.more.members.items c.in_ok-members-2.members.items made.0 made.2)),
     )
 
 -- nothing more stands there
@@ -43,9 +45,11 @@ returns g c =
     )
 
 -- the next name is refused
-pub returns-in_err-member : goal.returns-in_err-member
-returns-in_err-member g c =
-    rw (handed _ c.in_err-member.field-0.0 c.from_residual-in_err-member.ensures.1)
-    (read_err Members (MoreMember (vec_len c.more.members)) (λ v. c.more.members.items ++ v) c.args.self.now c.more.self c.in_err-member.field-0.0 c.more.invariant.2
-    (member_refused (vec_len c.more.members) c.more.self c.skip.new.self c.limited.new.self c.in_err-member.field-0.0 c.more-test.ensures
-    (subst (λ (n : ℕ). ReadsLimited MAX_MEMBERS n c.skip.new.self c.limited.new.self (Err c.in_err-member.field-0.0)) c.len.ensures c.in_err-member.ensures.read)))
+pub returns-in_err-members-2 : goal.returns-in_err-members-2
+returns-in_err-members-2 g c =
+    let item = c.limited-member in
+    let e = c.in_err-members-2.field-0.0 in
+    rw (handed _ e c.from_residual-in_err-members-2.ensures.1)
+    (read_err Members (MoreMember (vec_len c.more.members)) (λ v. c.more.members.items ++ v) c.args.self.now c.more.self e c.more.invariant.2
+    (member_not_made _ (vec_len c.more.members) item.result c.longer.result c.more.self c.skip.new.self item.new.self e c.in_err-members-2.was c.longer.ensures.items c.more-test.ensures
+    (subst (λ (n : ℕ). ReadsLimited MAX_MEMBERS n c.skip.new.self item.new.self item.result) c.len.ensures item.ensures.read)))

@@ -1,11 +1,12 @@
-use Rattle.std.proofs.Common.{ℕ, Err, [], ◌∷◌, ◌++◌, ◌+◌, vec_len, length, ap, refl, subst, arith}
+use Rattle.std.proofs.Common.{ℕ, [], ◌∷◌, ◌++◌, ◌+◌, vec_len, length, ap, refl, subst, arith}
 use Rattle.std.proofs.lemmas.Bool.{lt-ltb}
 use Rattle.std.proofs.lemmas.List.{append-nil}
 use Rattle.sml_tree.specs.Form.{Names, MoreName}
 use Rattle.sml_read.specs.Stands.{ReadsLimited}
 use Rattle.sml_read.proofs.Lists.{read_more, read_end, read_err, pushed_plain}
-use Rattle.sml_read.proofs.Behind.{lacking, name_more, name_refused}
+use Rattle.sml_read.proofs.Behind.{lacking, name_more, name_not_made}
 use Rattle.sml_read.proofs.Bracketed.{names_begun, names_err}
+use Rattle.sml_read.proofs.Made.{grown}
 use Rattle.sml_read.proofs.Stopped.{handed}
 use Rattle.sml_read.proofs.reader.Reader.names.Goals as goal
 use Rattle.sml_tree.specs.declared.limits.TheConstants.{MAX_NAMES}
@@ -20,15 +21,16 @@ more-init g c =
 pub more-preserved : goal.more-preserved
 more-preserved g c =
     let comma = c.more-test.ensures in
-    let room = rw c.len.ensures at c.in_ok-state.ensures.room in
-    let read = c.in_ok-state.ensures.read in
-    let made = c.in_ok-names-2.ensures in (
+    let item = c.limited-state in
+    let made = grown item.result c.longer.result c.in_ok-names-2.names _ _ c.in_ok-names-2.was c.longer.ensures.items c.longer.ensures.len in
+    let room = rw (c.len.ensures, made.1) at item.ensures.room in
+    let read = rw made.1 at item.ensures.read in (
       omega (arith, ap length comma.1, ap length read.1, c.more.invariant.0),
-      omega (arith, made.len, room),
-      rw made.len (read_more Names (MoreName (vec_len c.more.names)) (MoreName (vec_len c.more.names + 1)) (λ v. c.more.names.items ++ v) (λ v. c.in_ok-state.state ∷ v)
-          (λ v. c.in_ok-names-2.names.items ++ v) c.args.self.now c.more.self c.limited.new.self c.more.invariant.2
-          (name_more (vec_len c.more.names) c.in_ok-state.state c.more.self c.skip.new.self c.limited.new.self comma (lt-ltb (vec_len c.more.names) MAX_NAMES room) read)
-          (pushed_plain c.more.names.items c.in_ok-names-2.names.items c.in_ok-state.state made.items)),
+      omega (arith, made.3, room),
+      rw made.3 (read_more Names (MoreName (vec_len c.more.names)) (MoreName (vec_len c.more.names + 1)) (λ v. c.more.names.items ++ v) (λ v. made.0 ∷ v)
+          (λ v. c.in_ok-names-2.names.items ++ v) c.args.self.now c.more.self item.new.self c.more.invariant.2
+          (name_more (vec_len c.more.names) made.0 c.more.self c.skip.new.self item.new.self comma (lt-ltb (vec_len c.more.names) MAX_NAMES room) read)
+          (pushed_plain c.more.names.items c.in_ok-names-2.names.items made.0 made.2)),
     )
 
 -- nothing more stands there
@@ -41,12 +43,14 @@ returns g c =
     )
 
 -- the next name is refused
-pub returns-in_err-state : goal.returns-in_err-state
-returns-in_err-state g c =
-    rw (handed _ c.in_err-state.field-0.0 c.from_residual-in_err-state.ensures.1)
-    (read_err Names (MoreName (vec_len c.more.names)) (λ v. c.more.names.items ++ v) c.args.self.now c.more.self c.in_err-state.field-0.0 c.more.invariant.2
-    (name_refused (vec_len c.more.names) c.more.self c.skip.new.self c.limited.new.self c.in_err-state.field-0.0 c.more-test.ensures
-    (subst (λ (n : ℕ). ReadsLimited MAX_NAMES n c.skip.new.self c.limited.new.self (Err c.in_err-state.field-0.0)) c.len.ensures c.in_err-state.ensures.read)))
+pub returns-in_err-names-2 : goal.returns-in_err-names-2
+returns-in_err-names-2 g c =
+    let item = c.limited-state in
+    let e = c.in_err-names-2.field-0.0 in
+    rw (handed _ e c.from_residual-in_err-names-2.ensures.1)
+    (read_err Names (MoreName (vec_len c.more.names)) (λ v. c.more.names.items ++ v) c.args.self.now c.more.self e c.more.invariant.2
+    (name_not_made _ (vec_len c.more.names) item.result c.longer.result c.more.self c.skip.new.self item.new.self e c.in_err-names-2.was c.longer.ensures.items c.more-test.ensures
+    (subst (λ (n : ℕ). ReadsLimited MAX_NAMES n c.skip.new.self item.new.self item.result) c.len.ensures item.ensures.read)))
 
 -- no name stands there
 pub returns-in_err-first : goal.returns-in_err-first

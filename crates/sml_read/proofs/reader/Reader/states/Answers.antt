@@ -4,19 +4,22 @@ use Rattle.sml_tree.specs.Content.{state_content}
 use Rattle.sml_tree.specs.Form.{State}
 use Rattle.sml_read.proofs.Lists.{read_more, read_end, read_err, pushed}
 use Rattle.sml_read.proofs.Behind.{lacking}
+use Rattle.sml_read.proofs.Made.{grown, no_front_made}
 use Rattle.sml_read.proofs.Stopped.{handed}
 use Rattle.sml_read.proofs.reader.Reader.states.Goals as goal
 
 -- one more was read
 pub more-preserved : goal.more-preserved
 more-preserved g c =
-    let next = rw c.len.ensures at c.in_ok-state.ensures.next in
-    let made = c.in_ok-states-2.ensures in (
+    let item = c.state-state in
+    let made = grown item.result c.longer.result c.in_ok-states-2.states _ _ c.in_ok-states-2.was c.longer.ensures.items c.longer.ensures.len in
+    let next = rw (c.len.ensures, made.1) at item.ensures.next in
+    let room = rw made.1 at item.ensures.room in (
       omega (arith, next.0, c.more.invariant.0),
-      omega (arith, c.len.ensures, made.len, c.in_ok-state.ensures.room),
-      rw made.len (read_more (State 0) (State (vec_len c.more.states)) (State (vec_len c.more.states + 1)) (λ v. map state_content c.more.states.items ++ v) (λ v. state_content c.in_ok-state.state ∷ v) (λ v. map state_content c.in_ok-states-2.states.items ++ v)
-          c.args.self.now c.more.self c.state.new.self c.more.invariant.2 next.1
-          (pushed state_content c.more.states.items c.in_ok-states-2.states.items c.in_ok-state.state made.items)),
+      omega (arith, c.len.ensures, made.3, room),
+      rw made.3 (read_more (State 0) (State (vec_len c.more.states)) (State (vec_len c.more.states + 1)) (λ v. map state_content c.more.states.items ++ v) (λ v. state_content made.0 ∷ v) (λ v. map state_content c.in_ok-states-2.states.items ++ v)
+          c.args.self.now c.more.self item.new.self c.more.invariant.2 next.1
+          (pushed state_content c.more.states.items c.in_ok-states-2.states.items made.0 made.2)),
     )
 
 -- nothing more stands there
@@ -28,7 +31,10 @@ returns g c = (
 )
 
 -- the next is refused
-pub returns-in_err-state : goal.returns-in_err-state
-returns-in_err-state g c =
-    rw (handed _ c.in_err-state.field-0.0 c.from_residual-in_err-state.ensures.1)
-    (read_err (State 0) (State (vec_len c.more.states)) (λ v. map state_content c.more.states.items ++ v) c.args.self.now c.more.self c.in_err-state.field-0.0 c.more.invariant.2 (rw c.len.ensures at c.in_err-state.ensures.next))
+pub returns-in_err-states-2 : goal.returns-in_err-states-2
+returns-in_err-states-2 g c =
+    let item = c.state-state in
+    let e = c.in_err-states-2.field-0.0 in
+    rw (handed _ e c.from_residual-in_err-states-2.ensures.1)
+    (read_err (State 0) (State (vec_len c.more.states)) (λ v. map state_content c.more.states.items ++ v) c.args.self.now c.more.self e c.more.invariant.2
+    (no_front_made _ (State (vec_len c.more.states)) (State (vec_len c.more.states + 1)) (λ x v. state_content x ∷ v) item.result c.longer.result e c.more.self item.new.self c.in_err-states-2.was c.longer.ensures.items (rw c.len.ensures at item.ensures.next)))
