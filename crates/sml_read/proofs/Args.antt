@@ -1,16 +1,16 @@
--- What is passed or set is read as a value, where no name stands there.
+-- What is read of a value that is written out, and of what is passed or set.
 use Rattle.std.proofs.Common.{◌≡◌, ◌==◌, false, ℕ, List, [], ◌∷◌, refl, ap, ◌∙◌, length, Result, Ok, Err, arith}
 use Rattle.sml_tree.specs.declared.token_kind.TokenKind.{TokenKind}
-use Rattle.sml_tree.specs.declared.token_kind.TokenKind.TheVariants.{Class, Name}
-use Rattle.sml_tree.specs.Piece.{Piece}
-use Rattle.sml_tree.specs.Syntax.{LiteralData, ArgData, lit, param}
+use Rattle.sml_tree.specs.declared.token_kind.TokenKind.TheVariants.{Class, Name, Str}
+use Rattle.sml_tree.specs.Piece.{Piece, bytes_of}
+use Rattle.sml_tree.specs.Syntax.{LiteralData, ArgData, str, lit, param}
 use Rattle.sml_tree.specs.Grammar.{rules, name}
 use Rattle.sml_tree.specs.Form as of
 use Rattle.sml_tree.specs.Form.{Bone, P, Form, Part, Value, calls}
 use Rattle.sml_read.specs.declared.fault.Stop.{Stop}
 use Rattle.sml_read.specs.declared.fault.Stop.TheVariants as stop
 use Rattle.sml_read.specs.Machine.{code, chosen, Move, Stuck, take_rule, or_else, run}
-use Rattle.sml_read.specs.Made.{OfRead}
+use Rattle.sml_read.specs.Made.{OrMemory, OfRead}
 use Rattle.sml_read.specs.Reads.{Reads, Stops, SeesKind}
 use Rattle.sml_read.specs.Stands.{Lacks}
 use Rattle.sml_read.proofs.Heads.{Read}
@@ -47,3 +47,11 @@ pub arg_named : (t : Piece) (w : List ℕ) (old new : List Piece) → old ≡ t 
 arg_named t w old new e sees is =
     let kind = seen Name t old new e sees in
     (omega (arith, ap length e), λ g more k. rw (e, kind, is) refl)
+
+-- a string is written out, or memory ran out
+pub literal_text : {X : Type 0} (view : X → LiteralData) (t : Piece) (bytes : List ℕ) (r : Result X Stop) (old new : List Piece) → old ≡ t ∷ new → SeesKind Str old → bytes ≡ bytes_of t.lexeme → OrMemory r (λ x. view x ≡ str bytes)
+    → Reads of.Literal view old new r
+literal_text view t bytes (Ok x) old new e sees is made =
+    let kind = seen Str t old new e sees in
+    (omega (arith, ap length e), λ g more k. rw (e, kind, made, is) refl)
+literal_text view t bytes (Err d) old new e sees is made = rw made tt

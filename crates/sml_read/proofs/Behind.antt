@@ -1,5 +1,5 @@
 -- What is read of lists whose items stand behind commas or behind one another.
-use Rattle.std.proofs.Common.{◌≡◌, ◌≤◌, ◌+◌, ℕ, Some, true, List, [], ◌∷◌, refl, ap, ◌∙◌, length, nat_lt, Result, Ok, Err, arith}
+use Rattle.std.proofs.Common.{◌≡◌, ◌≤◌, ◌+◌, ℕ, Some, None, true, List, [], ◌∷◌, refl, ap, ◌∙◌, length, nat_lt, Result, Ok, Err, arith}
 use Rattle.sml_tree.specs.declared.token_kind.TokenKind.{TokenKind}
 use Rattle.sml_tree.specs.declared.token_kind.TokenKind.TheVariants.{Comma}
 use Rattle.sml_tree.specs.Piece.{Piece}
@@ -26,6 +26,12 @@ pub token_lacked : (kind : TokenKind) (e : Stop) (old new : List Piece) → Lack
 token_lacked kind stop.Memory old new lacks fault = absurd fault
 token_lacked kind (stop.Fault f) [] new lacks fault = λ g more mark k. rw fault refl
 token_lacked kind (stop.Fault f) (t ∷ ts) new lacks fault = λ g more mark k. rw (fault, lacks) refl
+
+-- a part begins with one of two tokens, and neither stands there
+pub both_lacked : (n : Part) (a b : Rule n) (e : Stop) (old : List Piece) → rules n ≡ a ∷ b ∷ [] → empty n ≡ None → Lacks a.kind old → Lacks b.kind old → IfFault e (Refusal old) → Stops n old e
+both_lacked n a b stop.Memory old two full first second fault = absurd fault
+both_lacked n a b (stop.Fault f) [] two full first second fault = λ g more k. rw (full, fault) refl
+both_lacked n a b (stop.Fault f) (t ∷ ts) two full first second fault = λ g more k. rw (two, full, fault) (rw (first, second) refl)
 
 -- an item behind its comma
 pub class_param_more : (n : ℕ) (x : ClassParamData) (old mid new : List Piece) → IsTaken Comma old mid → Passes (of.ClassParam n) x mid new

@@ -25,14 +25,13 @@ impl Reader<'_> {
     pub fn literal<A: Allocator + Clone>(&mut self, alloc: &A) -> Result<Literal<A>, Stop>
         ensures { Reads Literal' literal_content self.old self.new result }
     {
-        match self.peek() {
-            Some(TokenKind::Int) => Ok(Literal::Int(self.take().int())),
-            Some(TokenKind::Str) => {
-                let held = self.take();
-                Ok(Literal::Str(Vec::from_slice(alloc.clone()?, held.bytes())?))
-            }
-            _ => Err(self.refusal()),
+        if self.stands(TokenKind::Int) {
+            return Ok(Literal::Int(self.take().int()));
         }
+        if self.stands(TokenKind::Str) {
+            return make::text(alloc, self.take().bytes());
+        }
+        Err(self.refusal())
     }
 
     /// A value, or the name of a parameter.

@@ -56,6 +56,13 @@ pub(crate) fn found<T: Drop>(read: Result<T, Stop>) -> Result<Option<T>, Stop>
     }
 }
 
+/// A string that is written out.
+pub(crate) fn text<A: Allocator + Clone>(alloc: &A, bytes: &[u8]) -> Result<Literal<A>, Stop>
+    ensures { OrMemory result (λ value. literal_content value ≡ said.str bytes.now) }
+{
+    Ok(Literal::Str(Vec::from_slice(alloc.clone()?, bytes)?))
+}
+
 /// A value that was written out, as what is passed or set.
 pub(crate) fn written<A: Allocator + Clone>(read: Result<Literal<A>, Stop>) -> Result<Arg<A>, Stop>
     ensures { OfRead read result (λ value arg. arg_content arg ≡ said.lit (literal_content value)) }

@@ -36,11 +36,13 @@ impl Reader<'_> {
         ensures read { Reads (Sort before) (λ kind. kind) self.old self.new result }
         ensures room { IfOk result (λ kind. before < MAX_PARAMETERS) }
     {
-        match self.peek() {
-            Some(TokenKind::IntKind) => self.sort_of(Kind::Int, before),
-            Some(TokenKind::StringKind) => self.sort_of(Kind::Str, before),
-            _ => Err(self.refusal()),
+        if self.stands(TokenKind::IntKind) {
+            return self.sort_of(Kind::Int, before);
         }
+        if self.stands(TokenKind::StringKind) {
+            return self.sort_of(Kind::Str, before);
+        }
+        Err(self.refusal())
     }
 
     /// A parameter of a class, which has so many before it.
