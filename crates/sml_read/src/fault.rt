@@ -5,7 +5,7 @@ ghost use Rattle.sml_read.specs.declared.fault.Stop.TheVariants.{Memory};
 use std::alloc::{AllocError, AllocFailed};
 
 /// Why tokens are no file.
-#[derive(Clone, Copy, Debug, Drop)]
+#[derive(Clone, Copy, Drop)]
 pub(crate) enum Fault {
     Unexpected(usize),
     TooDeep(usize),
@@ -15,7 +15,7 @@ pub(crate) enum Fault {
 }
 
 /// Why reading stops.
-#[derive(Clone, Copy, Debug, Drop)]
+#[derive(Clone, Copy, Drop)]
 pub(crate) enum Stop {
     Memory,
     Fault(Fault),
