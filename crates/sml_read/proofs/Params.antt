@@ -1,5 +1,5 @@
 -- What is read of a parameter.
-use Rattle.std.proofs.Common.{◌≡◌, ℕ, Option, List, ap, ◌∙◌, length, arith, Err}
+use Rattle.std.proofs.Common.{◌≡◌, ℕ, Option, None, option_map, List, refl, ap, ◌∙◌, length, arith, Result, Ok, Err}
 use Rattle.sml_tree.specs.declared.file.Kind.{Kind}
 use Rattle.sml_tree.specs.declared.token_kind.TokenKind.TheVariants.{Name, Equals}
 use Rattle.sml_tree.specs.Piece.{Piece}
@@ -8,7 +8,10 @@ use Rattle.sml_tree.specs.Grammar.{name}
 use Rattle.sml_tree.specs.Form.{Sort, Literal, Default, ClassParam, ActionParam}
 use Rattle.sml_read.specs.declared.fault.Stop.{Stop}
 use Rattle.sml_read.specs.declared.fault.Stop.TheVariants as stop
-use Rattle.sml_read.specs.Reads.{Stops, ReadsToken}
+use Rattle.sml_read.specs.Made.{found_of}
+use Rattle.sml_read.specs.Reads.{Reads, Stops, ReadsToken}
+use Rattle.sml_read.specs.Stands.{IsTaken, Lacks}
+use Rattle.sml_read.proofs.Behind.{lacking}
 use Rattle.sml_read.proofs.Heads.{Read}
 use Rattle.sml_read.proofs.Sorts.{class_param_run, action_param_run}
 use Rattle.sml_read.proofs.Steps.{Taken}
@@ -57,3 +60,14 @@ action_param_ok before old u v new kind t w default a named is b = (
   omega (arith, a.0, ap length named.0, b.0),
   λ g more k. action_param_run before g more k old ∙ a.1 g _ _ ∙ rw (named.0, is) (rw named.1 (b.1 g _ _)),
 )
+
+-- no value is passed where none is
+pub default_none : (old new : List Piece) → new ≡ old → Lacks Equals old → Read Default None old new
+default_none old new same lacks = (omega (arith, ap length same), rw same (lacking Default _ None old refl refl lacks))
+
+-- the value behind its sign
+pub default_read : {X : Type 0} (view : X → LiteralData) (read : Result X Stop) (r : Result (Option X) Stop) (old mid new : List Piece) → r ≡ found_of read → IsTaken Equals old mid → Reads Literal view mid new read
+    → Reads Default (λ o. option_map view o) old new r
+default_read view (Ok x) r old mid new e sign a = rw e (omega (arith, ap length sign.1, a.0), λ g more k. rw (sign.1, sign.2) (a.1 g _ _))
+default_read view (Err stop.Memory) r old mid new e sign a = rw e tt
+default_read view (Err (stop.Fault f)) r old mid new e sign a = rw e (λ g more k. rw (sign.1, sign.2) (a g _ _))

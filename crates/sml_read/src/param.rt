@@ -66,13 +66,10 @@ impl Reader<'_> {
     fn default<A: Allocator + Clone>(&mut self, alloc: &A) -> Result<Option<Literal<A>>, Stop>
         ensures { Reads Default (λ o. option_map literal_content o) self.old self.new result }
     {
-        match self.peek() {
-            Some(TokenKind::Equals) => {
-                self.take();
-                Ok(Some(self.literal(alloc)?))
-            }
-            _ => Ok(None),
+        if !self.skip(TokenKind::Equals) {
+            return Ok(None);
         }
+        make::found(self.literal(alloc))
     }
 
     /// A parameter of an action, which has so many before it.
