@@ -1,3 +1,4 @@
+use Rattle.std.proofs.Common.{Ok, Err, refl}
 use Rattle.sml_tree.specs.Content.{cond_content}
 use Rattle.sml_tree.specs.Form.{Unit', Conj, MoreAnd, Cond, MoreOr}
 use Rattle.sml_read.proofs.Chains.{not_deep, not_made, made_room, bracket_deep, bracket_closed, ended_room, conj_begun, conj_err, and_more, and_err, cond_begun, cond_err, or_more, or_err}
@@ -45,8 +46,8 @@ conjunction-ands-init g t c =
 pub conjunction-ands-preserved : goal.conjunction-ands-preserved
 conjunction-ands-preserved g t c =
     let word = c.ands-test.ensures in
-    and_more c.args.tests.now c.args.depth c.ands.tests c.operand-right.new.tests c.ands.left c.in_ok-left-2.left c.operand-right.result c.both.result word.0 c.args.self.now c.ands.self c.skip.new.self c.operand-right.new.self
-    c.in_ok-left-2.was c.both.ensures c.ands.invariant.0 c.operand-right.ensures.room c.ands.invariant.2 word.1 word.2 c.operand-right.ensures.read
+    and_more c.args.tests.now c.args.depth c.ands.tests c.operand-right.new.tests c.ands.left c.in_ok-left-2.left c.operand-right.result (Ok c.in_ok-left-2.left) word.0 c.args.self.now c.ands.self c.skip.new.self c.operand-right.new.self
+    refl c.in_ok-left-2.ensures c.ands.invariant.0 c.operand-right.ensures.room c.ands.invariant.2 word.1 word.2 c.operand-right.ensures.read
 
 pub conjunction-returns-in_err-left-clause-read : goal.conjunction-returns-in_err-left-clause-read
 conjunction-returns-in_err-left-clause-read g t c =
@@ -61,7 +62,7 @@ conjunction-returns-in_err-left-2-clause-read g t c =
     rw (handed _ e c.from_residual-in_err-left-2.ensures.1)
     (read_err (Conj c.args.depth c.args.tests.now) (MoreAnd c.args.depth c.ands.tests (cond_content c.ands.left)) (λ v. v) c.args.self.now c.ands.self e c.ands.invariant.2
     (and_err c.args.depth c.ands.tests (cond_content c.ands.left) word.0 c.ands.self c.skip.new.self e word.1 word.2
-    (not_made_of _ (Unit' c.args.depth c.ands.tests) _ c.operand-right.result c.both.result e c.skip.new.self c.operand-right.new.self c.in_err-left-2.was c.both.ensures c.operand-right.ensures.read)))
+    (not_made_of _ (Unit' c.args.depth c.ands.tests) _ c.operand-right.result (Err e) e c.skip.new.self c.operand-right.new.self refl c.in_err-left-2.ensures c.operand-right.ensures.read)))
 
 -- the first was read
 pub condition-ors-init : goal.condition-ors-init
@@ -73,8 +74,8 @@ condition-ors-init g t c =
 pub condition-ors-preserved : goal.condition-ors-preserved
 condition-ors-preserved g t c =
     let word = c.ors-test.ensures in
-    or_more c.args.tests.now c.args.depth c.ors.tests c.conjunction-right.new.tests c.ors.left c.in_ok-left-2.left c.conjunction-right.result c.either.result word.0 c.args.self.now c.ors.self c.skip.new.self c.conjunction-right.new.self
-    c.in_ok-left-2.was c.either.ensures c.ors.invariant.0 c.conjunction-right.ensures.room c.ors.invariant.2 word.1 word.2 c.conjunction-right.ensures.read
+    or_more c.args.tests.now c.args.depth c.ors.tests c.conjunction-right.new.tests c.ors.left c.in_ok-left-2.left c.conjunction-right.result (Ok c.in_ok-left-2.left) word.0 c.args.self.now c.ors.self c.skip.new.self c.conjunction-right.new.self
+    refl c.in_ok-left-2.ensures c.ors.invariant.0 c.conjunction-right.ensures.room c.ors.invariant.2 word.1 word.2 c.conjunction-right.ensures.read
 
 pub condition-returns-in_err-left-clause-read : goal.condition-returns-in_err-left-clause-read
 condition-returns-in_err-left-clause-read g t c =
@@ -89,4 +90,4 @@ condition-returns-in_err-left-2-clause-read g t c =
     rw (handed _ e c.from_residual-in_err-left-2.ensures.1)
     (read_err (Cond c.args.depth c.args.tests.now) (MoreOr c.args.depth c.ors.tests (cond_content c.ors.left)) (λ v. v) c.args.self.now c.ors.self e c.ors.invariant.2
     (or_err c.args.depth c.ors.tests (cond_content c.ors.left) word.0 c.ors.self c.skip.new.self e word.1 word.2
-    (not_made_of _ (Conj c.args.depth c.ors.tests) _ c.conjunction-right.result c.either.result e c.skip.new.self c.conjunction-right.new.self c.in_err-left-2.was c.either.ensures c.conjunction-right.ensures.read)))
+    (not_made_of _ (Conj c.args.depth c.ors.tests) _ c.conjunction-right.result (Err e) e c.skip.new.self c.conjunction-right.new.self refl c.in_err-left-2.ensures c.conjunction-right.ensures.read)))
