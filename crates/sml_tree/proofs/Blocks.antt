@@ -1,5 +1,7 @@
 -- What a block says, by its instructions.
 use Rattle.std.proofs.Common.{◌≡◌, ◌∙◌, sym, ap, List, [], ◌∷◌, refl}
+use Rattle.std.specs.Prelude.{Result, Ok, IfOk}
+use Rattle.std.proofs.lemmas.Result.{IfOk-weaker, IfOk-at_ok}
 use Rattle.sml_tree.specs.Syntax.{BlockData, InstrData, choose}
 use Rattle.sml_tree.specs.Content.{instr_content, block_content, block_of, instr_step, block_step, cond_content}
 use Rattle.sml_tree.specs.declared.block.Instr.{Instr, If}
@@ -21,13 +23,14 @@ instr_content-If {A} c b d =
 
 pub ruleset instr_equations = (instr_content-If)
 
--- choices with the same parts are the same
-pub If_same : {A B : Type 0} (c : Cond A) (b d : Block A) (c' : Cond B) (b' d' : Block B) (i : Instr B) →
-    i ≡ If c' b' d' → cond_content c ≡ cond_content c' → block_content b ≡ block_content b' → block_content d ≡ block_content d' →
-    instr_content (If c b d) ≡ instr_content i
-If_same c b d c' b' d' i is e f h =
-    instr_content-If c b d ∙ ap (λ x. choose x (block_content b) (block_content d)) e ∙ ap (λ x. choose (cond_content c') x (block_content d)) f
-    ∙ ap (choose (cond_content c') (block_content b')) h ∙ sym (ap instr_content is ∙ instr_content-If c' b' d')
+-- an `if` of copies is the `if` that was copied
+pub If_same : {A B : Type 0} {E : Type 0} (cond : Result (Cond A) E) (first second : Result (Block A) E) (c' : Cond B) (b' d' : Block B) (i : Instr B) (copy : Result (Instr A) E) →
+    i ≡ If c' b' d' → IfOk cond (λ c. cond_content c ≡ cond_content c') → IfOk first (λ b. block_content b ≡ block_content b') → IfOk second (λ d. block_content d ≡ block_content d') →
+    IfOk copy (λ j. (c : Cond A) × (b : Block A) × (d : Block A) × (cond ≡ Ok c) × (first ≡ Ok b) × (second ≡ Ok d) × (instr_content j ≡ choose (cond_content c) (block_content b) (block_content d))) →
+    IfOk copy (λ j. instr_content j ≡ instr_content i)
+If_same cond first second c' b' d' i copy is e f h made = IfOk-weaker copy _ _ (λ j (c, b, d, cs, ys, ns, says).
+    says ∙ ap (λ x. choose x (block_content b) (block_content d)) (IfOk-at_ok _ cs e) ∙ ap (λ x. choose (cond_content c') x (block_content d)) (IfOk-at_ok _ ys f)
+    ∙ ap (choose (cond_content c') (block_content b')) (IfOk-at_ok _ ns h) ∙ sym (ap instr_content is ∙ instr_content-If c' b' d')) made
 
 -- equal blocks have equal instructions
 pub block_of-injective : (is js : List InstrData) → block_of is ≡ block_of js → is ≡ js

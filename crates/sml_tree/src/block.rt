@@ -1,7 +1,7 @@
 //! Instructions.
-ghost use Rattle.std.specs.Prelude.{◌≡◌, ◌↔◌, ◌<◌, ◌^◌, ◌-◌, min, map, IfOk, IsTrue};
-ghost use Rattle.sml_tree.specs.Content.{arg_content, passed_content, instr_content, block_content};
-ghost use Rattle.sml_tree.specs.Syntax.{send, assign, move_to, terminate, block_depth, instr_depth};
+ghost use Rattle.std.specs.Prelude.{◌≡◌, ◌↔◌, ◌<◌, ◌^◌, ◌-◌, min, map, IfOk, IsTrue, Ok};
+ghost use Rattle.sml_tree.specs.Content.{arg_content, passed_content, cond_content, instr_content, block_content};
+ghost use Rattle.sml_tree.specs.Syntax.{send, choose, assign, move_to, terminate, block_depth, instr_depth};
 
 use crate::cond::Cond;
 use crate::lists::{add, copy_list, same_list};
@@ -66,10 +66,7 @@ impl<A: Allocator + Clone> Instr<A> {
                 target: *target,
             }),
             Instr::If { cond, yes, no } => {
-                let cond = cond.copy_by(alloc)?;
-                let yes = yes.copy_by(alloc)?;
-                let no = no.copy_by(alloc)?;
-                Ok(Instr::If { cond, yes, no })
+                branch(cond.copy_by(alloc), yes.copy_by(alloc), no.copy_by(alloc))
             }
             Instr::Set { param, value } => Ok(Instr::Set {
                 param: *param,
@@ -175,6 +172,22 @@ impl<A: Allocator + Clone> Instr<A> {
             Instr::Do { .. } | Instr::Set { .. } | Instr::MoveTo(_) | Instr::Terminate(_) => 0,
         }
     }
+}
+
+// An `if` of copies, where there was memory for each.
+#[tactic(auto, using(crate::proofs::Blocks::instr_equations))]
+fn branch<A: Allocator + Clone>(
+    cond: Result<Cond<A>, AllocError>,
+    yes: Result<Block<A>, AllocError>,
+    no: Result<Block<A>, AllocError>,
+) -> Result<Instr<A>, AllocError>
+    ensures { IfOk result (λ i. (c : Cond A) × (y : Block A) × (n : Block A) × (cond ≡ Ok c) × (yes ≡ Ok y) × (no ≡ Ok n) × (instr_content i ≡ choose (cond_content c) (block_content y) (block_content n))) }
+{
+    Ok(Instr::If {
+        cond: cond?,
+        yes: yes?,
+        no: no?,
+    })
 }
 
 impl<A: Allocator + Clone> Block<A> {

@@ -41,13 +41,11 @@ impl<A: Allocator + Clone> Cond<A> {
     {
         match self {
             Cond::And(a, b) => {
-                let left = boxed(a.copy_by(alloc), alloc)?;
-                let right = boxed(b.copy_by(alloc), alloc)?;
+                let (left, right) = both(a.copy_by(alloc), b.copy_by(alloc), alloc)?;
                 Ok(Cond::And(left, right))
             }
             Cond::Or(a, b) => {
-                let left = boxed(a.copy_by(alloc), alloc)?;
-                let right = boxed(b.copy_by(alloc), alloc)?;
+                let (left, right) = both(a.copy_by(alloc), b.copy_by(alloc), alloc)?;
                 Ok(Cond::Or(left, right))
             }
             Cond::Not(a) => Ok(Cond::Not(boxed(a.copy_by(alloc), alloc)?)),
@@ -103,6 +101,17 @@ fn boxed<A: Allocator + Clone>(
     ensures { IfOk result (λ b. copy ≡ Ok b.value) }
 {
     Ok(Box::new(alloc.clone()?, copy?)?)
+}
+
+// Two copies in boxes, where there was memory for all of it.
+fn both<A: Allocator + Clone>(
+    left: Result<Cond<A>, AllocError>,
+    right: Result<Cond<A>, AllocError>,
+    alloc: &A,
+) -> Result<(Box<Cond<A>, A>, Box<Cond<A>, A>), AllocError>
+    ensures { IfOk result (λ p. (left ≡ Ok p.0.value) × (right ≡ Ok p.1.value)) }
+{
+    Ok((boxed(left, alloc)?, boxed(right, alloc)?))
 }
 
 // Whether two tests ask the same name for the same states.

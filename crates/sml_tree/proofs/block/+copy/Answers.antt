@@ -16,5 +16,5 @@ Block::copy_by-loop-instr-preserved g t c =
 pub Block::copy_by-returns : goal.Block::copy_by-returns
 Block::copy_by-returns g t c = ap block_of (map_all instr_content instr_content _ _ _ c.loop-instr.invariant c.loop-instr-test.false ∙ ap (map instr_content) c.deref-instr-items.ensures.value)
 
-pub Instr::copy_by-returns-in_ok-no-in-If : goal.Instr::copy_by-returns-in_ok-no-in-If
-Instr::copy_by-returns-in_ok-no-in-If g t c = If_same _ _ _ _ _ _ _ c.in-If.is c.in_ok-cond-in-If.ensures c.in_ok-yes-in-If.ensures c.in_ok-no-in-If.ensures
+pub Instr::copy_by-returns-in-If : goal.Instr::copy_by-returns-in-If
+Instr::copy_by-returns-in-If g t c = If_same _ _ _ _ _ _ _ _ c.in-If.is c.copy_by.ensures c.copy_by-in-If.ensures c.copy_by-in-If-2.ensures c.branch-copy_by.ensures
