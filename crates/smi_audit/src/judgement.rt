@@ -3,7 +3,7 @@
 use smi_rules::rule::Rule;
 
 /// Whether a journal is legal.
-#[derive(Clone, Copy, Debug, Eq, PartialEq)]
+#[derive(Clone, Copy, Eq, PartialEq)]
 pub enum Judgement {
     /// Each of its entries may follow those before it.
     Legal,

@@ -52,7 +52,7 @@ impl Args {
 }
 
 /// A state that was read of an object.
-#[derive(Clone, Copy, Debug, Eq, PartialEq)]
+#[derive(Clone, Copy, Eq, PartialEq)]
 pub struct Reading {
     pub object: ObjId,
     pub state: StateId,

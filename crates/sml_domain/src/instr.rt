@@ -23,14 +23,14 @@ pub struct Argument {
 }
 
 /// Whom a request is for: an object, or each member of a set.
-#[derive(Clone, Copy, Debug, Eq, PartialEq)]
+#[derive(Clone, Copy, Eq, PartialEq)]
 pub enum Target {
     One(ObjId),
     Members(SetId),
 }
 
 /// Whom a test asks: an object, or each or any member of a set.
-#[derive(Clone, Copy, Debug, Eq, PartialEq)]
+#[derive(Clone, Copy, Eq, PartialEq)]
 pub enum Asked {
     One(ObjId),
     Each(SetId),

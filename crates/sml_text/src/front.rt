@@ -10,7 +10,7 @@ use crate::limits::{LONGEST_NAME, LONGEST_STRING};
 use crate::source::{Sign, Source};
 
 /// What stands at the front of a text.
-#[derive(Clone, Copy, Debug, PartialEq, Eq)]
+#[derive(Clone, Copy, PartialEq, Eq)]
 pub enum Front {
     /// The text is at its end.
     End,

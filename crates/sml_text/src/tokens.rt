@@ -10,7 +10,7 @@ use crate::front::{Front, front_at};
 use crate::source::{Sign, Source};
 
 /// What a token is.
-#[derive(Clone, Copy, Debug, PartialEq, Eq)]
+#[derive(Clone, Copy, PartialEq, Eq)]
 pub enum Lexeme<'a> {
     /// A word as it stands in the text. Two words are the same where their upper cases are.
     Word(&'a [u8]),
@@ -23,7 +23,7 @@ pub enum Lexeme<'a> {
 }
 
 /// A token, and the place of its first byte.
-#[derive(Clone, Copy, Debug, PartialEq, Eq)]
+#[derive(Clone, Copy, PartialEq, Eq)]
 pub struct Token<'a> {
     pub lexeme: Lexeme<'a>,
     pub at: usize,

@@ -6,7 +6,7 @@ use crate::name::{Name, same_names};
 use std::alloc::{AllocError, Allocator};
 
 /// Which objects a test asks.
-#[derive(Clone, Copy, Debug, PartialEq, Eq)]
+#[derive(Clone, Copy, PartialEq, Eq)]
 pub enum Scope {
     One,
     All,

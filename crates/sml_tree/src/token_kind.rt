@@ -2,7 +2,7 @@
 
 /// What a token of a domain text is: a reserved word, a word that counts only behind a slash, a
 /// sign, or what is none of these. (docs/LANGUAGE.md, "Tokens".)
-#[derive(Clone, Copy, Debug)]
+#[derive(Clone, Copy)]
 pub enum TokenKind {
     Class,
     Object,
