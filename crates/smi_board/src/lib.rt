@@ -6,6 +6,7 @@ mod closing;
 pub mod contacts;
 mod ending;
 pub mod errors;
+mod holding;
 pub mod kept;
 mod params;
 mod reading;

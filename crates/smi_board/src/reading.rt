@@ -11,6 +11,7 @@ ghost use Rattle.smi_board.specs.Reading.{states_now, waited};
 ghost use Rattle.smi_board.specs.Turns.{IsOut};
 
 use crate::board::Board;
+use crate::holding::hold_shown;
 use crate::kept::keep;
 use smi_entry::args::{Reading, Readings};
 use smi_interp::contact::Objects;
@@ -90,8 +91,7 @@ fn make_sight(
     let states = states_of(alloc, ledger, objects)?;
     let readings = readings_of(alloc, objects, &states)?;
     let kept = readings.share()?;
-    ledger.hold(1)?;
-    ledger.hold_answers(o, 1)?;
+    hold_shown(ledger, o, 1)?;
     Ok(Sight {
         states,
         readings,

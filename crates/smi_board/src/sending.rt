@@ -14,6 +14,7 @@ ghost use Rattle.smi_board.specs.Turns.{IsOut};
 ghost use Rattle.smi_board.specs.Posting.{AreApart, AreJudged, AreSameLists, IsJudged, IsPostable, ParcelView, entry_of, parcel_of, post_in};
 
 use crate::board::Board;
+use crate::holding::hold_shown;
 use smi_entry::args::Args;
 use smi_entry::entry::{Sender as From, Verdict};
 use smi_entry::envelope::Envelope;
@@ -70,6 +71,7 @@ impl Parcel {
 // The parcels of posts that an object sends, in order.
 fn parcels_of(alloc: Global, o: ObjId, posts: &[Post]) -> Result<VecDeque<Parcel>, AllocError>
     ensures items { IfOk result (λ list. list.items ≡ map (parcel_of o) posts.now) }
+    ensures count { IfOk result (λ list. deque_len list ≡ length posts.now) }
 {
     let mut list = VecDeque::new(alloc);
     for post in posts {
@@ -118,11 +120,15 @@ fn post_one<M: Mail>(mail: &mut M, ledger: &mut Ledger, o: ObjId, parcel: Parcel
     } = parcel;
     let action = envelope.letter().action;
     let verdict = if ledger.killed(target).is_some() {
+        drop(envelope);
         Verdict::Dead
     } else {
         match mail.post(target, envelope) {
             Ok(number) => Verdict::Accepted(number),
-            Err(_) => Verdict::Full,
+            Err((_, refused)) => {
+                drop(refused);
+                Verdict::Full
+            }
         }
     };
     ledger.add_post(o, target, verdict, action, args);
@@ -246,12 +252,10 @@ fn make_sending<M: Mail>(
     ensures domain { M.domain mail.new ≡ M.domain mail.old }
     ensures serves { M.serves mail.new ≡ M.serves mail.old }
 {
-    let _rooms = ledger.domain();
-    let list = parcels_of(alloc, o, posts)?;
-    let verdicts = Vec::with_capacity(alloc, list.len())?;
-    ledger.hold(list.len())?;
-    ledger.hold_answers(o, list.len())?;
+    hold_shown(ledger, o, posts.len())?;
     make_rooms(mail, posts)?;
+    let list = parcels_of(alloc, o, posts)?;
+    let verdicts = Vec::with_capacity(alloc, posts.len())?;
     Ok(Sending { list, verdicts })
 }
 
