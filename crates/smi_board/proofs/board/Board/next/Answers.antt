@@ -1,5 +1,5 @@
 -- The task that goes on was kept of the first object whose task can.
-use Rattle.std.proofs.Common.{◌≡◌, ◌<◌, None, length, ap, sym, subst, ◌∙◌}
+use Rattle.std.proofs.Common.{◌<◌, None, length, ap, sym, subst, ◌∙◌}
 use Rattle.std.specs.Prelude.{IfSome}
 use Rattle.std.specs.Arc.{arc_value}
 use Rattle.smi_board.specs.Boards.{BoardView, kept_at}
