@@ -119,6 +119,7 @@ fn post_one<M: Mail>(mail: &mut M, ledger: &mut Ledger, o: ObjId, parcel: Parcel
         envelope,
     } = parcel;
     let action = envelope.letter().action;
+    // (an envelope that is not sent goes here, so that nothing below asks whether it is still held)
     let verdict = if ledger.killed(target).is_some() {
         drop(envelope);
         Verdict::Dead
