@@ -1,19 +1,20 @@
 //! Entries that are added to a ledger. Each answers false where it is none of the domain's, where it may
 //! not be added there, and where memory is refused.
-ghost use Rattle.std.specs.Prelude.{◌<◌, length};
+ghost use Rattle.std.specs.Prelude.{◌≡◌, ◌<◌, IfSome, length};
 
 use crate::completing::{Plain, value_of};
 use crate::facts::sender_of;
 use crate::runs::{By, Line};
 use smi_entry::args::{Args, Reading, Readings};
-use smi_entry::entry::{ActionEnd, Cause, Verdict};
+use smi_entry::entry::{ActionEnd, Cause, Sender, Verdict};
 use smi_entry::envelope::Envelope;
 use smi_entry::session::SessionId;
 use smi_ledger::ledger::Ledger;
 use sml_domain::ids::{ActionId, ObjId, StateId};
 use std::alloc::Global;
 
-fn args_of(alloc: Global, given: &[Plain]) -> Option<Args> {
+/// The arguments that a row writes.
+pub fn args_of(alloc: Global, given: &[Plain]) -> Option<Args> {
     let mut values = Vec::new(alloc);
     for plain in given {
         values.push(value_of(alloc, *plain)?).ok()?;
@@ -31,6 +32,17 @@ fn readings_of(alloc: Global, rows: &[(usize, usize)]) -> Option<Readings> {
     Readings::new(alloc, list).ok()
 }
 
+// The envelope of a request with its number, its action and its arguments.
+fn envelope_of(alloc: Global, sender: Sender, request: (u64, usize, &[Plain])) -> Option<Envelope>
+    ensures { IfSome result (λ e. e.sender ≡ sender) }
+{
+    let (number, action, given) = request;
+    let args = args_of(alloc, given)?;
+    let mut envelope = Envelope::new(sender, ActionId::new(action), args).ok()?;
+    envelope.set_number(number);
+    Some(envelope)
+}
+
 // A start, with its number, its action and its arguments.
 fn starts(
     alloc: Global,
@@ -39,10 +51,6 @@ fn starts(
     by: By,
     request: (u64, usize, &[Plain]),
 ) -> bool {
-    let (number, action, given) = request;
-    let Some(args) = args_of(alloc, given) else {
-        return false;
-    };
     if ledger.hold(2).is_err() {
         return false;
     }
@@ -52,14 +60,14 @@ fn starts(
     if !ledger.domain().has(o) || ledger.opened(o).is_some() {
         return false;
     }
-    let Ok(envelope) = Envelope::new(sender, ActionId::new(action), args) else {
-        return false;
-    };
-    let mut envelope = envelope;
-    envelope.set_number(number);
-    let letters = envelope.into_letters();
-    ledger.add_start(o, letters.journal, letters.slot);
-    true
+    match envelope_of(alloc, sender, request) {
+        Some(envelope) => {
+            let letters = envelope.into_letters();
+            ledger.add_start(o, letters.journal, letters.slot);
+            true
+        }
+        None => false,
+    }
 }
 
 // A post to a target, with its action and its arguments.
@@ -71,17 +79,19 @@ fn posts(
     request: (Verdict, usize, &[Plain]),
 ) -> bool {
     let (verdict, action, given) = request;
-    let Some(args) = args_of(alloc, given) else {
-        return false;
-    };
     if !ledger.domain().has(o) || !ledger.domain().has(target) {
         return false;
     }
     if ledger.hold(1).is_err() || ledger.hold_answers(o, 1).is_err() {
         return false;
     }
-    ledger.add_post(o, target, verdict, ActionId::new(action), args);
-    true
+    match args_of(alloc, given) {
+        Some(args) => {
+            ledger.add_post(o, target, verdict, ActionId::new(action), args);
+            true
+        }
+        None => false,
+    }
 }
 
 fn waits(ledger: &mut Ledger, o: ObjId) -> bool {
@@ -92,21 +102,29 @@ fn waits(ledger: &mut Ledger, o: ObjId) -> bool {
     true
 }
 
+// The readings, for two owners.
+fn shared_readings(alloc: Global, rows: &[(usize, usize)]) -> Option<(Readings, Readings)>
+    ensures { IfSome result (λ r. r.1 ≡ r.0) }
+{
+    let readings = readings_of(alloc, rows)?;
+    let kept = readings.share().ok()?;
+    Some((readings, kept))
+}
+
 fn sees(alloc: Global, ledger: &mut Ledger, o: ObjId, rows: &[(usize, usize)]) -> bool {
-    let Some(readings) = readings_of(alloc, rows) else {
-        return false;
-    };
-    let Ok(kept) = readings.share() else {
-        return false;
-    };
     if !ledger.domain().has(o) {
         return false;
     }
     if ledger.hold(1).is_err() || ledger.hold_answers(o, 1).is_err() {
         return false;
     }
-    ledger.add_seen(o, readings, kept);
-    true
+    match shared_readings(alloc, rows) {
+        Some((readings, kept)) => {
+            ledger.add_seen(o, readings, kept);
+            true
+        }
+        None => false,
+    }
 }
 
 // An end, which takes no memory.
@@ -157,4 +175,14 @@ pub fn adds(alloc: Global, ledger: &mut Ledger, line: Line) -> bool {
         Line::Kill(o, session) => kills_by(ledger, ObjId::new(o), session),
         Line::Fault(o) => kills(ledger, ObjId::new(o), Cause::Fault),
     }
+}
+
+/// Whether these entries were added, one after another.
+pub fn adds_all(alloc: Global, ledger: &mut Ledger, lines: &[Line]) -> bool {
+    for line in lines {
+        if !adds(alloc, ledger, *line) {
+            return false;
+        }
+    }
+    true
 }

@@ -10,7 +10,7 @@ use sml_domain::value::Value;
 use sml_text::source::Source;
 use sml_text::tokens::{Lexeme, next_token};
 use sml_tree::name::Name;
-use std::alloc::Global;
+use std::alloc::{AllocError, Global};
 use std::test::*;
 
 /// A counter C, which keeps a number and a string, and the sink OUT to which it sends them.
@@ -204,18 +204,23 @@ fn are(args: &Args, values: &[Plain]) -> bool {
     args.values().len() == values.len()
 }
 
+// Whether what was made is this.
+fn is_made(made: &Result<Option<Args>, AllocError>, wanted: Option<&[Plain]>) -> bool {
+    match (made, wanted) {
+        (Ok(Some(args)), Some(values)) => are(args, values),
+        (Ok(None), None) => true,
+        _ => false,
+    }
+}
+
 // Whether what a row passes makes what it says.
 fn makes(alloc: Global, domain: &Domain, row: Row) -> bool {
     let Some(params) = domain.parameters(ObjId::new(row.object), ActionId::new(row.action)) else {
         return false;
     };
-    let Some(passed) = passed_of(alloc, row) else {
-        return false;
-    };
-    match (complete(alloc, params, &passed), row.made) {
-        (Ok(Some(args)), Some(values)) => are(&args, values),
-        (Ok(None), None) => true,
-        _ => false,
+    match passed_of(alloc, row) {
+        Some(passed) => is_made(&complete(alloc, params, &passed), row.made),
+        None => false,
     }
 }
 

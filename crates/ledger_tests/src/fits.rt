@@ -1,7 +1,7 @@
 //! Whether envelopes fit a counter and its sink, and what each of their four owners is given.
 
-use crate::completing::{C, COUNTER, OUT, PUT, Plain, SHOW, TAKE, value_of};
-use smi_entry::args::Args;
+use crate::adding::args_of;
+use crate::completing::{C, COUNTER, OUT, PUT, Plain, SHOW, TAKE};
 use smi_entry::entry::Sender;
 use smi_entry::envelope::Envelope;
 use smi_entry::letter::Letter;
@@ -40,12 +40,8 @@ const ROWS: &[Row] = &[
 
 // An envelope of the first session.
 fn envelope_of(alloc: Global, action: usize, values: &[Plain]) -> Option<Envelope> {
-    let mut list = Vec::new(alloc);
-    for plain in values {
-        list.push(value_of(alloc, *plain)?).ok()?;
-    }
     let sender = Sender::Operator(SessionId::new(1)?);
-    let args = Args::new(alloc, list).ok()?;
+    let args = args_of(alloc, values)?;
     Envelope::new(sender, ActionId::new(action), args).ok()
 }
 

@@ -1,11 +1,13 @@
 //! The texts of journals.
 
-use crate::adding::adds;
+use crate::adding::adds_all;
 use crate::completing::{COUNTER, Plain};
 use crate::runs::{ARGUMENTS, By, KILLED_SUPPLY, KILLS, Line, Run, STANDARD, SUPPLIES};
+use crate::tests_of_runs::ledger_of;
+use smi_entry::entry::Entry;
 use smi_journal::journal_text::write_journal;
 use smi_ledger::ledger::Ledger;
-use sml_checkable::domain_of;
+use sml_domain::domain::Domain;
 use std::alloc::Global;
 
 /// The text of a journal.
@@ -93,22 +95,27 @@ const NO_ENTRIES: Run = Run {
     facts: &[],
 };
 
-// The text of the journal of a run, or none where a line can't be added or memory is refused.
-fn text_of(alloc: Global, run: Run) -> Option<Vec<u8>> {
-    let mut ledger = Ledger::new(alloc, domain_of(alloc, run.text).ok()?).ok()?;
-    for line in run.lines {
-        if !adds(alloc, &mut ledger, *line) {
-            return None;
-        }
-    }
+/// The text of entries, or none where memory is refused.
+pub fn text_of(alloc: Global, domain: &Domain, entries: &[Entry]) -> Option<Vec<u8>> {
     let mut text = Vec::new(alloc);
-    write_journal(ledger.domain(), ledger.journal(), &mut text).ok()?;
+    write_journal(domain, entries, &mut text).ok()?;
     Some(text)
 }
 
-fn is_written_as(alloc: Global, run: Run, expected: &[u8]) -> bool {
-    match text_of(alloc, run) {
+fn is_text_of(alloc: Global, ledger: &Ledger, expected: &[u8]) -> bool {
+    match text_of(alloc, ledger.domain(), ledger.journal()) {
         Some(text) => text.as_slice() == expected,
+        None => false,
+    }
+}
+
+// Whether the journal of a run, whose lines can be added, is written so.
+fn is_written_as(alloc: Global, run: Run, expected: &[u8]) -> bool {
+    match ledger_of(alloc, run.text) {
+        Some(ledger) => {
+            let mut ledger = ledger;
+            adds_all(alloc, &mut ledger, run.lines) && is_text_of(alloc, &ledger, expected)
+        }
         None => false,
     }
 }

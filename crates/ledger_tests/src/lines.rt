@@ -1,7 +1,7 @@
 //! Lines of schedules: what they ask, and what answers write.
 
+use crate::adding::args_of;
 use crate::completing::{C, COUNTER, Plain, value_of};
-use smi_entry::args::Args;
 use smi_entry::completing::Passed;
 use smi_entry::entry::{ActionEnd, Entry};
 use smi_lines::answer::tell_answer;
@@ -11,7 +11,6 @@ use smi_world::step::{Answer, Step};
 use sml_checkable::domain_of;
 use sml_domain::domain::Domain;
 use sml_domain::ids::{ObjId, ParamId, StateId};
-use sml_domain::value::Value;
 use std::alloc::Global;
 use std::test::*;
 
@@ -171,11 +170,19 @@ fn request_of(alloc: Global, count: usize) -> Option<Vec<u8>> {
     Some(line)
 }
 
+/// Whether a step is a request with so many arguments.
+fn has_arguments(step: &Step, count: usize) -> bool {
+    match step {
+        Step::Request { args, .. } => args.list().len() == count,
+        _ => false,
+    }
+}
+
 /// Whether a request with so many arguments is a step.
 fn is_step_of(alloc: Global, count: usize) -> Option<bool> {
     let line = request_of(alloc, count)?;
     match read_step(alloc, &line) {
-        Ok(Some(Step::Request { args, .. })) => Some(args.list().len() == count),
+        Ok(Some(step)) => Some(has_arguments(&step, count)),
         _ => Some(false),
     }
 }
@@ -202,62 +209,77 @@ enum Told {
     Refused(StepError),
 }
 
-/// The values of a row.
-fn values_of(alloc: Global, row: &[Plain]) -> Option<Vec<Value>> {
-    let mut values = Vec::new(alloc);
-    for plain in row {
-        values.push(value_of(alloc, *plain)?).ok()?;
-    }
-    Some(values)
-}
-
-/// The answer of a row, with the entries that it adds.
-fn answer_of(alloc: Global, told: Told) -> Option<(Result<Answer, StepError>, Vec<Entry>)> {
+/// The entries that the answer of a row adds.
+fn added_of(alloc: Global, told: Told) -> Option<Vec<Entry>> {
     let mut added = Vec::new(alloc);
-    let answer = match told {
-        Told::Accepted(number, row) => Ok(Answer::Accepted {
-            number,
-            args: Args::new(alloc, values_of(alloc, row)?).ok()?,
-        }),
-        Told::Ended(object, state) => {
-            added
-                .push(Entry::End {
-                    object: ObjId::new(object),
-                    result: ActionEnd::State(StateId::new(state)),
-                })
-                .ok()?;
-            Ok(Answer::Entries { first: 7, count: 1 })
-        }
-        Told::Changed(param, plain) => Ok(Answer::Changed {
-            param: ParamId::new(param),
-            value: value_of(alloc, plain)?,
-        }),
-        Told::Still => Ok(Answer::Still),
-        Told::Refused(error) => Err(error),
-    };
-    Some((answer, added))
+    if let Told::Ended(object, state) = told {
+        added
+            .push(Entry::End {
+                object: ObjId::new(object),
+                result: ActionEnd::State(StateId::new(state)),
+            })
+            .ok()?;
+    }
+    Some(added)
 }
 
-/// What the answer to a step writes.
-fn written(alloc: Global, domain: &Domain, step: &Step, told: Told) -> Option<Vec<u8>> {
-    let (answer, added) = answer_of(alloc, told)?;
+/// The answer of a row.
+fn answer_of(alloc: Global, told: Told) -> Option<Result<Answer, StepError>> {
+    match told {
+        Told::Accepted(number, row) => {
+            let args = args_of(alloc, row)?;
+            Some(Ok(Answer::Accepted { number, args }))
+        }
+        Told::Ended(_, _) => Some(Ok(Answer::Entries { first: 7, count: 1 })),
+        Told::Changed(param, plain) => {
+            let value = value_of(alloc, plain)?;
+            Some(Ok(Answer::Changed {
+                param: ParamId::new(param),
+                value,
+            }))
+        }
+        Told::Still => Some(Ok(Answer::Still)),
+        Told::Refused(error) => Some(Err(error)),
+    }
+}
+
+/// What an answer with the entries that it adds writes.
+fn text_of(
+    alloc: Global,
+    domain: &Domain,
+    step: &Step,
+    answer: &Result<Answer, StepError>,
+    added: &[Entry],
+) -> Option<Vec<u8>> {
     let mut written = Vec::new(alloc);
     let mut failed = false;
-    tell_answer(&mut written, &mut failed, domain, step, &answer, &added);
+    tell_answer(&mut written, &mut failed, domain, step, answer, added);
     if failed {
         return None;
     }
     Some(written)
 }
 
-/// Whether the answer to the step of a line writes this.
-fn writes(alloc: Global, domain: &Domain, line: &[u8], told: Told, text: &[u8]) -> bool {
-    let Ok(Some(step)) = read_step(alloc, line) else {
-        return false;
-    };
-    match written(alloc, domain, &step, told) {
+/// What the answer to a step writes.
+fn written(alloc: Global, domain: &Domain, step: &Step, told: Told) -> Option<Vec<u8>> {
+    let added = added_of(alloc, told)?;
+    let answer = answer_of(alloc, told)?;
+    text_of(alloc, domain, step, &answer, &added)
+}
+
+/// Whether the answer to a step writes this.
+fn is_written(alloc: Global, domain: &Domain, step: &Step, told: Told, text: &[u8]) -> bool {
+    match written(alloc, domain, step, told) {
         Some(written) => written.as_slice() == text,
         None => false,
+    }
+}
+
+/// Whether the answer to the step of a line writes this.
+fn writes(alloc: Global, domain: &Domain, line: &[u8], told: Told, text: &[u8]) -> bool {
+    match read_step(alloc, line) {
+        Ok(Some(step)) => is_written(alloc, domain, &step, told, text),
+        _ => false,
     }
 }
 

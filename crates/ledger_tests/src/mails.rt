@@ -4,9 +4,9 @@ ghost use Rattle.smi_entry.specs.declared.entry.Sender.{Sender};
 ghost use Rattle.smi_entry.specs.Fits.{letter_fits};
 ghost use Rattle.smi_mail.specs.Mails.{is_sender};
 
-use crate::completing::{Plain, value_of};
+use crate::adding::args_of;
+use crate::completing::Plain;
 use crate::runs::By;
-use smi_entry::args::Args;
 use smi_entry::entry::Sender;
 use smi_entry::envelope::Envelope;
 use smi_entry::session::SessionId;
@@ -53,14 +53,6 @@ fn sender_of(domain: &Domain, by: By) -> Option<Sender>
             Some(Sender::Object(object))
         }
     }
-}
-
-fn args_of(alloc: Global, given: &[Plain]) -> Option<Args> {
-    let mut values = Vec::new(alloc);
-    for plain in given {
-        values.push(value_of(alloc, *plain)?).ok()?;
-    }
-    Args::new(alloc, values).ok()
 }
 
 // The envelope of a request, whose sender is one of the domain.

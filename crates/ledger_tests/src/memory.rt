@@ -4,11 +4,11 @@
 
 use crate::adding::adds;
 use crate::completing::{Plain, completes_at_last};
+use crate::journal_texts::text_of;
 use crate::look_ups::is_as_walked;
 use crate::runs::{By, Line};
 use smi_entry::entry::{Entry, Verdict};
 use smi_entry::journal::Journal;
-use smi_journal::journal_text::write_journal;
 use smi_journal::read::{JournalError, read_journal};
 use smi_ledger::ledger::Ledger;
 use sml_checkable::domain_of;
@@ -86,12 +86,6 @@ fn journal_at_last(alloc: Global, domain: &Domain) -> Option<Journal> {
         Err(JournalError::Memory) => read_journal(alloc, domain, TEXT).ok(),
         Err(_) => None,
     }
-}
-
-fn text_of(alloc: Global, domain: &Domain, entries: &[Entry]) -> Option<Vec<u8>> {
-    let mut text = Vec::new(alloc);
-    write_journal(domain, entries, &mut text).ok()?;
-    Some(text)
 }
 
 // Whether entries are written as the text, at the second time at the latest.

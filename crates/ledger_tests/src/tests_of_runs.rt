@@ -8,7 +8,8 @@ use smi_ledger::ledger::Ledger;
 use sml_checkable::domain_of;
 use std::alloc::Global;
 
-fn ledger_of(alloc: Global, text: &[u8]) -> Option<Ledger> {
+/// The ledger of a domain, to which nothing was added.
+pub fn ledger_of(alloc: Global, text: &[u8]) -> Option<Ledger> {
     Ledger::new(alloc, domain_of(alloc, text).ok()?).ok()
 }
 
