@@ -1,8 +1,11 @@
 //! Tasks of a board, followed from contact to contact.
-ghost use Rattle.std.specs.Prelude.{◌≡◌, ◌<◌, IfSome, IsSome, false, length};
+ghost use Rattle.std.specs.Prelude.{◌≡◌, ◌<◌, ℕ, IfErr, IfOk, IfSome, IsSome, None, OnErr, Some, false, length};
+ghost use Rattle.sml_domain.specs.Domain.{Domain};
+ghost use Rattle.smi_board.specs.Contacts.{IsTaskOf, RepliesTaskOf, StartsTaskOf};
 
 use smi_board::board::Board;
 use smi_board::contacts::Reply;
+use smi_board::errors::{ContactError, StartError};
 use smi_board::resuming::Work;
 use smi_board::starting::Started;
 use smi_interp::task::Task;
@@ -26,89 +29,153 @@ pub enum Made {
     Shelved,
 }
 
-// What is left of a task, where this holds.
-fn only_if(holds: bool, left: Option<Task>) -> Option<Option<Task>>
-    ensures { IfSome result (λ r. r ≡ left) }
+/// Puts a task into a place. What was there goes by a call, which is less to prove than on the spot.
+pub fn put(place: &mut Option<Task>, task: Task)
+    ensures { place.new ≡ Some task }
 {
-    if !holds {
-        return None;
-    }
-    Some(left)
+    drop(place.replace(task));
 }
 
-// Hands a task in, whose contact waits: where it is answered so, what comes back.
-fn hand_in(board: &mut Board<PlainMail>, task: Task, made: Made) -> Option<Option<Task>>
+// What a reply tells. The task goes on in an empty place, if it does.
+fn leave(place: &mut Option<Task>, reply: Reply) -> Made
+    requires { place.old ≡ None }
+    ensures { (d : Domain) (o : ℕ) → RepliesTaskOf d o reply → IfSome place.new (IsTaskOf d o) }
+{
+    match reply {
+        Reply::Posted(task) => {
+            put(place, task);
+            Made::Posted
+        }
+        Reply::Seen(task) => {
+            put(place, task);
+            Made::Seen
+        }
+        Reply::Waiting => Made::Waiting,
+        Reply::Ended => Made::Ended,
+    }
+}
+
+/// Hands a task in, whose contact waits: what becomes of it. It goes on in an empty place, if it does.
+pub fn contact(
+    board: &mut Board<PlainMail>,
+    place: &mut Option<Task>,
+    task: Task,
+) -> Result<Made, (ContactError, Task)>
     requires domain { task.domain ≡ board.old.domain }
     requires within { task.turn.object < length board.old.domain.objects }
     requires waits { IsSome task.pending }
+    requires none { place.old ≡ None }
     ensures same { board.new.domain ≡ board.old.domain }
-    ensures task { IfSome result (λ r. IfSome r (λ t.
-        (t.domain ≡ board.old.domain) × (t.turn.object < length board.old.domain.objects))) }
+    ensures left { IfSome place.new (IsTaskOf board.old.domain task.turn.object) }
+    ensures back { IfErr result (λ e. e.1 ≡ task) }
+    ensures none { OnErr result (place.new ≡ None) }
 {
     match board.contact(task) {
-        Ok(Reply::Posted(task)) => only_if(made == Made::Posted, Some(task)),
-        Ok(Reply::Seen(task)) => only_if(made == Made::Seen, Some(task)),
-        Ok(Reply::Waiting) => only_if(made == Made::Waiting, None),
-        Ok(Reply::Ended) => only_if(made == Made::Ended, None),
-        Err(_) => None,
+        Ok(reply) => Ok(leave(place, reply)),
+        Err(refused) => Err(refused),
     }
 }
 
-// Hands a task back.
-fn hand_back(board: &mut Board<PlainMail>, task: Task) -> Option<Option<Task>>
+/// Hands a task back: how it is refused, if it is.
+pub fn hand_back(board: &mut Board<PlainMail>, task: Task) -> Option<ContactError>
     requires domain { task.domain ≡ board.old.domain }
     requires within { task.turn.object < length board.old.domain.objects }
     ensures same { board.new.domain ≡ board.old.domain }
-    ensures gone { IfSome result (λ r. IfSome r (λ t. ⊥)) }
 {
     match board.shelve(task) {
-        Ok(()) => Some(None),
-        Err(_) => None,
+        Ok(()) => None,
+        Err((error, task)) => {
+            drop(task);
+            Some(error)
+        }
     }
 }
 
-// Whether a task makes its next move, where memory is refused at the second try.
-fn moves_on(task: &mut Task) -> bool
+// Hands a task in, whose contact waits: whether this becomes of it.
+fn hand_in(board: &mut Board<PlainMail>, place: &mut Option<Task>, task: Task, made: Made) -> bool
+    requires domain { task.domain ≡ board.old.domain }
+    requires within { task.turn.object < length board.old.domain.objects }
+    requires waits { IsSome task.pending }
+    requires none { place.old ≡ None }
+    ensures same { board.new.domain ≡ board.old.domain }
+    ensures left { IfSome place.new (IsTaskOf board.old.domain task.turn.object) }
+{
+    match contact(board, place, task).ok() {
+        Some(told) => told == made,
+        None => false,
+    }
+}
+
+// Whether a task makes a move.
+fn moves(task: &mut Task) -> bool
     ensures domain { task.new.domain ≡ task.old.domain }
     ensures object { task.new.turn.object ≡ task.old.turn.object }
 {
-    task.advance().is_ok() || task.advance().is_ok()
+    task.advance().is_ok()
 }
 
-/// Whether the next contact of a task is a set, and the task after it.
-pub fn advanced(task: Task) -> Option<(bool, Task)>
-    ensures domain { IfSome result (λ r. r.1.domain ≡ task.domain) }
-    ensures object { IfSome result (λ r. r.1.turn.object ≡ task.turn.object) }
-    ensures waits { IfSome result (λ r. r.0 ≡ false → IsSome r.1.pending) }
+/// Whether the next contact of a task is a set. Where memory is refused at the second try too, none is known.
+pub fn sets_next(task: &mut Task) -> Option<bool>
+    ensures domain { task.new.domain ≡ task.old.domain }
+    ensures object { task.new.turn.object ≡ task.old.turn.object }
+    ensures waits { IfSome result (λ r. r ≡ false → IsSome task.new.pending) }
 {
-    let mut task = task;
-    if !moves_on(&mut task) {
-        return None;
-    }
-    let is_set = task.pending().is_none();
-    Some((is_set, task))
-}
-
-// Lets a task make its next move: where it is answered so, what comes back.
-fn go_on(board: &mut Board<PlainMail>, task: Task, made: Made) -> Option<Option<Task>>
-    requires domain { task.domain ≡ board.old.domain }
-    requires within { task.turn.object < length board.old.domain.objects }
-    ensures same { board.new.domain ≡ board.old.domain }
-    ensures task { IfSome result (λ r. IfSome r (λ t.
-        (t.domain ≡ board.old.domain) × (t.turn.object < length board.old.domain.objects))) }
-{
-    if made == Made::Shelved {
-        return hand_back(board, task);
-    }
-    let (is_set, task) = advanced(task)?;
-    if !is_set {
-        return hand_in(board, task, made);
-    }
-    if made == Made::Set {
-        Some(Some(task))
+    if moves(task) || moves(task) {
+        Some(task.pending().is_none())
     } else {
         None
     }
+}
+
+// Lets a task make its next move: whether this becomes of it. It goes on in an empty place, if it does.
+fn go_on(board: &mut Board<PlainMail>, place: &mut Option<Task>, task: Task, made: Made) -> bool
+    requires domain { task.domain ≡ board.old.domain }
+    requires within { task.turn.object < length board.old.domain.objects }
+    requires none { place.old ≡ None }
+    ensures same { board.new.domain ≡ board.old.domain }
+    ensures left { IfSome place.new (IsTaskOf board.old.domain task.turn.object) }
+{
+    let mut task = task;
+    match sets_next(&mut task) {
+        Some(false) => hand_in(board, place, task, made),
+        is_set => {
+            put(place, task);
+            is_set.is_some() && made == Made::Set
+        }
+    }
+}
+
+// Whether the task in a place makes this move. Where it is gone then, the place is empty.
+fn makes(board: &mut Board<PlainMail>, o: ObjId, place: &mut Option<Task>, made: Made) -> bool
+    requires within { o < length board.old.domain.objects }
+    requires task { IfSome place.old (IsTaskOf board.old.domain o) }
+    ensures same { board.new.domain ≡ board.old.domain }
+    ensures left { IfSome place.new (IsTaskOf board.old.domain o) }
+{
+    match place.take() {
+        Some(task) if made == Made::Shelved => hand_back(board, task).is_none(),
+        Some(task) => go_on(board, place, task, made),
+        None => false,
+    }
+}
+
+// Whether the task in a place makes these moves and no others before it is gone.
+fn makes_all(
+    board: &mut Board<PlainMail>,
+    o: ObjId,
+    place: &mut Option<Task>,
+    moves: &[Made],
+) -> bool
+    requires within { o < length board.old.domain.objects }
+    requires task { IfSome place.old (IsTaskOf board.old.domain o) }
+    ensures { board.new.domain ≡ board.old.domain }
+{
+    for made in moves {
+        if !makes(board, o, place, *made) {
+            return false;
+        }
+    }
+    place.is_none()
 }
 
 // Whether a task makes these moves and no others before it is gone.
@@ -117,15 +184,20 @@ fn follows(board: &mut Board<PlainMail>, task: Task, moves: &[Made]) -> bool
     requires within { task.turn.object < length board.old.domain.objects }
     ensures { board.new.domain ≡ board.old.domain }
 {
-    let mut task = task;
-    for (i, made) in moves.iter().enumerate() {
-        match go_on(board, task, *made) {
-            Some(Some(next)) => task = next,
-            Some(None) => return i + 1 == moves.len(),
-            None => return false,
-        }
-    }
-    false
+    let o = task.turn().object;
+    let mut place = Some(task);
+    let all = makes_all(board, o, &mut place, moves);
+    drop(place);
+    all
+}
+
+/// What the start of an object's next request gives.
+pub fn start(board: &mut Board<PlainMail>, o: ObjId) -> Result<Started, StartError>
+    requires { o < length board.old.domain.objects }
+    ensures same { board.new.domain ≡ board.old.domain }
+    ensures task { IfOk result (StartsTaskOf board.old.domain o) }
+{
+    board.start(o)
 }
 
 /// Whether an object starts its next request, and its task makes these moves.
@@ -133,7 +205,7 @@ pub fn acts(board: &mut Board<PlainMail>, o: ObjId, moves: &[Made]) -> bool
     requires { o < length board.old.domain.objects }
     ensures { board.new.domain ≡ board.old.domain }
 {
-    match board.start(o) {
+    match start(board, o) {
         Ok(Started::Run(task)) => follows(board, task, moves),
         _ => false,
     }

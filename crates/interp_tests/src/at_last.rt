@@ -1,15 +1,14 @@
 //! Boards that are refused memory: each call leaves all as it was, and the same call then gives its answer.
-ghost use Rattle.std.specs.Prelude.{◌≡◌, ◌<◌, IfSome, IsSome, length};
+ghost use Rattle.std.specs.Prelude.{◌≡◌, ◌<◌, IfSome, IsSome, None, length};
 ghost use Rattle.std.specs.Arc.{arc_value};
-ghost use Rattle.smi_board.specs.Contacts.{RepliesTaskOf, StartsTaskOf};
+ghost use Rattle.smi_board.specs.Contacts.{IsTaskOf, StartsTaskOf};
 
-use crate::acts::advanced;
+use crate::acts::{contact, put, sets_next, start};
 use crate::boards::{Run, board_of};
 use crate::lines::{Asked, Line, are_lines};
 use crate::strangers::asks;
 use crate::walk::{Plain, are_values};
 use smi_board::board::Board;
-use smi_board::contacts::Reply;
 use smi_board::resuming::Work;
 use smi_board::starting::Started;
 use smi_entry::entry::Verdict::Accepted;
@@ -93,54 +92,79 @@ const LINES: &[Line] = &[
     Line::Kill(OUT, 1),
 ];
 
-// Hands a task in, whose contact waits.
-fn contact_at_last(board: &mut Board<PlainMail>, task: Task) -> Option<Reply>
+// Whether a task, whose contact waits, is answered. It goes on in an empty place, if it does.
+fn contact_at_last(board: &mut Board<PlainMail>, place: &mut Option<Task>, task: Task) -> bool
     requires domain { task.domain ≡ board.old.domain }
     requires within { task.turn.object < length board.old.domain.objects }
     requires waits { IsSome task.pending }
+    requires none { place.old ≡ None }
     ensures same { board.new.domain ≡ board.old.domain }
-    ensures task { IfSome result (RepliesTaskOf board.old.domain task.turn.object) }
+    ensures left { IfSome place.new (IsTaskOf board.old.domain task.turn.object) }
 {
-    match board.contact(task) {
-        Ok(reply) => Some(reply),
-        Err((_, task)) => board.contact(task).ok(),
+    match contact(board, place, task) {
+        Ok(_) => true,
+        Err((_, task)) => contact(board, place, task).ok().is_some(),
     }
 }
 
-// Lets a task make its next move: the task that goes on, if one does.
-fn go_on(board: &mut Board<PlainMail>, task: Task) -> Option<Option<Task>>
+// Whether a task makes its next move. It goes on in an empty place, if it does.
+fn go_on(board: &mut Board<PlainMail>, place: &mut Option<Task>, task: Task) -> bool
     requires domain { task.domain ≡ board.old.domain }
     requires within { task.turn.object < length board.old.domain.objects }
+    requires none { place.old ≡ None }
     ensures same { board.new.domain ≡ board.old.domain }
-    ensures task { IfSome result (λ r. IfSome r (λ t.
-        (t.domain ≡ board.old.domain) × (t.turn.object < length board.old.domain.objects))) }
+    ensures left { IfSome place.new (IsTaskOf board.old.domain task.turn.object) }
 {
-    let (is_set, task) = advanced(task)?;
-    if is_set {
-        return Some(Some(task));
-    }
-    match contact_at_last(board, task)? {
-        Reply::Posted(task) => Some(Some(task)),
-        Reply::Seen(task) => Some(Some(task)),
-        _ => Some(None),
+    let mut task = task;
+    match sets_next(&mut task) {
+        Some(false) => contact_at_last(board, place, task),
+        is_set => {
+            put(place, task);
+            is_set.is_some()
+        }
     }
 }
 
-// Lets a task go on until it waits or ends, which it does after four moves at most.
+// Whether the task in a place makes its next move. Where it is gone then, the place is empty.
+fn makes(board: &mut Board<PlainMail>, o: ObjId, place: &mut Option<Task>) -> bool
+    requires within { o < length board.old.domain.objects }
+    requires task { IfSome place.old (IsTaskOf board.old.domain o) }
+    ensures same { board.new.domain ≡ board.old.domain }
+    ensures left { IfSome place.new (IsTaskOf board.old.domain o) }
+{
+    match place.take() {
+        Some(task) => go_on(board, place, task),
+        None => false,
+    }
+}
+
+// Lets the task in a place go on until it waits or ends, which it does after four moves at most.
+fn makes_all(board: &mut Board<PlainMail>, o: ObjId, place: &mut Option<Task>) -> bool
+    requires within { o < length board.old.domain.objects }
+    requires task { IfSome place.old (IsTaskOf board.old.domain o) }
+    ensures { board.new.domain ≡ board.old.domain }
+{
+    for _ in 0..4u32 {
+        if !makes(board, o, place) {
+            return false;
+        }
+        if place.is_none() {
+            return true;
+        }
+    }
+    false
+}
+
 fn goes_on(board: &mut Board<PlainMail>, task: Task) -> bool
     requires domain { task.domain ≡ board.old.domain }
     requires within { task.turn.object < length board.old.domain.objects }
     ensures { board.new.domain ≡ board.old.domain }
 {
-    let mut task = task;
-    for _ in 0..4u32 {
-        match go_on(board, task) {
-            Some(Some(next)) => task = next,
-            Some(None) => return true,
-            None => return false,
-        }
-    }
-    false
+    let o = task.turn().object;
+    let mut place = Some(task);
+    let all = makes_all(board, o, &mut place);
+    drop(place);
+    all
 }
 
 fn start_at_last(board: &mut Board<PlainMail>, o: ObjId) -> Option<Started>
@@ -148,9 +172,9 @@ fn start_at_last(board: &mut Board<PlainMail>, o: ObjId) -> Option<Started>
     ensures same { board.new.domain ≡ board.old.domain }
     ensures task { IfSome result (StartsTaskOf board.old.domain o) }
 {
-    match board.start(o) {
+    match start(board, o) {
         Ok(started) => Some(started),
-        Err(_) => board.start(o).ok(),
+        Err(_) => start(board, o).ok(),
     }
 }
 
@@ -260,9 +284,12 @@ fn is_kept(alloc: Global, domain: &Arc<Domain>, skipped: usize) -> bool {
         return false;
     };
     let mut board = board;
-    answers_all(alloc, domain, &mut board, calls)
+    let kept = answers_all(alloc, domain, &mut board, calls)
         && is_put(domain, &board)
-        && are_lines(board.journal(), lines)
+        && are_lines(board.journal(), lines);
+    // By a call, which is less to prove than on the spot.
+    drop(board);
+    kept
 }
 
 // The domain, asked for a second time where it was refused.

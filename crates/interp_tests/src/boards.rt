@@ -2,10 +2,11 @@
 ghost use Rattle.std.specs.Prelude.{◌≡◌, ◌<◌, ℕ, [], IfSome, length, true};
 ghost use Rattle.std.specs.Arc.{arc_value};
 ghost use Rattle.smi_entry.specs.declared.entry.Sender.{Sender};
+ghost use Rattle.smi_entry.specs.Fits.{letter_fits};
 ghost use Rattle.smi_mail.specs.Boxes.{sent_at, taken_at};
 ghost use Rattle.smi_board.specs.Refusals.{is_operator};
 
-use crate::acts::{Made, acts, rests, resumes};
+use crate::acts::{Made, acts, rests, resumes, start};
 use crate::lines::{Asked, Line, are_lines, is_letter};
 use crate::walk::{Plain, are_values, values_of};
 use smi_board::board::Board;
@@ -70,11 +71,39 @@ pub struct Run {
 
 /// The envelope of a request, whose sender is an operator.
 pub fn envelope_of(alloc: Global, asked: Asked) -> Option<Envelope>
-    ensures { IfSome result (λ e. is_operator e.sender ≡ true) }
+    ensures operator { IfSome result (λ e. is_operator e.sender ≡ true) }
+    ensures action { IfSome result (λ e. e.action ≡ asked.action) }
 {
     let sender = Sender::Operator(SessionId::new(asked.session)?);
     let args = Args::new(alloc, values_of(alloc, asked.given)?).ok()?;
     Envelope::new(sender, ActionId::new(asked.action), args).ok()
+}
+
+/// The envelope of a request that fits an object, whose sender is an operator.
+pub fn fitting(alloc: Global, domain: &Domain, o: ObjId, asked: Asked) -> Option<Envelope>
+    ensures operator { IfSome result (λ e. is_operator e.sender ≡ true) }
+    ensures fits { IfSome result (λ e. letter_fits domain.now o e ≡ true) }
+{
+    let envelope = envelope_of(alloc, asked)?;
+    if !envelope.fits(domain, o) {
+        return None;
+    }
+    Some(envelope)
+}
+
+// Whether the answer to a request is this. A refused one comes back as it was.
+fn is_answer(
+    answer: &Result<u64, (RequestRefusal, Envelope)>,
+    row: (Asked, Result<u64, RequestRefusal>),
+) -> bool {
+    let (asked, told) = row;
+    match (answer, told) {
+        (Ok(number), Ok(wanted)) => *number == wanted,
+        (Err((refusal, back)), Err(wanted)) => {
+            *refusal == wanted && is_letter(back.letter(), asked, 0)
+        }
+        _ => false,
+    }
 }
 
 // Whether a request that fits is answered so.
@@ -89,19 +118,9 @@ fn requests(
     requires domain { board.old.domain ≡ domain.now }
     ensures { board.new.domain ≡ domain.now }
 {
-    let (asked, told) = row;
-    let Some(envelope) = envelope_of(alloc, asked) else {
-        return false;
-    };
-    if !envelope.fits(domain, o) {
-        return false;
-    }
-    match (board.request(o, envelope), told) {
-        (Ok(number), Ok(wanted)) => number == wanted,
-        (Err((refusal, back)), Err(wanted)) => {
-            refusal == wanted && is_letter(back.letter(), asked, 0)
-        }
-        _ => false,
+    match fitting(alloc, domain, o, row.0) {
+        Some(envelope) => is_answer(&board.request(o, envelope), row),
+        None => false,
     }
 }
 
@@ -130,16 +149,27 @@ fn is_opened(started: &Started, o: ObjId, opened: Opened) -> bool {
     }
 }
 
+fn is_start(
+    given: &Result<Started, StartError>,
+    o: ObjId,
+    told: Result<Opened, StartError>,
+) -> bool {
+    match (given, told) {
+        (Ok(started), Ok(opened)) => is_opened(started, o, opened),
+        (Err(error), Err(wanted)) => *error == wanted,
+        _ => false,
+    }
+}
+
 // Whether the next start gives this.
 fn starts(board: &mut Board<PlainMail>, o: ObjId, told: Result<Opened, StartError>) -> bool
     requires { o < length board.old.domain.objects }
     ensures { board.new.domain ≡ board.old.domain }
 {
-    match (board.start(o), told) {
-        (Ok(started), Ok(opened)) => is_opened(&started, o, opened),
-        (Err(error), Err(wanted)) => error == wanted,
-        _ => false,
-    }
+    let given = start(board, o);
+    let is_told = is_start(&given, o, told);
+    drop(given);
+    is_told
 }
 
 // Whether a kill by a session is answered so.
@@ -229,8 +259,8 @@ fn mail_of(alloc: Global, domain: &Arc<Domain>, capacity: usize) -> Option<Plain
 pub fn board_of(alloc: Global, domain: &Arc<Domain>, run: Run) -> Option<Board<PlainMail>>
     ensures { IfSome result (λ b. b.domain ≡ arc_value domain.now) }
 {
-    let mail = mail_of(alloc, domain, run.capacity)?;
     let shared = Arc::try_clone(domain).ok()?;
+    let mail = mail_of(alloc, domain, run.capacity)?;
     Board::new(alloc, shared, mail, run.most).ok()
 }
 
@@ -243,6 +273,9 @@ pub fn is_kept(alloc: Global, run: Run) -> bool {
         return false;
     };
     let mut board = board;
-    wrong_call(alloc, &domain, &mut board, run.calls).is_none()
-        && are_lines(board.journal(), run.journal)
+    let kept = wrong_call(alloc, &domain, &mut board, run.calls).is_none()
+        && are_lines(board.journal(), run.journal);
+    // By a call, which is less to prove than on the spot.
+    drop(board);
+    kept
 }

@@ -1,12 +1,16 @@
 //! Actions of known domains, followed by hand.
+ghost use Rattle.std.specs.Prelude.{◌≡◌, IfSome, IsTrue, is_some};
+ghost use Rattle.sml_domain.specs.Lookups.{block_at};
 
+use crate::beginnings::ready_of;
+use crate::boards::envelope_of;
+use crate::lines::Asked;
 use crate::texts::{COUNTER, EMPTY, LISTS, NESTED, SUPPLIES};
 use crate::walk::{Plain, are_values, values_of};
-use smi_entry::args::{Args, Reading};
-use smi_entry::entry::{Sender, Verdict};
-use smi_entry::envelope::Envelope;
-use smi_entry::session::SessionId;
-use smi_follower::follower::{Expected, Follower};
+use smi_entry::args::Reading;
+use smi_entry::entry::Verdict;
+use smi_entry::letter::Letter;
+use smi_follower::follower::{Ended, Expected, Follower};
 use smi_interp::contact::Post;
 use smi_interp::task::Ready;
 use sml_checkable::domain_of;
@@ -170,20 +174,31 @@ const ROWS: &[(Opened, &[Told], Next)] = &[
     ),
 ];
 
-fn begun(alloc: Global, opened: &Opened) -> Option<Follower> {
+// The letter of the first session.
+fn letter_of(alloc: Global, opened: &Opened) -> Option<Letter>
+    ensures { IfSome result (λ l. l.action ≡ opened.now.action) }
+{
+    let asked = Asked {
+        session: 1,
+        action: opened.action,
+        given: opened.given,
+    };
+    Some(envelope_of(alloc, asked)?.into_letters().task)
+}
+
+fn ready_for(alloc: Global, opened: &Opened) -> Option<Ready>
+    ensures { IfSome result (λ r. IsTrue (is_some (block_at r.domain r.object opened.now.state opened.now.action))) }
+{
     let domain = domain_of(alloc, opened.text).ok()?;
-    let object = ObjId::new(opened.object);
-    let state = StateId::new(opened.state);
-    let action = ActionId::new(opened.action);
-    let args = Args::new(alloc, values_of(alloc, opened.given)?).ok()?;
     let params = values_of(alloc, opened.params)?;
-    let sender = Sender::Operator(SessionId::new(1)?);
-    let envelope = Envelope::new(sender, action, args).ok()?;
-    if !domain.declares(object, state, action) {
-        return None;
-    }
-    let ready = Ready::new(alloc, domain, object, &params).ok()?;
-    Follower::begin(alloc, ready, state, envelope.into_letters().task).ok()
+    let begins = (StateId::new(opened.state), ActionId::new(opened.action));
+    ready_of(alloc, domain, ObjId::new(opened.object), begins, &params)
+}
+
+fn begun(alloc: Global, opened: &Opened) -> Option<Follower> {
+    let letter = letter_of(alloc, opened)?;
+    let ready = ready_for(alloc, opened)?;
+    Follower::begin(alloc, ready, StateId::new(opened.state), letter).ok()
 }
 
 fn readings_of(alloc: Global, objects: &[usize], states: &[usize]) -> Option<Vec<Reading>> {
@@ -199,17 +214,24 @@ fn readings_of(alloc: Global, objects: &[usize], states: &[usize]) -> Option<Vec
     Some(readings)
 }
 
-// The follower after what it is told, or none where it may not go on so.
+// The follower after what it is told, or none where it may not go on so. One that can't be told goes by a call,
+// which is less to prove than on the spot.
 fn goes_on(alloc: Global, follower: Follower, told: Told) -> Option<Follower> {
     match told {
         Told::Post(target, action, args, verdict) => {
-            let values = values_of(alloc, args)?;
+            let Some(values) = values_of(alloc, args) else {
+                drop(follower);
+                return None;
+            };
             follower
                 .post(ObjId::new(target), ActionId::new(action), &values, verdict)
                 .ok()?
         }
         Told::Seen(objects, states) => {
-            let readings = readings_of(alloc, objects, states)?;
+            let Some(readings) = readings_of(alloc, objects, states) else {
+                drop(follower);
+                return None;
+            };
             follower.seen(&readings).ok()?
         }
     }
@@ -269,20 +291,27 @@ fn expects(follower: &Follower, next: Next) -> bool {
     }
 }
 
+fn is_ended(ended: &Ended, next: Next) -> bool {
+    match next {
+        Next::End(state, params) => ended.state.get() == state && are_values(&ended.params, params),
+        _ => false,
+    }
+}
+
 // Whether the follower ends so, or does not end.
 fn ends(follower: Follower, next: Next) -> bool {
-    match (follower.end(), next) {
-        (Some(ended), Next::End(state, params)) => {
-            ended.state.get() == state && are_values(&ended.params, params)
-        }
-        (Some(_), _) => false,
-        (None, _) => !matches!(next, Next::End(_, _)),
+    match follower.end() {
+        Some(ended) => is_ended(&ended, next),
+        None => !matches!(next, Next::End(_, _)),
     }
 }
 
 fn is_followed(alloc: Global, opened: &Opened, told: &[Told], next: Next) -> bool {
     match followed(alloc, opened, told) {
-        Some(follower) => expects(&follower, next) && ends(follower, next),
+        Some(follower) => {
+            let expected = expects(&follower, next);
+            ends(follower, next) && expected
+        }
         None => matches!(next, Next::Nothing),
     }
 }

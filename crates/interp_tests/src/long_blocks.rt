@@ -47,8 +47,8 @@ fn text_of(alloc: Global, piece: &[u8], count: usize) -> Option<Vec<u8>> {
 
 fn begun(alloc: Global, text: &[u8]) -> Option<Task> {
     let domain = domain_of(alloc, text).ok()?;
-    let envelope = envelope_of(alloc, GO)?;
     let params = vec![in alloc; Value::Int(0)].ok()?;
+    let envelope = envelope_of(alloc, GO)?;
     task_of(
         alloc,
         domain,
@@ -78,21 +78,31 @@ fn moves_on(task: &mut Task) -> bool {
     }
 }
 
-fn is_long(alloc: Global, piece: &[u8], count: usize, each: usize) -> bool {
-    let Some(text) = text_of(alloc, piece, count) else {
-        return false;
-    };
-    let Some(task) = begun(alloc, &text) else {
-        return false;
-    };
-    let mut task = task;
-    let most = count.saturating_mul(each);
+// Whether the task makes so many moves that ask nobody, and no more.
+fn makes(task: &mut Task, most: usize) -> bool {
     for _ in 0..most {
-        if !moves_on(&mut task) {
+        if !moves_on(task) {
             return false;
         }
     }
-    task.turn().moves.len() == most && !moves_on(&mut task)
+    task.turn().moves.len() == most && !moves_on(task)
+}
+
+// The task of a block with an instruction so often.
+fn task_with(alloc: Global, piece: &[u8], count: usize) -> Option<Task> {
+    let text = text_of(alloc, piece, count)?;
+    begun(alloc, &text)
+}
+
+fn is_long(alloc: Global, piece: &[u8], count: usize, each: usize) -> bool {
+    let Some(task) = task_with(alloc, piece, count) else {
+        return false;
+    };
+    let mut task = task;
+    let long = makes(&mut task, count.saturating_mul(each));
+    // By a call, which is less to prove than on the spot.
+    drop(task);
+    long
 }
 
 #[test]

@@ -3,9 +3,9 @@ ghost use Rattle.std.specs.Prelude.{◌≡◌, ◌<◌, IfSome, IsSome, length};
 ghost use Rattle.std.specs.Arc.{arc_value};
 ghost use Rattle.smi_board.specs.Refusals.{is_operator};
 
-use crate::acts::{Made, acts, advanced};
+use crate::acts::{Made, acts, contact, hand_back, sets_next, start};
 use crate::beginnings::task_of;
-use crate::boards::{Run, board_of, envelope_of};
+use crate::boards::{Run, board_of, envelope_of, fitting};
 use crate::lines::Asked;
 use crate::texts::{COUNTER, SUPPLIES};
 use smi_board::board::Board;
@@ -39,12 +39,12 @@ fn is_refused(board: &mut Board<PlainMail>, task: Task, wanted: ContactError) ->
     requires waits { IsSome task.pending }
     ensures { board.new.domain ≡ board.old.domain }
 {
-    match board.contact(task) {
-        Err((first, task)) => match board.shelve(task) {
-            Err((second, _)) => first == wanted && second == wanted,
-            Ok(()) => false,
-        },
-        Ok(_) => false,
+    let mut place = None;
+    let first = contact(board, &mut place, task).err();
+    drop(place);
+    match first {
+        Some((first, task)) => hand_back(board, task) == Some(wanted) && first == wanted,
+        None => false,
     }
 }
 
@@ -60,13 +60,10 @@ pub fn asks(
     requires domain { board.old.domain ≡ domain.now }
     ensures { board.new.domain ≡ board.old.domain }
 {
-    let Some(envelope) = envelope_of(alloc, asked) else {
-        return false;
-    };
-    if !envelope.fits(domain, o) {
-        return false;
+    match fitting(alloc, domain, o, asked) {
+        Some(envelope) => board.request(o, envelope).ok().is_some(),
+        None => false,
     }
-    board.request(o, envelope).is_ok()
 }
 
 // A task that is made by hand of an object in its present state, for a request under the number 0.
@@ -80,8 +77,8 @@ fn made_by_hand(
     requires { o < length board.now.domain.objects }
     ensures { IfSome result (λ t. (t.domain ≡ arc_value domain.now) × (t.turn.object ≡ o)) }
 {
-    let envelope = envelope_of(alloc, asked)?;
     let shared = Arc::try_clone(domain).ok()?;
+    let envelope = envelope_of(alloc, asked)?;
     task_of(alloc, shared, o, board.state(o), board.params(o), envelope)
 }
 
@@ -99,9 +96,13 @@ fn asking_by_hand(
     ensures waits { IfSome result (λ t. IsSome t.pending) }
 {
     let made = made_by_hand(alloc, domain, board, o, asked)?;
-    match advanced(made) {
-        Some((false, task)) => Some(task),
-        _ => None,
+    let mut task = made;
+    match sets_next(&mut task) {
+        Some(false) => Some(task),
+        _ => {
+            drop(task);
+            None
+        }
     }
 }
 
@@ -121,7 +122,13 @@ fn starts(board: &mut Board<PlainMail>, o: ObjId) -> bool
     requires { o < length board.old.domain.objects }
     ensures { board.new.domain ≡ board.old.domain }
 {
-    matches!(board.start(o), Ok(Started::Run(_)))
+    match start(board, o) {
+        Ok(Started::Run(task)) => {
+            drop(task);
+            true
+        }
+        _ => false,
+    }
 }
 
 // Whether a second task of a request that an object is to start is refused behind the first.
@@ -158,67 +165,104 @@ fn second_is_refused(
     }
 }
 
+// Whether a task is refused once its object is killed.
+fn is_refused_dead(board: &mut Board<PlainMail>, o: ObjId, session: SessionId, task: Task) -> bool
+    requires object { o < length board.old.domain.objects }
+    requires domain { task.domain ≡ board.old.domain }
+    requires within { task.turn.object < length board.old.domain.objects }
+{
+    let mut task = task;
+    match sets_next(&mut task) {
+        Some(false) => {
+            let killed = board.kill(o, session).is_ok();
+            is_refused(board, task, ContactError::Dead) && killed
+        }
+        _ => {
+            drop(task);
+            false
+        }
+    }
+}
+
 // Whether the task that an object starts is refused once the object is killed.
 fn killed_is_refused(board: &mut Board<PlainMail>, o: ObjId, session: SessionId) -> bool
     requires { o < length board.old.domain.objects }
 {
-    let Ok(Started::Run(task)) = board.start(o) else {
-        return false;
-    };
-    let Some((false, task)) = advanced(task) else {
-        return false;
-    };
-    board.kill(o, session).is_ok() && is_refused(board, task, ContactError::Dead)
+    match start(board, o) {
+        Ok(Started::Run(task)) => is_refused_dead(board, o, session, task),
+        _ => false,
+    }
 }
 
-// A domain and its board, on which nothing was done.
-#[derive(Drop)]
-struct Fresh {
-    domain: Arc<Domain>,
-    board: Board<PlainMail>,
-}
-
-fn fresh_of(alloc: Global, text: &'static [u8]) -> Option<Fresh>
-    ensures { IfSome result (λ f. f.board.domain ≡ arc_value f.domain) }
+// A board of a domain, on which nothing was done.
+fn fresh_of(alloc: Global, domain: &Arc<Domain>) -> Option<Board<PlainMail>>
+    ensures { IfSome result (λ b. b.domain ≡ arc_value domain.now) }
 {
-    let domain = domain_of(alloc, text).ok()?;
     let run = Run {
-        text,
+        text: &[],
         capacity: 4,
         most: 100,
         calls: &[],
         journal: &[],
     };
-    let board = board_of(alloc, &domain, run)?;
-    Some(Fresh { domain, board })
+    board_of(alloc, domain, run)
+}
+
+// Whether on a board a second task is refused, of the first of two equal requests.
+fn refuses_second(
+    alloc: Global,
+    domain: &Arc<Domain>,
+    board: &mut Board<PlainMail>,
+    row: SecondTask,
+) -> bool
+    requires { board.old.domain ≡ arc_value domain.now }
+{
+    let o = ObjId::new(1);
+    domain.has(o)
+        && asks(alloc, domain, board, o, SHOW)
+        && asks(alloc, domain, board, o, SHOW)
+        && second_is_refused(alloc, domain, board, o, row)
 }
 
 /// Whether a second task of the first of two equal requests is refused, once the first one did its moves.
 pub fn refuses_second_task(alloc: Global, row: SecondTask) -> bool {
-    let Some(Fresh { domain, board }) = fresh_of(alloc, COUNTER) else {
+    let Ok(domain) = domain_of(alloc, COUNTER) else {
+        return false;
+    };
+    let Some(board) = fresh_of(alloc, &domain) else {
         return false;
     };
     let mut board = board;
-    let o = ObjId::new(1);
-    domain.has(o)
-        && asks(alloc, &domain, &mut board, o, SHOW)
-        && asks(alloc, &domain, &mut board, o, SHOW)
-        && second_is_refused(alloc, &domain, &mut board, o, row)
+    let refused = refuses_second(alloc, &domain, &mut board, row);
+    drop(board);
+    refused
 }
 
-/// Whether a task is refused whose object was killed while it was out.
-pub fn refuses_killed(alloc: Global) -> bool {
-    let Some(Fresh { domain, board }) = fresh_of(alloc, SUPPLIES) else {
-        return false;
-    };
-    let mut board = board;
+// Whether on a board a task is refused whose object was killed while it was out.
+fn refuses_dead(alloc: Global, domain: &Domain, board: &mut Board<PlainMail>) -> bool
+    requires { board.old.domain ≡ domain.now }
+{
     let o = ObjId::new(2);
     match SessionId::new(1) {
         Some(session) => {
             domain.has(o)
-                && asks(alloc, &domain, &mut board, o, CONFIGURE)
-                && killed_is_refused(&mut board, o, session)
+                && asks(alloc, domain, board, o, CONFIGURE)
+                && killed_is_refused(board, o, session)
         }
         None => false,
     }
+}
+
+/// Whether a task is refused whose object was killed while it was out.
+pub fn refuses_killed(alloc: Global) -> bool {
+    let Ok(domain) = domain_of(alloc, SUPPLIES) else {
+        return false;
+    };
+    let Some(board) = fresh_of(alloc, &domain) else {
+        return false;
+    };
+    let mut board = board;
+    let refused = refuses_dead(alloc, &domain, &mut board);
+    drop(board);
+    refused
 }

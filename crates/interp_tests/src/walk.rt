@@ -9,12 +9,10 @@ use smi_interp::contact::{Contact, Post};
 use smi_interp::task::Task;
 use smi_interp::turn::{Move, TurnRecord};
 use sml_checkable::domain_of;
-use sml_domain::domain::Domain;
 use sml_domain::ids::{ObjId, StateId};
 use sml_domain::text::Text;
 use sml_domain::value::Value;
 use std::alloc::Global;
-use std::sync::Arc;
 
 /// A value, as a row writes it.
 #[derive(Clone, Copy)]
@@ -121,41 +119,48 @@ fn are_readings(readings: &[Reading], objects: &[usize], states: &[usize]) -> bo
     true
 }
 
-fn is_set(contact: &Contact, number: usize, plain: Plain) -> bool {
-    match contact {
-        Contact::Local { param, value } => param.get() == number && is_value(value, plain),
+fn is_end(wanted: Option<usize>, state: Option<StateId>) -> bool {
+    match (wanted, state) {
+        (None, None) => true,
+        (Some(number), Some(s)) => s.get() == number,
         _ => false,
     }
 }
 
-// Whether the task makes the set. It waits for nothing then.
-fn sets(task: &mut Task, param: usize, plain: Plain) -> bool {
-    let Ok(made) = task.advance() else {
-        return false;
-    };
-    is_set(&made, param, plain) && task.pending().is_none()
-}
-
-fn is_send(contact: &Contact, wanted: &[Wanted]) -> bool {
-    match contact {
-        Contact::Send(posts) => are_posts(posts.list(), wanted),
+// Whether a contact is that of a step.
+fn is_contact(contact: &Contact, step: Step) -> bool {
+    match (contact, step) {
+        (Contact::Local { param, value }, Step::Sets(number, plain)) => {
+            param.get() == number && is_value(value, plain)
+        }
+        (Contact::Send(posts), Step::Sends(wanted, _)) => are_posts(posts.list(), wanted),
+        (Contact::Read(objects), Step::Reads(numbers, _)) => are_objects(objects.list(), numbers),
+        (Contact::End(state), Step::Ends(wanted)) => is_end(wanted, *state),
         _ => false,
     }
 }
 
-// Whether the task asks twice for the posts, and is told the verdicts.
-fn sends(task: &mut Task, wanted: &[Wanted], verdicts: &[Verdict]) -> bool {
-    let Ok(first) = task.advance() else {
-        return false;
-    };
-    let Ok(again) = task.advance() else {
-        return false;
-    };
-    match &again {
-        Contact::Send(posts) if posts.list().len() == verdicts.len() => task.sent(verdicts),
-        _ => return false,
+// Whether the task asks for what the step does.
+fn asks(task: &mut Task, step: Step) -> bool {
+    match task.advance() {
+        Ok(contact) => is_contact(&contact, step),
+        Err(_) => false,
     }
-    is_send(&first, wanted) && is_send(&again, wanted) && task.pending().is_none()
+}
+
+fn asks_twice(task: &mut Task, step: Step) -> bool {
+    asks(task, step) && asks(task, step)
+}
+
+// Whether the task waits for so many verdicts, and is told these.
+fn is_sent(task: &mut Task, verdicts: &[Verdict]) -> bool {
+    match task.pending() {
+        Some(Contact::Send(posts)) if posts.list().len() == verdicts.len() => {
+            task.sent(verdicts);
+            true
+        }
+        _ => false,
+    }
 }
 
 fn states_of(alloc: Global, numbers: &[usize]) -> Option<Vec<StateId>> {
@@ -166,59 +171,45 @@ fn states_of(alloc: Global, numbers: &[usize]) -> Option<Vec<StateId>> {
     Some(states)
 }
 
-fn is_read(contact: &Contact, numbers: &[usize]) -> bool {
-    match contact {
-        Contact::Read(objects) => are_objects(objects.list(), numbers),
-        _ => false,
-    }
-}
-
-// Whether the task asks twice for the objects, and is told the states.
-fn reads(alloc: Global, task: &mut Task, numbers: &[usize], states: &[usize]) -> bool {
-    let Some(states) = states_of(alloc, states) else {
-        return false;
-    };
-    let Ok(first) = task.advance() else {
-        return false;
-    };
-    let Ok(again) = task.advance() else {
-        return false;
-    };
-    match &again {
-        Contact::Read(objects) if objects.list().len() == states.len() => task.tell(&states),
-        _ => return false,
-    }
-    is_read(&first, numbers) && is_read(&again, numbers) && task.pending().is_none()
-}
-
-fn is_end(contact: &Contact, state: Option<usize>) -> bool {
-    match (contact, state) {
-        (Contact::End(None), None) => true,
-        (Contact::End(Some(s)), Some(number)) => s.get() == number,
-        _ => false,
-    }
-}
-
-// Whether the task ends so, however often it is asked.
-fn ends(task: &mut Task, state: Option<usize>) -> bool {
-    let Ok(first) = task.advance() else {
-        return false;
-    };
-    let Ok(again) = task.advance() else {
-        return false;
-    };
+// Whether the task waits for so many states, and is told these.
+fn is_told(task: &mut Task, states: &[StateId]) -> bool {
     match task.pending() {
-        Some(waits) => is_end(&first, state) && is_end(&again, state) && is_end(waits, state),
+        Some(Contact::Read(objects)) if objects.list().len() == states.len() => {
+            task.tell(states);
+            true
+        }
+        _ => false,
+    }
+}
+
+fn is_told_numbers(alloc: Global, task: &mut Task, numbers: &[usize]) -> bool {
+    match states_of(alloc, numbers) {
+        Some(states) => is_told(task, &states),
         None => false,
     }
 }
 
+fn waits_for(task: &Task, step: Step) -> bool {
+    match task.pending() {
+        Some(contact) => is_contact(contact, step),
+        None => false,
+    }
+}
+
+// Whether the task makes the step. What waits for an answer, and the end, are asked for twice; behind an
+// answer it waits for nothing, nor behind a set, and for ever behind the end.
 fn makes(alloc: Global, task: &mut Task, step: Step) -> bool {
     match step {
-        Step::Sets(param, value) => sets(task, param, value),
-        Step::Sends(posts, verdicts) => sends(task, posts, verdicts),
-        Step::Reads(objects, states) => reads(alloc, task, objects, states),
-        Step::Ends(state) => ends(task, state),
+        Step::Sets(_, _) => asks(task, step) && task.pending().is_none(),
+        Step::Sends(_, verdicts) => {
+            asks_twice(task, step) && is_sent(task, verdicts) && task.pending().is_none()
+        }
+        Step::Reads(_, states) => {
+            asks_twice(task, step)
+                && is_told_numbers(alloc, task, states)
+                && task.pending().is_none()
+        }
+        Step::Ends(_) => asks_twice(task, step) && waits_for(task, step),
     }
 }
 
@@ -262,73 +253,82 @@ fn handed(task: Task) -> Task {
 }
 
 // The task of the walk, begun for the first session.
-fn begun(alloc: Global, domain: Arc<Domain>, walk: &Walk) -> Option<Task> {
+fn begun(alloc: Global, walk: &Walk) -> Option<Task> {
+    let domain = domain_of(alloc, walk.text).ok()?;
+    let params = values_of(alloc, walk.params)?;
     let asked = Asked {
         session: 1,
         action: walk.action,
         given: walk.given,
     };
     let envelope = envelope_of(alloc, asked)?;
-    let params = values_of(alloc, walk.params)?;
     let object = ObjId::new(walk.object);
     let state = StateId::new(walk.state);
     task_of(alloc, domain, object, state, &params, envelope)
 }
 
+// Whether the task recorded the moves of the walk, and leaves its parameters.
+fn is_left(task: Task, walk: &Walk) -> bool {
+    let recorded = is_recorded(task.turn(), walk);
+    let all = task.turn().moves.len() == walk.steps.len().saturating_sub(1);
+    let left = task.into_params();
+    recorded && all && are_values(&left, walk.left)
+}
+
+// Whether the task makes the steps of a walk as above.
+fn is_made_by(alloc: Global, task: Task, walk: &Walk) -> bool {
+    let mut task = task;
+    let mut made = true;
+    for step in walk.steps {
+        made = made && makes(alloc, &mut task, *step);
+        task = handed(task);
+    }
+    is_left(task, walk) && made
+}
+
 /// Whether the task of a walk makes its steps, each in the hands of another worker, records them, and
 /// leaves the parameters.
 pub fn is_walked(alloc: Global, walk: &Walk) -> bool {
-    let Ok(domain) = domain_of(alloc, walk.text) else {
-        return false;
-    };
-    let Some(task) = begun(alloc, domain, walk) else {
-        return false;
-    };
-    let mut task = task;
-    for step in walk.steps {
-        if !makes(alloc, &mut task, *step) {
-            return false;
-        }
-        task = handed(task);
+    match begun(alloc, walk) {
+        Some(task) => is_made_by(alloc, task, walk),
+        None => false,
     }
-    let recorded = is_recorded(task.turn(), walk);
-    let all = task.turn().moves.len() == walk.steps.len().saturating_sub(1);
-    recorded && all && are_values(&task.into_params(), walk.left)
 }
 
 // The task of the walk, asked for a second time where it was refused.
 fn begun_at_last(alloc: Global, walk: &Walk) -> Option<Task> {
-    for _ in 0..2u32 {
-        if let Ok(domain) = domain_of(alloc, walk.text) {
-            if let Some(task) = begun(alloc, domain, walk) {
-                return Some(task);
-            }
-        }
+    match begun(alloc, walk) {
+        Some(task) => Some(task),
+        None => begun(alloc, walk),
     }
-    None
 }
 
 // Whether the task makes the step, at the second time at the latest.
 fn makes_at_last(alloc: Global, task: &mut Task, step: Step) -> bool {
     if !matches!(step, Step::Sets(_, _)) {
         // What waits for an answer is asked for again below.
-        let _ = task.advance();
+        let _ = asks(task, step);
     }
     makes(alloc, task, step) || makes(alloc, task, step)
 }
 
-/// Whether the task of a walk makes its steps and records them, though memory is refused once.
-pub fn is_walked_at_last(alloc: Global, walk: &Walk) -> bool {
-    let Some(task) = begun_at_last(alloc, walk) else {
-        return false;
-    };
-    let mut task = task;
-    for step in walk.steps {
-        if !makes_at_last(alloc, &mut task, *step) {
+fn makes_all_at_last(alloc: Global, task: &mut Task, steps: &[Step]) -> bool {
+    for step in steps {
+        if !makes_at_last(alloc, task, *step) {
             return false;
         }
     }
-    let recorded = is_recorded(task.turn(), walk);
-    let all = task.turn().moves.len() == walk.steps.len().saturating_sub(1);
-    recorded && all && are_values(&task.into_params(), walk.left)
+    true
+}
+
+/// Whether the task of a walk makes its steps and records them, though memory is refused once.
+pub fn is_walked_at_last(alloc: Global, walk: &Walk) -> bool {
+    match begun_at_last(alloc, walk) {
+        Some(task) => {
+            let mut task = task;
+            let made = makes_all_at_last(alloc, &mut task, walk.steps);
+            is_left(task, walk) && made
+        }
+        None => false,
+    }
 }
