@@ -3,9 +3,9 @@
 ghost use Rattle.std.specs.Prelude.{◌≡◌, ◌∷◌, [], true, false};
 ghost use Rattle.std.specs.List.{list_all, list_any};
 ghost use Rattle.sml_domain.specs.Truth.{holds_of};
-ghost use Rattle.sml_check.specs.Numbers.{names_of};
-ghost use Rattle.sml_check.specs.Programs.{state_numbers, formula};
-ghost use Rattle.sml_check.specs.Truth.{holds_in};
+ghost use Rattle.sml_layout.specs.Numbers.{names_of};
+ghost use Rattle.sml_layout.specs.Programs.{state_numbers, formula};
+ghost use Rattle.sml_layout.specs.Truth.{holds_in};
 ghost use Rattle.file_tests.specs.Example as example;
 
 use crate::domain_lamps::LAMPS;

@@ -1,6 +1,6 @@
 //! What texts are told.
 
-use sml_faults::first_fault;
+use sml_check::first_fault;
 use sml_read::read;
 use sml_tree::file::SmlFile;
 use std::alloc::Global;

@@ -1,6 +1,6 @@
 //! What is timed. A new line of the report is a new `Task`.
 ghost use Rattle.sml_tree.specs.Content.{file_content};
-ghost use Rattle.sml_check.specs.Texts.{HasTexts};
+ghost use Rattle.sml_layout.specs.Texts.{HasTexts};
 
 use crate::texts::{checked, file_of, find_fault};
 use anyhow::{Result, bail};

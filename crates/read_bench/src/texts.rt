@@ -1,13 +1,12 @@
 //! The files that texts say, and the domains of these.
 ghost use Rattle.std.specs.Prelude.{IfOk};
 ghost use Rattle.sml_tree.specs.Content.{file_content};
-ghost use Rattle.sml_check.specs.Texts.{HasTexts};
+ghost use Rattle.sml_layout.specs.Texts.{HasTexts};
 
 use anyhow::{Result, anyhow, bail};
-use sml_check::check;
+use sml_check::{check, first_fault};
 use sml_checkable::laws::laws_of_read_files;
 use sml_domain::domain::Domain;
-use sml_faults::first_fault;
 use sml_read::read;
 use sml_tree::file::SmlFile;
 use std::alloc::{Allocator, Global};

@@ -7,7 +7,7 @@ use crate::judgement::Judgement;
 use crate::status::{NO_MEMORY, REFUSED, WRONG_WORDS};
 use smi_audit::JournalError;
 use smi_core::{CoreError, ScheduleFault};
-use sml_faults::{CheckError, CheckKind};
+use sml_check::{CheckError, CheckKind};
 use sml_read::{ReadError, ReadErrorKind};
 use std::error::Error;
 use std::io::{ErrorKind, Write};

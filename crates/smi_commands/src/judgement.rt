@@ -5,7 +5,7 @@ ghost use Rattle.sml_tree.specs.Content.{file_content};
 ghost use Rattle.smi_commands.specs.Judgement.{IsJudged, IsJudgedFile, judgement_status};
 
 use crate::status::{DONE, REFUSED};
-use sml_faults::{CheckError, CheckKind, first_fault};
+use sml_check::{CheckError, CheckKind, first_fault};
 use sml_read::{ReadError, ReadErrorKind, read};
 use sml_tree::file::SmlFile;
 use std::alloc::{AllocError, Allocator, Global};

@@ -4,12 +4,13 @@ ghost use Rattle.sml_tree.specs.Content.{file_content};
 ghost use Rattle.sml_faults.specs.Lookup as look;
 ghost use Rattle.sml_faults.specs.Kinds.{all_faults, IsWellFormed};
 ghost use Rattle.sml_faults.specs.KindText.{memory_error};
-ghost use Rattle.sml_check.specs.Texts.{HasTexts};
-ghost use Rattle.sml_check.specs.FileDomain.{IsDomainOf};
+ghost use Rattle.sml_layout.specs.Texts.{HasTexts};
+ghost use Rattle.sml_layout.specs.FileDomain.{IsDomainOf};
 
-use crate::build::build;
+use crate::faults::first_fault;
 use sml_domain::domain::Domain;
-use sml_faults::{CheckError, first_fault};
+use sml_faults::CheckError;
+use sml_layout::build::build;
 use sml_tree::file::SmlFile;
 use std::alloc::{Allocator, Global};
 

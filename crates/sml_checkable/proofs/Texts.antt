@@ -8,8 +8,8 @@ use Rattle.sml_faults.specs.Lookup.{actions_of}
 use Rattle.sml_faults.specs.Inside.{HasAction, HasSite}
 use Rattle.sml_faults.proofs.Pairs.{contains_one}
 use Rattle.sml_round_trip.specs.Writable.{IsLiteral, IsArg, IsPassed, IsClassParam, IsActionParam, IsWritableAction, IsWritableState, IsWritableClass, IsWritableItem, IsWritable}
-use Rattle.sml_check.specs.Placed.{IsWritten}
-use Rattle.sml_check.specs.Texts.{ArgWritten, HasTexts}
+use Rattle.sml_layout.specs.Placed.{IsWritten}
+use Rattle.sml_layout.specs.Texts.{ArgWritten, HasTexts}
 use Rattle.sml_checkable.proofs.Sites.{all_in, IsWritableSite, block_writable}
 
 literal_written : (l : LiteralData) → IsLiteral l → IsWritten l

@@ -7,7 +7,7 @@ use Rattle.sml_faults.specs.KindText.{memory_error}
 use Rattle.sml_faults.specs.Kinds.{IsWellFormed, all_faults}
 use Rattle.sml_faults.specs.Lookup.{first}
 use Rattle.sml_domain.specs.Domain.{Domain}
-use Rattle.sml_check.specs.FileDomain.{IsDomainOf}
+use Rattle.sml_layout.specs.FileDomain.{IsDomainOf}
 use Rattle.sml_checkable.specs.declared.domain_of_text.TextFault.{TextFault}
 use Rattle.sml_checkable.specs.declared.domain_of_text.TextFault.TheVariants.{Read, Check, Memory}
 

@@ -3,8 +3,8 @@ ghost use Rattle.std.specs.Prelude.{◌≡◌, IfErr, IfOk, IfSome};
 ghost use Rattle.std.specs.Arc.{arc_value};
 ghost use Rattle.sml_tree.specs.Content.{file_content};
 ghost use Rattle.sml_faults.specs.Kinds.{IsWellFormed};
-ghost use Rattle.sml_check.specs.FileDomain.{IsDomainOf};
-ghost use Rattle.sml_check.specs.Texts.{HasTexts};
+ghost use Rattle.sml_layout.specs.FileDomain.{IsDomainOf};
+ghost use Rattle.sml_layout.specs.Texts.{HasTexts};
 ghost use Rattle.sml_checkable.specs.Texts.{IsDomainOfText, IsFaultOfFile, IsFaultOfText};
 
 use crate::laws::laws_of_read_files;

@@ -105,7 +105,7 @@ fn action_by<'b, A: Allocator + Clone>(
 
 impl<'a, A: Allocator + Clone> Tables<'a, A> {
     /// The action of the class at a place among the items, as the first state that declares it does.
-    pub fn action_at(&self, place: usize, name: &Name) -> Option<&'a Action<A>>
+    pub(crate) fn action_at(&self, place: usize, name: &Name) -> Option<&'a Action<A>>
         ensures { option_map (λ a. action_content a.now) result ≡ look.action_in (class_at (file_content self.now.file.now) place) name.now }
     {
         let class: &'a Class<A> = match self.class_at(place) {

@@ -159,7 +159,7 @@ pub fn action_head<A: Allocator + Clone>(
 
 impl<'a, A: Allocator + Clone> Tables<'a, A> {
     /// The class of an object that is none.
-    pub fn unknown_class(&self, object: &Object) -> Option<Name>
+    pub(crate) fn unknown_class(&self, object: &Object) -> Option<Name>
         ensures { result ≡ look.first (heads.unknown_class (file_content self.now.file.now) (object_content object.now)) }
     {
         if self.class(&object.class).is_none() {
@@ -170,7 +170,7 @@ impl<'a, A: Allocator + Clone> Tables<'a, A> {
     }
 
     /// The first of some members that is no object.
-    pub fn unknown_member(&self, members: &[Name]) -> Option<Name>
+    pub(crate) fn unknown_member(&self, members: &[Name]) -> Option<Name>
         ensures { result ≡ look.first (flat_map (faults.unknown_object (file_content self.now.file.now) false) members.now) }
     {
         for member in members {

@@ -1,8 +1,7 @@
-//! Tells whether a domain file is well-formed, and else its first fault.
+//! The faults of a domain file, kind by kind, and what a file without faults keeps.
 #![tactic(auto)]
 
 mod actions;
-mod check;
 mod differing;
 mod heads;
 mod in_blocks;
@@ -16,9 +15,9 @@ mod tables;
 mod value_kind;
 mod walk;
 
-pub use check::first_fault;
 pub use kind::{CheckError, CheckKind};
 pub use laws::{
     comparison_of_params, complete_requests, declared_names, different_names, fitting_values,
     rules_of_files, sound_classes,
 };
+pub use tables::Tables;

@@ -14,7 +14,7 @@ use std::slice::from_ref;
 
 impl<'a, A: Allocator + Clone> Tables<'a, A> {
     /// The class of an object.
-    pub fn class_of(&self, object: &Name) -> Option<&'a Class<A>>
+    pub(crate) fn class_of(&self, object: &Name) -> Option<&'a Class<A>>
         ensures { option_map (λ c. class_content c.now) result ≡ look.class_of (file_content self.now.file.now) object.now }
     {
         match self.object(object) {
@@ -24,7 +24,7 @@ impl<'a, A: Allocator + Clone> Tables<'a, A> {
     }
 
     /// The action that an object's class declares.
-    pub fn action_of(&self, action: &Name, object: &Name) -> Option<&'a Action<A>>
+    pub(crate) fn action_of(&self, action: &Name, object: &Name) -> Option<&'a Action<A>>
         ensures { option_map (λ a. action_content a.now) result ≡ look.action_of (file_content self.now.file.now) action.now object.now }
     {
         match self.object(object) {
@@ -34,7 +34,7 @@ impl<'a, A: Allocator + Clone> Tables<'a, A> {
     }
 
     /// The objects that a name speaks of: itself, or the members of the set.
-    pub fn objects_meant<'b>(&self, set: bool, name: &'b Name) -> &'b [Name]
+    pub(crate) fn objects_meant<'b>(&self, set: bool, name: &'b Name) -> &'b [Name]
     where
         'a: 'b,
         ensures { result.now ≡ look.objects_meant (file_content self.now.file.now) set name.now }
@@ -60,7 +60,7 @@ impl<'a, A: Allocator + Clone> Tables<'a, A> {
     }
 
     /// Whether some object has a state.
-    pub fn some_has_state(&self, state: &Name, objects: &[Name]) -> bool
+    pub(crate) fn some_has_state(&self, state: &Name, objects: &[Name]) -> bool
         ensures { result ≡ list_any (faults.object_has_state (file_content self.now.file.now) state.now) objects.now }
     {
         for object in objects {

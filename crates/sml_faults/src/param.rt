@@ -85,7 +85,7 @@ fn missing_param<A: Allocator + Clone>(
 impl<'a, A: Allocator + Clone> Tables<'a, A> {
     /// The first name of some arguments that is no parameter's.
     #[tactic(auto, using(crate::proofs::Rests::firsts))]
-    pub fn unknown_param(
+    pub(crate) fn unknown_param(
         &self,
         called: &Name,
         objects: &[Name],
@@ -145,7 +145,12 @@ impl<'a, A: Allocator + Clone> Tables<'a, A> {
 
     /// The first parameter that a request leaves without a value.
     #[tactic(auto, using(crate::proofs::Rests::firsts))]
-    pub fn missing_arg(&self, called: &Name, args: &[Passed<A>], objects: &[Name]) -> Option<Name>
+    pub(crate) fn missing_arg(
+        &self,
+        called: &Name,
+        args: &[Passed<A>],
+        objects: &[Name],
+    ) -> Option<Name>
         ensures { result ≡ look.first (flat_map (faults.missing_at (file_content self.now.file.now) called.now (map passed_content args.now)) objects.now) }
     {
         for object in objects {

@@ -13,7 +13,7 @@ use std::alloc::Allocator;
 
 impl<'a, A: Allocator + Clone> Tables<'a, A> {
     /// A name that is no object's, where it should be one's.
-    pub fn unknown_object(&self, set: bool, name: &Name) -> Option<Name>
+    pub(crate) fn unknown_object(&self, set: bool, name: &Name) -> Option<Name>
         ensures { result ≡ look.first (faults.unknown_object (file_content self.now.file.now) set name.now) }
     {
         if set || self.object(name).is_some() {
@@ -24,7 +24,7 @@ impl<'a, A: Allocator + Clone> Tables<'a, A> {
     }
 
     /// A name that is no set's, where it should be one's.
-    pub fn unknown_set(&self, set: bool, name: &Name) -> Option<Name>
+    pub(crate) fn unknown_set(&self, set: bool, name: &Name) -> Option<Name>
         ensures { result ≡ look.first (faults.unknown_set (file_content self.now.file.now) set name.now) }
     {
         if set && self.group(name).is_none() {
@@ -35,7 +35,7 @@ impl<'a, A: Allocator + Clone> Tables<'a, A> {
     }
 
     /// The first state of a test that none of its objects has.
-    pub fn unknown_tested(&self, objects: &[Name], states: &[Name]) -> Option<Name>
+    pub(crate) fn unknown_tested(&self, objects: &[Name], states: &[Name]) -> Option<Name>
         ensures { result ≡ look.first (faults.states_of_none (file_content self.now.file.now) objects.now states.now) }
     {
         if objects.is_empty() {
@@ -58,7 +58,7 @@ impl<'a, A: Allocator + Clone> Tables<'a, A> {
     }
 
     /// The action of a request that some target lacks.
-    pub fn unknown_action(&self, action: &Name, objects: &[Name]) -> Option<Name>
+    pub(crate) fn unknown_action(&self, action: &Name, objects: &[Name]) -> Option<Name>
         ensures { result ≡ look.first (faults.unknown_action (file_content self.now.file.now) action.now objects.now) }
     {
         if self.some_lacks_action(action, objects) {
@@ -81,7 +81,7 @@ impl<'a, A: Allocator + Clone> Tables<'a, A> {
     }
 
     /// The first of some objects that is of this class.
-    pub fn own_object(&self, class: &Class<A>, objects: &[Name]) -> Option<Name>
+    pub(crate) fn own_object(&self, class: &Class<A>, objects: &[Name]) -> Option<Name>
         ensures { result ≡ look.first (flat_map (faults.own_object (file_content self.now.file.now) (class_content class.now)) objects.now) }
     {
         for object in objects {

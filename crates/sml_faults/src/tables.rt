@@ -15,12 +15,13 @@ use sml_tree::file::{Action, Class, Group, Item, Object, SmlFile};
 use sml_tree::name::Name;
 use std::alloc::{AllocError, Allocator, Global};
 
-/// A file, with the places of its items by their names.
+/// A file, with the places of its items and actions by their names: what faults are looked for with. It takes the memory
+/// of these tables, and gives it back when it is let go.
 #[derive(Drop)]
 pub struct Tables<'a, A: Allocator + Clone> {
     pub file: &'a SmlFile<A>,
     names: NameTables,
-    pub actions: Vec<IndexMap<Name, ActionPlace>>,
+    pub(crate) actions: Vec<IndexMap<Name, ActionPlace>>,
     ghost places: { HasTables (file_content file.now) names.classes names.objects names.groups },
     ghost declared: { ActionTables (file_content file.now) actions.items },
 }
@@ -164,7 +165,7 @@ impl<'a, A: Allocator + Clone> Tables<'a, A> {
     }
 
     /// The class of a name.
-    pub fn class(&self, name: &Name) -> Option<&'a Class<A>>
+    pub(crate) fn class(&self, name: &Name) -> Option<&'a Class<A>>
         ensures { option_map (λ x. class_content x.now) result ≡ class_named (file_content self.now.file.now) name.now }
     {
         match self.names.classes.get(name) {
@@ -174,7 +175,7 @@ impl<'a, A: Allocator + Clone> Tables<'a, A> {
     }
 
     /// The object of a name.
-    pub fn object(&self, name: &Name) -> Option<&'a Object>
+    pub(crate) fn object(&self, name: &Name) -> Option<&'a Object>
         ensures { option_map (λ x. object_content x.now) result ≡ object_named (file_content self.now.file.now) name.now }
     {
         match self.names.objects.get(name) {
@@ -184,7 +185,7 @@ impl<'a, A: Allocator + Clone> Tables<'a, A> {
     }
 
     /// The set of a name.
-    pub fn group(&self, name: &Name) -> Option<&'a Group<A>>
+    pub(crate) fn group(&self, name: &Name) -> Option<&'a Group<A>>
         ensures { option_map (λ x. group_content x.now) result ≡ group_named (file_content self.now.file.now) name.now }
     {
         match self.names.groups.get(name) {
@@ -202,7 +203,7 @@ impl<'a, A: Allocator + Clone> Tables<'a, A> {
     }
 
     /// The class at a place among the items.
-    pub fn class_at(&self, place: usize) -> Option<&'a Class<A>>
+    pub(crate) fn class_at(&self, place: usize) -> Option<&'a Class<A>>
         ensures { option_map (λ x. class_content x.now) result ≡ item_at spec.class_item (file_content self.now.file.now) place }
     {
         match self.item(place) {
@@ -232,7 +233,7 @@ impl<'a, A: Allocator + Clone> Tables<'a, A> {
     }
 
     /// The action that the class of a name declares.
-    pub fn class_action(&self, class: &Name, action: &Name) -> Option<&'a Action<A>>
+    pub(crate) fn class_action(&self, class: &Name, action: &Name) -> Option<&'a Action<A>>
         ensures { option_map (λ a. action_content a.now) result ≡ action_in (class_named (file_content self.now.file.now) class.now) action.now }
     {
         match self.names.classes.get(class) {
@@ -242,21 +243,21 @@ impl<'a, A: Allocator + Clone> Tables<'a, A> {
     }
 
     /// Whether a class of this name stands before a place.
-    pub fn names_class(&self, name: &Name, end: usize) -> bool
+    pub(crate) fn names_class(&self, name: &Name, end: usize) -> bool
         ensures { result ≡ list_any (is_class name.now) (map item_content (take end self.now.file.now.items.items)) }
     {
         stands_before(&self.names.classes, name, end)
     }
 
     /// Whether an object of this name stands before a place.
-    pub fn names_object(&self, name: &Name, end: usize) -> bool
+    pub(crate) fn names_object(&self, name: &Name, end: usize) -> bool
         ensures { result ≡ list_any (is_object name.now) (map item_content (take end self.now.file.now.items.items)) }
     {
         stands_before(&self.names.objects, name, end)
     }
 
     /// Whether a set of this name stands before a place.
-    pub fn names_group(&self, name: &Name, end: usize) -> bool
+    pub(crate) fn names_group(&self, name: &Name, end: usize) -> bool
         ensures { result ≡ list_any (is_group name.now) (map item_content (take end self.now.file.now.items.items)) }
     {
         stands_before(&self.names.groups, name, end)

@@ -233,7 +233,7 @@ impl<'a, A: Allocator + Clone> Tables<'a, A> {
     /// The first fault of a kind in a block.
     #[cycle(fault)]
     #[tactic(auto, using(crate::proofs::Rests::firsts))]
-    pub fn block_fault(
+    pub(crate) fn block_fault(
         &self,
         kind: CheckKind,
         class: &Class<A>,

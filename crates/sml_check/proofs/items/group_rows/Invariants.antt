@@ -1,9 +1,0 @@
-use Rattle.std.proofs.Common.{map}
-use Rattle.sml_tree.specs.Content.{item_content}
-use Rattle.sml_check.specs.Numbers.{groups_in}
-use Rattle.sml_check.specs.Rows.{group_row}
-use Rattle.sml_check.proofs.Gathered.{Gathers}
-use Rattle.sml_check.proofs.items.group_rows.Given as goal
-
-abbrev pub invariant-loop-item : goal.invariant-loop-item
-invariant-loop-item g l = Gathers (λ ys. map (group_row l.names) (groups_in (map item_content ys))) l.made.items l.items l.item-index (map (group_row l.names) (groups_in (map item_content l.items)))

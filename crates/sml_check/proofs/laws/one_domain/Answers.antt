@@ -1,5 +1,0 @@
-use Rattle.sml_check.proofs.Alike.{files_have_one_domain}
-use Rattle.sml_check.proofs.laws.one_domain.Goals as goal
-
-pub returns : goal.returns
-returns c = files_have_one_domain

@@ -1,0 +1,121 @@
+//! The first fault of a file.
+ghost use Rattle.std.specs.Prelude.{◌≡◌, ◌⊎◌, Some, None, flat_map, OnOk, IfErr};
+ghost use Rattle.sml_tree.specs.Content.{file_content};
+ghost use Rattle.sml_faults.specs.Lookup as look;
+ghost use Rattle.sml_faults.specs.Kinds.{faults_of, all_faults, with_kind, IsWellFormed};
+ghost use Rattle.sml_faults.specs.KindText.{memory_error};
+
+use sml_faults::{CheckError, CheckKind, Tables};
+use sml_tree::file::SmlFile;
+use sml_tree::name::Name;
+use std::alloc::{Allocator, Global};
+
+// The kinds of faults, in the order of their numbers.
+const KINDS: [CheckKind; 15] = [
+    CheckKind::Duplicate,
+    CheckKind::NoState,
+    CheckKind::TwoInitial,
+    CheckKind::TwoDead,
+    CheckKind::UnknownClass,
+    CheckKind::UnknownObject,
+    CheckKind::UnknownSet,
+    CheckKind::UnknownState,
+    CheckKind::UnknownAction,
+    CheckKind::UnknownParam,
+    CheckKind::KindMismatch,
+    CheckKind::MissingArg,
+    CheckKind::ParamsDiffer,
+    CheckKind::SelfInCondition,
+    CheckKind::AssociatedBody,
+];
+
+// Those whose faults may stand elsewhere than in blocks.
+const OTHER_KINDS: [CheckKind; 9] = [
+    CheckKind::Duplicate,
+    CheckKind::NoState,
+    CheckKind::TwoInitial,
+    CheckKind::TwoDead,
+    CheckKind::UnknownClass,
+    CheckKind::UnknownObject,
+    CheckKind::KindMismatch,
+    CheckKind::ParamsDiffer,
+    CheckKind::AssociatedBody,
+];
+
+// The first fault of a kind.
+fn fault_of<A: Allocator + Clone>(tables: &Tables<'_, A>, kind: CheckKind) -> Option<Name>
+    ensures { result ≡ look.first (faults_of kind (file_content tables.now.file.now)) }
+{
+    match kind {
+        CheckKind::Duplicate => tables.repeated(),
+        CheckKind::ParamsDiffer => tables.differing(),
+        _ => tables.items_fault(kind, &tables.file.items),
+    }
+}
+
+// The first fault of a kind, with the kind.
+#[tactic(auto, using(sml_faults::proofs::Rests::firsts))]
+fn kind_fault<A: Allocator + Clone>(
+    tables: &Tables<'_, A>,
+    kind: CheckKind,
+) -> Option<(CheckKind, Name)>
+    ensures { result ≡ look.first (with_kind (file_content tables.now.file.now) kind) }
+{
+    match fault_of(tables, kind) {
+        Some(name) => Some((kind, name)),
+        None => None,
+    }
+}
+
+// The first fault of some kinds.
+#[tactic(auto, using(sml_faults::proofs::Rests::firsts))]
+fn kinds_fault<A: Allocator + Clone>(
+    tables: &Tables<'_, A>,
+    kinds: &[CheckKind],
+) -> Option<(CheckKind, Name)>
+    ensures { result ≡ look.first (flat_map (with_kind (file_content tables.now.file.now)) kinds.now) }
+{
+    for kind in kinds {
+        if let Some(fault) = kind_fault(tables, *kind) {
+            return Some(fault);
+        }
+    }
+    None
+}
+
+// The first fault of the kind of lowest number. Where no block is at fault, the kinds that stand in
+// blocks alone are passed over.
+fn lowest_fault<A: Allocator + Clone>(tables: &Tables<'_, A>) -> Option<(CheckKind, Name)>
+    ensures { result ≡ look.first (all_faults (file_content tables.now.file.now)) }
+{
+    if tables.has_faulty_item(&tables.file.items) {
+        kinds_fault(tables, &KINDS)
+    } else {
+        kinds_fault(tables, &OTHER_KINDS)
+    }
+}
+
+// What a file's first fault makes of it.
+fn judged(fault: Option<(CheckKind, Name)>) -> Result<(), CheckError>
+    ensures ok { OnOk result (fault ≡ None) }
+    ensures err { IfErr result (λ e. Some (e.kind, e.name) ≡ fault) }
+{
+    match fault {
+        Some((kind, name)) => Err(CheckError { kind, name }),
+        None => Ok(()),
+    }
+}
+
+/// Whether a file is well-formed, or else its fault of the lowest number, and of these the first in the
+/// text (docs/LANGUAGE.md, "Well-formed files"). Memory is taken for tables of names alone, and given back.
+/// The cost is the size of the tree, at each `do` times its targets and its arguments, and at each test
+/// times its objects and their states.
+pub fn first_fault<A: Allocator + Clone>(alloc: Global, file: &SmlFile<A>) -> Result<(), CheckError>
+    ensures well_formed { OnOk result (IsWellFormed (file_content file.now)) }
+    ensures fault { IfErr result (λ e. (e ≡ memory_error) ⊎ (Some (e.kind, e.name) ≡ look.first (all_faults (file_content file.now)))) }
+{
+    match Tables::new(alloc, file) {
+        Ok(tables) => judged(lowest_fault(&tables)),
+        Err(_) => Err(CheckError::memory()),
+    }
+}
