@@ -4,8 +4,8 @@
 //! part is a comment.
 ghost use Rattle.std.specs.Prelude.{◌≤◌, ◌<◌};
 
+use crate::patterns::{add, add_times};
 use std::alloc::{AllocError, Global};
-use std::fmt::Write;
 
 /// How many classes a text has at least, beside that of the devices. It is then 64 KiB long.
 pub const LEAST_CLASSES: usize = 3;
@@ -36,151 +36,151 @@ struct Place {
     far: usize,
 }
 
+// What a class begins with.
+const CLASS: &str = "\
+object: OBJECT_# is_of_class CLASS_NUMBER_#
+class: CLASS_NUMBER_# ! made
+  parameters: int LIMIT = #, string MODE = \"normal\"
+";
+
+// The parts of an action: what it sends, what it tests, and what it does in either case.
+const REQUEST: &str = "    action: ACTION_# (int T = #, string M)
+      do ACTION_# (M = M, T = LIMIT) OBJECT_#
+";
+
+const TEST: &str =
+    "      if ( OBJECT_# in_state { STATE_1, STATE_2 } and not ( all_in GROUP_# in_state STATE_#
+           or any_in GROUP_# not_in_state STATE_3 ) ) then
+";
+
+const BOTH_WAYS: &str = "        set LIMIT = T ! keep it
+        move_to STATE_#
+      else
+        do ACTION_# (M = \"a text of some length\", T = -#) all_in GROUP_#
+      endif
+      terminate_action /state=STATE_#
+";
+
 /// A text with so many classes.
 pub fn of_classes(alloc: Global, classes: usize) -> Result<Vec<u8>, AllocError>
     requires at_least { LEAST_CLASSES ≤ classes }
     requires at_most { classes ≤ MOST_CLASSES }
 {
     let mut text = String::new(alloc);
-    add_devices(&mut text)?;
+    let mut next = String::new(alloc);
+    let added = add_parts(&mut text, &mut next, classes);
+    drop(next);
+    added?;
+    Ok(text.into_bytes())
+}
+
+// All parts. An action is written to `next` before it is added, since it may have no room.
+fn add_parts(text: &mut String, next: &mut String, classes: usize) -> Result<(), AllocError>
+    requires at_least { LEAST_CLASSES ≤ classes }
+    requires at_most { classes ≤ MOST_CLASSES }
+{
+    add_devices(text)?;
+    let sets = classes.min(MOST_SETS);
     for class in 0..classes {
-        let sets = classes.min(MOST_SETS);
         let place = Place {
             class,
             near: (class + 1) % sets,
             far: (class + 2) % sets,
         };
         if class < sets {
-            add_set(&mut text, class)?;
+            add_set(text, class)?;
         }
-        add_class(alloc, &mut text, place)?;
+        add_class(text, next, place)?;
     }
-    Ok(text.into_bytes())
+    Ok(())
 }
 
 // The devices. They have the states of all objects, and the actions that are sent to sets.
 fn add_devices(text: &mut String) -> Result<(), AllocError> {
-    for device in 0..DEVICES {
-        writeln!(text, "object: DEVICE_{device} is_of_class SUPPLY")?;
-    }
-    writeln!(text, "class: SUPPLY /associated")?;
+    add_times(text, "object: DEVICE_# is_of_class SUPPLY\n", DEVICES)?;
+    text.push_str("class: SUPPLY /associated\n")?;
     for state in 0..STATES {
-        writeln!(text, "  state: STATE_{state}")?;
-        for action in 0..MOST_ACTIONS / 2 {
-            writeln!(
-                text,
-                "    action: ACTION_{action} (int T = {action}, string M)"
-            )?;
-        }
+        add(text, "  state: STATE_#\n", &[state])?;
+        add_device_actions(text)?;
     }
     let room = room_of(text);
     add_comment(text, room)
 }
 
-fn add_set(text: &mut String, class: usize) -> Result<(), AllocError> {
-    let device = class % DEVICES;
-    writeln!(
-        text,
-        "objectset: GROUP_{class} {{ OBJECT_{class}, DEVICE_{device} }}"
-    )
-}
-
-fn add_class(alloc: Global, text: &mut String, place: Place) -> Result<(), AllocError> {
-    let class = place.class;
-    write!(
-        text,
-        "\
-object: OBJECT_{class} is_of_class CLASS_NUMBER_{class}
-class: CLASS_NUMBER_{class} ! made
-  parameters: int LIMIT = {class}, string MODE = \"normal\"
-"
-    )?;
-    for state in 0..STATES {
-        add_state(alloc, text, place, state)?;
+fn add_device_actions(text: &mut String) -> Result<(), AllocError> {
+    for action in 0..MOST_ACTIONS / 2 {
+        let pattern = "    action: ACTION_# (int T = #, string M)\n";
+        add(text, pattern, &[action, action])?;
     }
     Ok(())
 }
 
-// A state with as many actions as have room.
-fn add_state(alloc: Global, text: &mut String, place: Place, state: usize) -> Result<(), AllocError>
+fn add_set(text: &mut String, class: usize) -> Result<(), AllocError> {
+    let pattern = "objectset: GROUP_# { OBJECT_#, DEVICE_# }\n";
+    add(text, pattern, &[class, class, class % DEVICES])
+}
+
+fn add_class(text: &mut String, next: &mut String, place: Place) -> Result<(), AllocError> {
+    add(text, CLASS, &[place.class; 4])?;
+    for state in 0..STATES {
+        add_state(text, next, place, state)?;
+    }
+    Ok(())
+}
+
+fn add_state(
+    text: &mut String,
+    next: &mut String,
+    place: Place,
+    state: usize,
+) -> Result<(), AllocError>
     requires { state < STATES }
 {
-    let mark = match state {
-        0 => " /initial_state",
-        4 => " /dead_state",
-        _ => "",
+    let pattern = match state {
+        0 => "  state: STATE_# /initial_state\n",
+        4 => "  state: STATE_# /dead_state\n",
+        _ => "  state: STATE_#\n",
     };
-    writeln!(text, "  state: STATE_{state}{mark}")?;
+    add(text, pattern, &[state])?;
+    add_actions(text, next, place, state)
+}
+
+// As many actions as have room.
+fn add_actions(
+    text: &mut String,
+    next: &mut String,
+    place: Place,
+    state: usize,
+) -> Result<(), AllocError>
+    requires { state < STATES }
+{
     let mut room = room_of(text);
     for action in 0..MOST_ACTIONS {
-        let next = action_text(alloc, place, state, action)?;
+        next.clear();
+        add_action(next, place, state, action)?;
         if next.len() > room {
             break;
         }
         room -= next.len();
-        text.push_str(&next)?;
+        text.push_str(next.as_str())?;
     }
     add_comment(text, room)
 }
 
 // An action. What it sends has half its number, so that all classes and devices have it.
-fn action_text(
-    alloc: Global,
+fn add_action(
+    text: &mut String,
     place: Place,
     state: usize,
     action: usize,
-) -> Result<String, AllocError>
+) -> Result<(), AllocError>
     requires { state < STATES }
 {
-    let next = (state + 1) % STATES;
-    let mut text = String::new(alloc);
-    add_request(&mut text, place, action)?;
-    add_test(&mut text, place, state)?;
-    add_both_ways(&mut text, place, next, action)?;
-    writeln!(text, "      terminate_action /state=STATE_{next}")?;
-    Ok(text)
-}
-
-fn add_request(text: &mut String, place: Place, action: usize) -> Result<(), AllocError> {
-    let Place { near, .. } = place;
-    let sent = action / 2;
-    writeln!(
-        text,
-        "    action: ACTION_{action} (int T = {action}, string M)"
-    )?;
-    writeln!(
-        text,
-        "      do ACTION_{sent} (M = M, T = LIMIT) OBJECT_{near}"
-    )
-}
-
-fn add_test(text: &mut String, place: Place, state: usize) -> Result<(), AllocError> {
     let Place { near, far, .. } = place;
-    write!(
-        text,
-        "      if ( OBJECT_{near} in_state {{ STATE_1, STATE_2 }} and not ( all_in GROUP_{near} in_state STATE_{state}
-           or any_in GROUP_{far} not_in_state STATE_3 ) ) then
-"
-    )
-}
-
-fn add_both_ways(
-    text: &mut String,
-    place: Place,
-    next: usize,
-    action: usize,
-) -> Result<(), AllocError> {
-    let Place { near, .. } = place;
-    let sent = action / 2;
-    write!(
-        text,
-        "        set LIMIT = T ! keep it
-        move_to STATE_{next}
-      else
-        do ACTION_{sent} (M = \"a text of some length\", T = -{action}) all_in GROUP_{near}
-      endif
-"
-    )
+    let (sent, next) = (action / 2, (state + 1) % STATES);
+    add(text, REQUEST, &[action, action, sent, near])?;
+    add(text, TEST, &[near, near, state, far])?;
+    add(text, BOTH_WAYS, &[next, sent, action, near, next])
 }
 
 // How many bytes are left of the part that is begun.

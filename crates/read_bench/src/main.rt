@@ -8,6 +8,7 @@ mod boards;
 mod ledgers;
 mod made_text;
 mod moves;
+mod patterns;
 mod task;
 mod texts;
 mod timing;
