@@ -77,7 +77,9 @@ fn time_read_in_arena<R: Clock>(rt: &R, arena: &mut Bump, texts: &[Vec<u8>]) -> 
 
 fn time_finding_faults<R: Clock + AllocGlobal>(rt: &R, texts: &[Vec<u8>]) -> Result<Duration> {
     let files = files_of(rt.alloc(), texts)?;
-    time_faults(rt, &files)
+    let time = time_faults(rt, &files);
+    drop(files);
+    time
 }
 
 fn time_faults<R: Clock + AllocGlobal>(rt: &R, files: &[SmlFile<Global>]) -> Result<Duration> {
@@ -92,7 +94,9 @@ fn time_checking<R: Clock + AllocGlobal>(rt: &R, texts: &[Vec<u8>]) -> Result<Du
     let mut whole = Duration::ZERO;
     for text in texts {
         let file = file_of(rt.alloc(), text)?;
-        whole = whole.saturating_add(time_check(rt, &file)?);
+        let time = time_check(rt, &file);
+        drop(file);
+        whole = whole.saturating_add(time?);
     }
     Ok(whole)
 }
@@ -108,7 +112,10 @@ fn time_check<R: Clock + AllocGlobal>(rt: &R, file: &SmlFile<Global>) -> Result<
 fn time_printing<R: Clock + AllocGlobal>(rt: &R, texts: &[Vec<u8>]) -> Result<Duration> {
     let files = files_of(rt.alloc(), texts)?;
     let mut printed = Vec::new(rt.alloc());
-    time_prints(rt, &files, &mut printed)
+    let time = time_prints(rt, &files, &mut printed);
+    drop(printed);
+    drop(files);
+    time
 }
 
 fn time_prints<R: Clock>(
