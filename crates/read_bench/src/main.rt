@@ -2,7 +2,7 @@
 //! and tasks run.
 #![tactic(auto)]
 
-ghost use Rattle.std.specs.Prelude.{◌≤◌};
+ghost use Rattle.std.specs.Prelude.{◌≤◌, IfOk};
 
 mod boards;
 mod ledgers;
@@ -17,7 +17,7 @@ use crate::made_text::{LEAST_CLASSES, MOST_CLASSES};
 use anyhow::{Context, Result, bail};
 use std::fs::Files;
 use std::time::Clock;
-use std::{env, fs};
+use std::{env, fs, slice};
 
 const USAGE: &str = "\
 Times the reading of domain texts, with the dropping of what was read, and the checking and the
@@ -42,49 +42,88 @@ boards the time of an entry is printed, where two supplies are switched on over 
 
 fn main(rt: HostRuntime) -> Result<()> {
     let words: Vec<String> = env::args(&rt)?.collect(rt.alloc())?;
+    drive_words(&rt, &words)
+}
+
+fn drive_words<R: Files + Clock + Print + AllocGlobal>(rt: &R, words: &[String]) -> Result<()> {
     let mut texts = Vec::new(rt.alloc());
-    for word in &words {
+    for word in words {
         texts.push(word.as_str())?;
     }
-    drive(&rt, &texts)
+    drive(rt, &texts)
 }
 
 // Does what the words ask for, the program's name first.
 fn drive<R: Files + Clock + Print + AllocGlobal>(rt: &R, words: &[&str]) -> Result<()> {
     match words {
         [] | [_] => tell_made_texts(rt),
-        [_, "--help"] => tell_usage(rt),
-        [_, "time", rounds] => time_made_texts(rt, rounds),
-        [_, "time", rounds, file] => time_file(rt, rounds, file),
-        [_, "ledgers"] => ledgers::report(rt),
-        [_, "moves"] => moves::report(rt),
-        [_, "boards"] => boards::report(rt),
-        [_, "write", file, classes] => write_made_text(rt, file, classes),
-        _ => bail!("see `read_bench --help` for what may be asked"),
+        [_, word] => drive_one(rt, word),
+        [_, word, rounds] => drive_two(rt, word, rounds),
+        [_, word, first, second] => drive_three(rt, word, first, second),
+        _ => refuse(),
     }
 }
 
+fn drive_one<R: Clock + Print + AllocGlobal>(rt: &R, word: &str) -> Result<()> {
+    match word {
+        "--help" => tell_usage(rt),
+        "ledgers" => ledgers::report(rt),
+        "moves" => moves::report(rt),
+        "boards" => boards::report(rt),
+        _ => refuse(),
+    }
+}
+
+fn drive_two<R: Clock + Print + AllocGlobal>(rt: &R, word: &str, rounds: &str) -> Result<()> {
+    match word {
+        "time" => time_made_texts(rt, rounds),
+        _ => refuse(),
+    }
+}
+
+fn drive_three<R: Files + Clock + Print + AllocGlobal>(
+    rt: &R,
+    word: &str,
+    first: &str,
+    second: &str,
+) -> Result<()> {
+    match word {
+        "time" => time_file(rt, first, second),
+        "write" => write_made_text(rt, first, second),
+        _ => refuse(),
+    }
+}
+
+fn refuse() -> Result<()> {
+    bail!("see `read_bench --help` for what may be asked")
+}
+
 fn tell_usage<R: Print>(rt: &R) -> Result<()> {
-    rt.println(USAGE)?;
-    Ok(())
+    Ok(rt.println(USAGE)?)
 }
 
 // Tells what may be asked, and what the smallest and the largest made text have.
 fn tell_made_texts<R: Print + AllocGlobal>(rt: &R) -> Result<()> {
     tell_usage(rt)?;
-    let small = made_text::of_classes(rt.alloc(), made_text::LEAST_CLASSES)?;
-    tell_text(rt, &small)?;
-    let large = made_text::of_classes(rt.alloc(), made_text::MOST_CLASSES)?;
-    tell_text(rt, &large)
+    tell_made_text(rt, made_text::LEAST_CLASSES)?;
+    tell_made_text(rt, made_text::MOST_CLASSES)
 }
 
-// Tells what a text has, which is read and has no fault.
+// Tells what a made text has, which is read and has no fault.
+fn tell_made_text<R: Print + AllocGlobal>(rt: &R, classes: usize) -> Result<()>
+    requires at_least { LEAST_CLASSES ≤ classes }
+    requires at_most { classes ≤ MOST_CLASSES }
+{
+    let text = made_text::of_classes(rt.alloc(), classes)?;
+    let told = tell_text(rt, &text);
+    drop(text);
+    told
+}
+
 fn tell_text<R: Print + AllocGlobal>(rt: &R, text: &[u8]) -> Result<()> {
-    let file = texts::file_of(rt.alloc(), text)?;
-    texts::find_fault(rt.alloc(), &file)?;
-    let (bytes, items) = (text.len(), file.items.len());
-    println!(rt; "{bytes} bytes, {items} items, well-formed")?;
-    Ok(())
+    let items = texts::count_items(rt.alloc(), text)?;
+    let bytes = text.len();
+    Ok(println!(rt; "{bytes} bytes, {items} items, well-formed")?)
 }
 
 fn rounds_of(word: &str) -> Result<u32> {
@@ -112,7 +151,9 @@ fn time_texts_of<R: Clock + Print + AllocGlobal>(
     for _ in 0..count {
         texts.push(made_text::of_classes(rt.alloc(), classes)?)?;
     }
-    timing::report(rt, rounds, &texts)
+    let told = timing::report(rt, rounds, &texts);
+    drop(texts);
+    told
 }
 
 fn time_file<R: Files + Clock + Print + AllocGlobal>(
@@ -121,16 +162,27 @@ fn time_file<R: Files + Clock + Print + AllocGlobal>(
     file: &str,
 ) -> Result<()> {
     let rounds = rounds_of(rounds)?;
-    let mut texts = Vec::new(rt.alloc());
-    texts.push(fs::read(rt, file)?)?;
-    timing::report(rt, rounds, &texts)
+    let text = fs::read(rt, file)?;
+    let told = timing::report(rt, rounds, slice::from_ref(&text));
+    drop(text);
+    told
 }
 
-fn write_made_text<R: Files + AllocGlobal>(rt: &R, file: &str, classes: &str) -> Result<()> {
-    let classes = classes.parse::<usize>().context("CLASSES is no number")?;
+// How many classes a word asks for.
+fn classes_of(word: &str) -> Result<usize>
+    ensures at_least { IfOk result (λ classes. LEAST_CLASSES ≤ classes) }
+    ensures at_most { IfOk result (λ classes. classes ≤ MOST_CLASSES) }
+{
+    let classes = word.parse::<usize>().context("CLASSES is no number")?;
     if classes < made_text::LEAST_CLASSES || classes > made_text::MOST_CLASSES {
         bail!("CLASSES is not 3 to 51");
     }
-    fs::write(rt, file, made_text::of_classes(rt.alloc(), classes)?)?;
-    Ok(())
+    Ok(classes)
+}
+
+fn write_made_text<R: Files + AllocGlobal>(rt: &R, file: &str, classes: &str) -> Result<()> {
+    let text = made_text::of_classes(rt.alloc(), classes_of(classes)?)?;
+    let written = fs::write(rt, file, text.as_slice());
+    drop(text);
+    Ok(written?)
 }

@@ -3,13 +3,14 @@ ghost use Rattle.std.specs.Prelude.{IfOk};
 ghost use Rattle.sml_tree.specs.Content.{file_content};
 ghost use Rattle.sml_layout.specs.Texts.{HasTexts};
 
+use crate::patterns::add_times;
 use anyhow::{Result, anyhow, bail};
 use sml_check::{check, first_fault};
 use sml_checkable::laws::laws_of_read_files;
 use sml_domain::domain::Domain;
 use sml_read::read;
 use sml_tree::file::SmlFile;
-use std::alloc::{Allocator, Global};
+use std::alloc::{AllocError, Allocator, Global};
 use std::sync::Arc;
 
 /// The file that a text says.
@@ -41,10 +42,43 @@ pub fn checked(alloc: Global, file: &SmlFile<Global>) -> Result<Domain>
     }
 }
 
+/// How many items a text has, which is read and has no fault.
+pub fn count_items(alloc: Global, text: &[u8]) -> Result<usize> {
+    let file = file_of(alloc, text)?;
+    let found = find_fault(alloc, &file);
+    let items = file.items.len();
+    drop(file);
+    found?;
+    Ok(items)
+}
+
 /// The domain of a text.
 pub fn domain_of(alloc: Global, text: &[u8]) -> Result<Arc<Domain>> {
     match sml_checkable::domain_of(alloc, text) {
         Ok(domain) => Ok(domain),
         Err(_) => bail!("a text has no domain"),
     }
+}
+
+/// A text that has a line so many times, which may be none, with its number in the place of its `#`,
+/// if it has one.
+pub struct Lines {
+    pub first: &'static str,
+    pub line: &'static str,
+    pub times: usize,
+    pub last: &'static str,
+}
+
+fn add_lines(text: &mut String, lines: &Lines) -> Result<(), AllocError> {
+    text.push_str(lines.first)?;
+    add_times(text, lines.line, lines.times)?;
+    text.push_str(lines.last)?;
+    Ok(())
+}
+
+/// The domain of a text of lines.
+pub fn domain_of_lines(alloc: Global, lines: &Lines) -> Result<Arc<Domain>> {
+    let mut text = String::new(alloc);
+    add_lines(&mut text, lines)?;
+    domain_of(alloc, text.as_bytes())
 }
