@@ -1,26 +1,27 @@
 //! How long a board takes for an entry: the calls that switch two supplies on, over and over.
-ghost use Rattle.std.specs.Prelude.{◌≡◌, ◌<◌, ℕ, [], IfOk, IfSome, IsSome, length, true};
+ghost use Rattle.std.specs.Prelude.{◌≡◌, ◌<◌, ℕ, [], IfOk, IfSome, IsSome, IsTrue, length, true};
 ghost use Rattle.std.specs.Arc.{arc_value};
 ghost use Rattle.smi_entry.specs.declared.entry.Sender.{Sender as Sends};
 ghost use Rattle.smi_mail.specs.Boxes.{sent_at, taken_at};
 ghost use Rattle.smi_board.specs.Refusals.{is_operator};
 
+use crate::envelopes::envelope_of;
+use crate::tenths::Tenths;
 use crate::texts::domain_of;
 use anyhow::{Result, bail};
 use smi_board::board::Board;
 use smi_board::contacts::Reply;
+use smi_board::errors::StartError;
 use smi_board::resuming::Work;
 use smi_board::starting::Started;
 use smi_entry::args::Args;
-use smi_entry::entry::Sender;
 use smi_entry::envelope::Envelope;
-use smi_entry::session::SessionId;
-use smi_interp::contact::Contact;
 use smi_interp::task::Task;
 use smi_mail::plain::PlainMail;
 use sml_domain::domain::Domain;
 use sml_domain::ids::{ActionId, ObjId, StateId};
 use std::alloc::Global;
+use std::io;
 use std::sync::Arc;
 use std::time::{Clock, Duration, Instant};
 
@@ -73,38 +74,32 @@ const TIMES: usize = 16;
 // How many entries there are before the time is taken.
 const COUNTS: [usize; 2] = [1_000, 1_000_000];
 
-// A request of the first session to switch the supplies on.
-fn envelope_of(args: &Args) -> Option<Envelope>
-    ensures { IfSome result (λ e. is_operator e.sender ≡ true) }
+// Sends a request to switch the supplies on.
+fn sends(board: &mut Board<PlainMail>, envelope: Envelope) -> bool
+    requires { is_operator envelope.sender ≡ true }
 {
-    let sender = Sender::Operator(SessionId::new(1)?);
-    Envelope::new(sender, ActionId::new(CONFIGURE), args.share().ok()?).ok()
+    let o = ObjId::new(RUN);
+    if board.domain().has(o) && envelope.fits(board.domain(), o) {
+        return board.request(o, envelope).is_ok();
+    }
+    drop(envelope);
+    false
 }
 
 fn requests(board: &mut Board<PlainMail>, args: &Args) -> bool {
-    let Some(envelope) = envelope_of(args) else {
-        return false;
-    };
-    let o = ObjId::new(RUN);
-    if !board.domain().has(o) || !envelope.fits(board.domain(), o) {
-        return false;
+    match envelope_of(ActionId::new(CONFIGURE), args).ok() {
+        Some(envelope) => sends(board, envelope),
+        None => false,
     }
-    board.request(o, envelope).is_ok()
 }
 
-// Whether a task asks for something, and the task after it.
-fn asks(task: Task) -> Option<Task>
-    ensures domain { IfSome result (λ t. t.domain ≡ task.domain) }
-    ensures object { IfSome result (λ t. t.turn.object ≡ task.turn.object) }
-    ensures waits { IfSome result (λ t. IsSome t.pending) }
+// Whether a task asks for something.
+fn asks(task: &mut Task) -> bool
+    ensures domain { task.new.domain ≡ task.old.domain }
+    ensures object { task.new.turn.object ≡ task.old.turn.object }
+    ensures waits { IsTrue result → IsSome task.new.pending }
 {
-    let mut task = task;
-    match task.advance() {
-        Ok(Contact::Send(_)) => Some(task),
-        Ok(Contact::Read(_)) => Some(task),
-        Ok(Contact::End(_)) => Some(task),
-        _ => None,
-    }
+    task.advance().is_ok() && task.pending().is_some()
 }
 
 // Hands a task in: the task that goes on, if one does.
@@ -115,12 +110,20 @@ fn go_on(board: &mut Board<PlainMail>, task: Task) -> Option<Option<Task>>
     ensures task { IfSome result (λ r. IfSome r (λ t.
         (t.domain ≡ board.old.domain) × (t.turn.object < length board.old.domain.objects))) }
 {
-    let task = asks(task)?;
+    let mut task = task;
+    if !asks(&mut task) {
+        drop(task);
+        return None;
+    }
     match board.contact(task) {
         Ok(Reply::Posted(task)) => Some(Some(task)),
         Ok(Reply::Seen(task)) => Some(Some(task)),
-        Ok(_) => Some(None),
-        Err(_) => None,
+        Ok(Reply::Waiting) => Some(None),
+        Ok(Reply::Ended) => Some(None),
+        Err((_, task)) => {
+            drop(task);
+            None
+        }
     }
 }
 
@@ -151,16 +154,19 @@ fn starts(board: &mut Board<PlainMail>) -> bool {
     }
 }
 
+// Whether a device is to perform what was started.
+fn is_performed(started: Result<Started, StartError>) -> bool {
+    let is_performed = matches!(&started, Ok(Started::Perform { .. }));
+    drop(started);
+    is_performed
+}
+
 // Whether a supply starts what it was sent, and its device ends that.
 fn switches_on(board: &mut Board<PlainMail>, number: usize) -> bool {
     let o = ObjId::new(number);
-    if !board.domain().has(o) {
-        return false;
-    }
-    match board.start(o) {
-        Ok(Started::Perform { .. }) => board.answered(o, StateId::new(ON)).is_ok(),
-        _ => false,
-    }
+    board.domain().has(o)
+        && is_performed(board.start(o))
+        && board.answered(o, StateId::new(ON)).is_ok()
 }
 
 fn resumes(board: &mut Board<PlainMail>) -> bool {
@@ -197,9 +203,9 @@ fn mail_of(alloc: Global, domain: &Arc<Domain>) -> Result<PlainMail>
 fn board_of(alloc: Global) -> Result<Board<PlainMail>> {
     let domain = domain_of(alloc, TEXT)?;
     let mail = mail_of(alloc, &domain)?;
-    match Board::new(alloc, domain, mail, usize::MAX) {
-        Ok(board) => Ok(board),
-        Err(_) => bail!("there is no memory for a board"),
+    match Board::new(alloc, domain, mail, usize::MAX).ok() {
+        Some(board) => Ok(board),
+        None => bail!("there is no memory for a board"),
     }
 }
 
@@ -227,23 +233,33 @@ fn least_time<R: Clock>(rt: &R, board: &mut Board<PlainMail>, args: &Args) -> Re
     Ok(least)
 }
 
-fn tell<R: Print>(rt: &R, count: usize, time: Duration) -> Result<()> {
+fn tell<R: Print>(rt: &R, count: usize, time: Duration) -> io::Result<()> {
     let entries = (ROUNDS * ENTRIES) as u128;
-    let tenths = time.as_nanos() * 10 / entries;
-    let speed = entries * 1_000_000_000 / time.as_nanos().max(1);
-    let (whole, part) = (tenths / 10, tenths % 10);
-    println!(rt;
-        "after {count:>7} entries {whole:>6}.{part} ns an entry {speed:>10} entries a second"
-    )?;
-    Ok(())
+    let nanos = time.as_nanos();
+    let (time, speed) = (
+        Tenths(nanos * 10 / entries),
+        entries * 1_000_000_000 / nanos.max(1),
+    );
+    println!(rt; "after {count:>7} entries {time} ns an entry {speed:>10} entries a second")
+}
+
+fn tell_at<R: Clock + Print>(
+    rt: &R,
+    board: &mut Board<PlainMail>,
+    args: &Args,
+    count: usize,
+) -> Result<()> {
+    time_rounds(rt, board, args, count / ENTRIES)?;
+    let time = least_time(rt, board, args)?;
+    Ok(tell(rt, count, time)?)
 }
 
 fn report_at<R: Clock + Print + AllocGlobal>(rt: &R, count: usize) -> Result<()> {
-    let mut board = board_of(rt.alloc())?;
     let args = Args::new(rt.alloc(), Vec::new(rt.alloc()))?;
-    time_rounds(rt, &mut board, &args, count / ENTRIES)?;
-    let time = least_time(rt, &mut board, &args)?;
-    tell(rt, count, time)
+    let mut board = board_of(rt.alloc())?;
+    let told = tell_at(rt, &mut board, &args, count);
+    drop(board);
+    told
 }
 
 /// Prints how long a board takes for an entry, after a thousand entries and after a million.

@@ -1,16 +1,17 @@
 //! How long a ledger takes to add entries and to answer look-ups, beside a push on a `Vec`.
 ghost use Rattle.std.specs.Prelude.{◌<◌, length};
 
-use crate::texts::domain_of;
+use crate::envelopes::envelope_of;
+use crate::tenths::Tenths;
+use crate::texts::{Lines, domain_of_lines};
 use anyhow::{Result, bail};
 use smi_entry::args::Args;
 use smi_entry::entry::{ActionEnd, Entry, Sender, Verdict};
 use smi_entry::envelope::Envelope;
-use smi_entry::session::SessionId;
 use smi_ledger::ledger::Ledger;
 use sml_domain::ids::{ActionId, ObjId};
 use std::alloc::{AllocError, Global};
-use std::fmt::Write;
+use std::io;
 use std::time::{Clock, Duration, Instant};
 
 // How many objects there are. In a round of entries each starts, posts to itself, and ends.
@@ -53,12 +54,27 @@ const LOOK_UPS: [(LookUp, &str); 10] = [
     (LookUp::IsClear, "is_clear"),
 ];
 
-// A ledger with its objects, beside a plain list of as many entries.
+// A ledger with its objects, beside a plain list of as many entries, and what the entries of a round are made of.
 #[derive(Drop)]
 struct Books {
     ledger: Ledger,
     plain: Vec<Entry>,
     args: Args,
+    shares: Vec<Args>,
+    envelopes: Vec<Envelope>,
+}
+
+// What is timed of a round.
+#[derive(Clone, Copy)]
+enum Call {
+    /// Posts are pushed to the plain list.
+    Push,
+    /// Starts are added to the ledger.
+    Start,
+    /// Posts are.
+    Post,
+    /// Ends are.
+    End,
 }
 
 // How long the entries of a round took, at least: those of a plain list, and those of a ledger by their sort.
@@ -70,32 +86,27 @@ struct Times {
     end: Duration,
 }
 
-fn domain_text(alloc: Global) -> Result<String, AllocError> {
-    let mut text = String::new(alloc);
-    writeln!(text, "class: K state: S action: GO")?;
-    for object in 0..OBJECTS {
-        writeln!(text, "object: X_{object} is_of_class K")?;
-    }
-    Ok(text)
+const LINES: Lines = Lines {
+    first: "class: K state: S action: GO\n",
+    line: "object: X_# is_of_class K\n",
+    times: OBJECTS,
+    last: "",
+};
+
+fn new_ledger(alloc: Global) -> Result<Ledger> {
+    let domain = domain_of_lines(alloc, &LINES)?;
+    Ok(Ledger::new(alloc, domain)?)
 }
 
 fn books_of(alloc: Global) -> Result<Books> {
-    let text = domain_text(alloc)?.into_bytes();
+    let args = Args::new(alloc, Vec::new(alloc))?;
     Ok(Books {
-        ledger: Ledger::new(alloc, domain_of(alloc, text.as_slice())?)?,
+        ledger: new_ledger(alloc)?,
         plain: Vec::new(alloc),
-        args: Args::new(alloc, Vec::new(alloc))?,
+        args,
+        shares: Vec::new(alloc),
+        envelopes: Vec::new(alloc),
     })
-}
-
-// An envelope of the first session.
-fn envelope_of(args: &Args) -> Result<Envelope> {
-    let Some(session) = SessionId::new(1) else {
-        bail!("there is no first session");
-    };
-    let sender = Sender::Operator(session);
-    let envelope = Envelope::new(sender, ActionId::new(0), args.share()?)?;
-    Ok(envelope)
 }
 
 // Adds a start, with what must be asked before.
@@ -132,21 +143,28 @@ fn add_end(ledger: &mut Ledger, o: ObjId) -> bool {
 }
 
 // Arguments for an entry of each object.
-fn shares_of(alloc: Global, args: &Args) -> Result<Vec<Args>> {
-    let mut shares = Vec::new(alloc);
+fn add_shares(shares: &mut Vec<Args>, args: &Args) -> Result<(), AllocError> {
     for _ in 0..OBJECTS {
         shares.push(args.share()?)?;
     }
-    Ok(shares)
+    Ok(())
 }
 
 // Envelopes for a start of each object.
-fn envelopes_of(alloc: Global, args: &Args) -> Result<Vec<Envelope>> {
-    let mut envelopes = Vec::new(alloc);
+fn add_envelopes(envelopes: &mut Vec<Envelope>, args: &Args) -> Result<(), AllocError> {
     for _ in 0..OBJECTS {
-        envelopes.push(envelope_of(args)?)?;
+        envelopes.push(envelope_of(ActionId::new(0), args)?)?;
     }
-    Ok(envelopes)
+    Ok(())
+}
+
+// What the entries of a call are made of.
+fn prepare(books: &mut Books, call: Call) -> Result<(), AllocError> {
+    match call {
+        Call::Push | Call::Post => add_shares(&mut books.shares, &books.args),
+        Call::Start => add_envelopes(&mut books.envelopes, &books.args),
+        Call::End => Ok(()),
+    }
 }
 
 fn full_post(args: Args) -> Entry {
@@ -204,57 +222,42 @@ fn add_ends(ledger: &mut Ledger) -> bool {
     true
 }
 
-// The time since then, where all entries were added.
-fn time_since<R: Clock>(rt: &R, begin: Instant, are_added: bool) -> Result<Duration> {
+fn add_all(books: &mut Books, call: Call) -> bool {
+    match call {
+        Call::Push => push_posts(&mut books.plain, &mut books.shares),
+        Call::Start => add_starts(&mut books.ledger, &mut books.envelopes),
+        Call::Post => add_posts(&mut books.ledger, &mut books.shares),
+        Call::End => add_ends(&mut books.ledger),
+    }
+}
+
+// How long the entries of a call take, for which all was made before.
+fn time_call<R: Clock>(rt: &R, books: &mut Books, call: Call) -> Result<Duration> {
+    prepare(books, call)?;
+    let begin = Instant::now(rt)?;
+    let are_added = add_all(books, call);
     if !are_added {
         bail!("an entry is not added");
     }
     Ok(begin.elapsed(rt)?)
 }
 
-fn time_pushes<R: Clock + AllocGlobal>(rt: &R, books: &mut Books) -> Result<Duration> {
-    let mut shares = shares_of(rt.alloc(), &books.args)?;
-    let begin = Instant::now(rt)?;
-    let are_added = push_posts(&mut books.plain, &mut shares);
-    time_since(rt, begin, are_added)
-}
-
-fn time_starts<R: Clock + AllocGlobal>(rt: &R, books: &mut Books) -> Result<Duration> {
-    let mut envelopes = envelopes_of(rt.alloc(), &books.args)?;
-    let begin = Instant::now(rt)?;
-    let are_added = add_starts(&mut books.ledger, &mut envelopes);
-    time_since(rt, begin, are_added)
-}
-
-fn time_posts<R: Clock + AllocGlobal>(rt: &R, books: &mut Books) -> Result<Duration> {
-    let mut shares = shares_of(rt.alloc(), &books.args)?;
-    let begin = Instant::now(rt)?;
-    let are_added = add_posts(&mut books.ledger, &mut shares);
-    time_since(rt, begin, are_added)
-}
-
-fn time_ends<R: Clock>(rt: &R, books: &mut Books) -> Result<Duration> {
-    let begin = Instant::now(rt)?;
-    let are_added = add_ends(&mut books.ledger);
-    time_since(rt, begin, are_added)
-}
-
 // The least times of this round and of those before it. The plain list gets as many entries as the ledger.
-fn time_round<R: Clock + AllocGlobal>(rt: &R, books: &mut Books, before: Times) -> Result<Times> {
+fn time_round<R: Clock>(rt: &R, books: &mut Books, before: Times) -> Result<Times> {
     let mut push = before.push;
     for _ in 0..3u32 {
-        push = push.min(time_pushes(rt, books)?);
+        push = push.min(time_call(rt, books, Call::Push)?);
     }
     Ok(Times {
         push,
-        start: before.start.min(time_starts(rt, books)?),
-        post: before.post.min(time_posts(rt, books)?),
-        end: before.end.min(time_ends(rt, books)?),
+        start: before.start.min(time_call(rt, books, Call::Start)?),
+        post: before.post.min(time_call(rt, books, Call::Post)?),
+        end: before.end.min(time_call(rt, books, Call::End)?),
     })
 }
 
 // The least times of some rounds.
-fn time_rounds<R: Clock + AllocGlobal>(rt: &R, books: &mut Books, rounds: usize) -> Result<Times> {
+fn time_rounds<R: Clock>(rt: &R, books: &mut Books, rounds: usize) -> Result<Times> {
     let mut times = Times {
         push: Duration::MAX,
         start: Duration::MAX,
@@ -308,16 +311,19 @@ fn time_look_ups<R: Clock>(rt: &R, ledger: &Ledger, look_up: LookUp) -> Result<D
 }
 
 // A line: the time of a call in nanoseconds, with a tenth of one, and how many hundredths of a push that is.
-fn tell<R: Print>(rt: &R, name: &str, time: Duration, push: u128) -> Result<()> {
+fn tell<R: Print>(rt: &R, name: &str, time: Duration, push: u128) -> io::Result<()> {
     let tenths = time.as_nanos() * 10 / CALLS;
-    let (whole, part) = (tenths / 10, tenths % 10);
     let ratio = tenths * 100 / push.max(1);
-    println!(rt; "{name:<10} {whole:>6}.{part} ns {ratio:>6} %")?;
-    Ok(())
+    let time = Tenths(tenths);
+    println!(rt; "{name:<10} {time} ns {ratio:>6} %")
 }
 
-fn tell_times<R: Print>(rt: &R, times: Times, push: u128) -> Result<()> {
-    println!(rt; "{:<10} {:>6}.{} ns", "push", push / 10, push % 10)?;
+fn tell_push<R: Print>(rt: &R, push: u128) -> io::Result<()> {
+    println!(rt; "{:<10} {} ns", "push", Tenths(push))
+}
+
+fn tell_times<R: Print>(rt: &R, times: Times, push: u128) -> io::Result<()> {
+    tell_push(rt, push)?;
     tell(rt, "start", times.start, push)?;
     tell(rt, "post", times.post, push)?;
     tell(rt, "end", times.end, push)
@@ -325,12 +331,16 @@ fn tell_times<R: Print>(rt: &R, times: Times, push: u128) -> Result<()> {
 
 fn tell_look_ups<R: Clock + Print>(rt: &R, ledger: &Ledger, push: u128) -> Result<()> {
     for (look_up, name) in LOOK_UPS {
-        tell(rt, name, time_look_ups(rt, ledger, look_up)?, push)?;
+        let time = time_look_ups(rt, ledger, look_up)?;
+        tell(rt, name, time, push)?;
     }
     Ok(())
 }
 
-fn tell_rounds<R: Clock + Print + AllocGlobal>(rt: &R, books: &mut Books) -> Result<()> {
+fn tell_rounds<R: Clock + Print>(rt: &R, books: &mut Books, entries: usize) -> Result<()> {
+    time_rounds(rt, books, entries / (3 * OBJECTS))?;
+    let count = books.ledger.journal().len();
+    println!(rt; "after {count} entries, with a push as 100 %:")?;
     let times = time_rounds(rt, books, TIMED_ROUNDS)?;
     let push = times.push.as_nanos() * 10 / CALLS;
     tell_times(rt, times, push)?;
@@ -339,10 +349,9 @@ fn tell_rounds<R: Clock + Print + AllocGlobal>(rt: &R, books: &mut Books) -> Res
 
 fn report_at<R: Clock + Print + AllocGlobal>(rt: &R, entries: usize) -> Result<()> {
     let mut books = books_of(rt.alloc())?;
-    time_rounds(rt, &mut books, entries / (3 * OBJECTS))?;
-    let count = books.ledger.journal().len();
-    println!(rt; "after {count} entries, with a push as 100 %:")?;
-    tell_rounds(rt, &mut books)
+    let told = tell_rounds(rt, &mut books, entries);
+    drop(books);
+    told
 }
 
 /// Prints how long entries and look-ups take in a ledger of 64 objects, after a thousand entries and

@@ -5,11 +5,13 @@
 ghost use Rattle.std.specs.Prelude.{◌≤◌, IfOk};
 
 mod boards;
+mod envelopes;
 mod ledgers;
 mod made_text;
 mod moves;
 mod patterns;
 mod task;
+mod tenths;
 mod texts;
 mod timing;
 

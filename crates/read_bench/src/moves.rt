@@ -3,20 +3,21 @@ ghost use Rattle.std.specs.Prelude.{◌≡◌, IfOk, IsTrue, is_some};
 ghost use Rattle.std.specs.Arc.{arc_value};
 ghost use Rattle.sml_domain.specs.Lookups.{block_at};
 
-use crate::texts::domain_of;
+use crate::envelopes::envelope_of;
+use crate::tenths::Tenths;
+use crate::texts::{Lines, domain_of_lines};
 use anyhow::{Result, bail};
 use smi_entry::args::Args;
-use smi_entry::entry::{Sender, Verdict};
+use smi_entry::entry::Verdict;
 use smi_entry::envelope::Envelope;
-use smi_entry::session::SessionId;
 use smi_interp::contact::Contact;
 use smi_interp::task::{Ready, Task};
 use sml_domain::domain::Domain;
 use sml_domain::ids::{ActionId, ObjId, StateId};
 use sml_domain::param::Param;
 use sml_domain::value::Value;
-use std::alloc::{AllocError, Global};
-use std::fmt::Write;
+use std::alloc::Global;
+use std::io;
 use std::sync::Arc;
 use std::time::{Clock, Duration, Instant};
 
@@ -29,29 +30,78 @@ const MOST_MOVES: usize = 100_000;
 // As many verdicts as a `do` may have posts.
 const VERDICTS: [Verdict; 64] = [Verdict::Accepted(0); 64];
 
-// What is run at the first object of a domain.
-#[derive(Clone, Copy)]
-enum Shape {
-    /// A run control switches two supplies on, and reads them.
-    Supplies,
-    /// A counter sets both of its parameters, and sends them to a sink.
-    Counter,
-    /// So many `set`s.
-    Sets(usize),
-    /// So many `if`s, each with a `set` in the branch that is taken.
-    Ifs(usize),
+// What is run at the first object of a domain, by the number of its action.
+struct Shape {
+    name: &'static str,
+    text: Lines,
+    action: usize,
 }
 
-const SHAPES: [(Shape, &str); 6] = [
-    (Shape::Supplies, "supplies"),
-    (Shape::Counter, "counter"),
-    (Shape::Sets(100), "100 sets"),
-    (Shape::Sets(10_000), "10,000 sets"),
-    (Shape::Ifs(20), "20 ifs"),
-    (Shape::Ifs(2_000), "2,000 ifs"),
+const SHAPES: &[Shape] = &[
+    Shape {
+        name: "supplies",
+        text: Lines {
+            first: SUPPLIES,
+            line: "",
+            times: 0,
+            last: "",
+        },
+        action: 1,
+    },
+    Shape {
+        name: "counter",
+        text: Lines {
+            first: COUNTER,
+            line: "",
+            times: 0,
+            last: "",
+        },
+        action: 1,
+    },
+    Shape {
+        name: "100 sets",
+        text: Lines {
+            first: FIRST,
+            line: SET,
+            times: 100,
+            last: LAST,
+        },
+        action: 0,
+    },
+    Shape {
+        name: "10,000 sets",
+        text: Lines {
+            first: FIRST,
+            line: SET,
+            times: 10_000,
+            last: LAST,
+        },
+        action: 0,
+    },
+    Shape {
+        name: "20 ifs",
+        text: Lines {
+            first: FIRST,
+            line: IF,
+            times: 20,
+            last: LAST,
+        },
+        action: 0,
+    },
+    Shape {
+        name: "2,000 ifs",
+        text: Lines {
+            first: FIRST,
+            line: IF,
+            times: 2_000,
+            last: LAST,
+        },
+        action: 0,
+    },
 ];
 
-const SUPPLIES: &[u8] = b"class: SUPPLY /associated
+// A run control switches two supplies on, and reads them.
+const SUPPLIES: &str = "class: SUPPLY /associated
   state: OFF /initial_state
     action: SWITCH_ON
   state: ON
@@ -71,7 +121,8 @@ object: HV2 is_of_class SUPPLY
 objectset: HV { HV1, HV2 }
 ";
 
-const COUNTER: &[u8] = b"class: SINK
+// A counter sets both of its parameters, and sends them to a sink.
+const COUNTER: &str = "class: SINK
   state: READY
     action: TAKE (int V, int W = 1)
 class: COUNTER
@@ -85,73 +136,34 @@ object: C is_of_class COUNTER
 object: OUT is_of_class SINK
 ";
 
-fn write_block(text: &mut String, shape: Shape) -> Result<(), AllocError> {
-    match shape {
-        Shape::Sets(count) => {
-            for _ in 0..count {
-                writeln!(text, "set N = T")?;
-            }
-        }
-        Shape::Ifs(count) => {
-            for _ in 0..count {
-                writeln!(text, "if (Y in_state S) then set N = T endif")?;
-            }
-        }
-        Shape::Supplies | Shape::Counter => {}
-    }
-    Ok(())
-}
+// What stands before and behind a block of `set`s, or of `if`s, each with a `set` in the branch that is taken.
+const FIRST: &str = "class: L state: S
+class: K parameters: int N = 1 state: S action: GO (int T = 2)
+";
 
-fn made_text(alloc: Global, shape: Shape) -> Result<Vec<u8>> {
-    let mut text = String::new(alloc);
-    writeln!(text, "class: L state: S")?;
-    writeln!(
-        text,
-        "class: K parameters: int N = 1 state: S action: GO (int T = 2)"
-    )?;
-    write_block(&mut text, shape)?;
-    writeln!(text, "object: X is_of_class K")?;
-    writeln!(text, "object: Y is_of_class L")?;
-    Ok(text.into_bytes())
-}
+const SET: &str = "set N = T\n";
 
-fn domain_of_shape(alloc: Global, shape: Shape) -> Result<Arc<Domain>> {
-    match shape {
-        Shape::Supplies => domain_of(alloc, SUPPLIES),
-        Shape::Counter => domain_of(alloc, COUNTER),
-        Shape::Sets(_) | Shape::Ifs(_) => {
-            let text = made_text(alloc, shape)?;
-            domain_of(alloc, text.as_slice())
-        }
-    }
-}
+const IF: &str = "if (Y in_state S) then set N = T endif\n";
 
-// The number of the action that is run.
-fn action_of(shape: Shape) -> ActionId {
-    match shape {
-        Shape::Supplies | Shape::Counter => ActionId::new(1),
-        Shape::Sets(_) | Shape::Ifs(_) => ActionId::new(0),
-    }
-}
+const LAST: &str = "object: X is_of_class K
+object: Y is_of_class L
+";
 
-// The values with which parameters begin.
-fn first_values(alloc: Global, params: &[Param]) -> Result<Vec<Value>> {
-    let mut values = Vec::new(alloc);
+fn add_values(values: &mut Vec<Value>, params: &[Param]) -> Result<()> {
     for param in params {
         match &param.value {
             Some(value) => values.push(value.share()?)?,
             None => bail!("a parameter has no value"),
         }
     }
-    Ok(values)
+    Ok(())
 }
 
-// The first session.
-fn sender_of() -> Result<Sender> {
-    match SessionId::new(1) {
-        Some(session) => Ok(Sender::Operator(session)),
-        None => bail!("there is no first session"),
-    }
+// The values with which parameters begin.
+fn first_values(alloc: Global, params: &[Param]) -> Result<Vec<Value>> {
+    let mut values = Vec::new(alloc);
+    add_values(&mut values, params)?;
+    Ok(values)
 }
 
 // The defaults of an action of the first object.
@@ -164,12 +176,13 @@ fn args_of(alloc: Global, domain: &Domain, action: ActionId) -> Result<Args> {
 }
 
 // A request of the first session for an action, with its defaults.
-fn envelope_of(alloc: Global, domain: &Domain, action: ActionId) -> Result<Envelope>
+fn default_envelope(alloc: Global, domain: &Domain, action: ActionId) -> Result<Envelope>
     ensures { IfOk result (λ envelope. envelope.action ≡ action) }
 {
-    let sender = sender_of()?;
-    let envelope = Envelope::new(sender, action, args_of(alloc, domain, action)?)?;
-    Ok(envelope)
+    let args = args_of(alloc, domain, action)?;
+    let envelope = envelope_of(action, &args);
+    drop(args);
+    Ok(envelope?)
 }
 
 // The state in which the first object begins, and in which it declares the action.
@@ -192,38 +205,41 @@ fn ready_of(alloc: Global, domain: &Arc<Domain>) -> Result<Ready>
     ensures { IfOk result (λ ready. (ready.domain ≡ arc_value domain.now) × (ready.object ≡ 0)) }
 {
     let object = ObjId::new(0);
+    let shared = Arc::try_clone(domain)?;
     let params = first_values(alloc, domain.class_parameters(object))?;
-    let ready = Ready::new(alloc, Arc::try_clone(domain)?, object, &params)?;
-    Ok(ready)
+    let ready = Ready::new(alloc, shared, object, &params);
+    drop(params);
+    Ok(ready?)
 }
 
 // A task of the first object.
 fn task_of(alloc: Global, domain: &Arc<Domain>, action: ActionId) -> Result<Task> {
     let state = state_of(domain, action)?;
-    let envelope = envelope_of(alloc, domain, action)?;
+    let envelope = default_envelope(alloc, domain, action)?;
     let ready = ready_of(alloc, domain)?;
     Ok(ready.begin(state, envelope))
 }
 
 // One move of a task, with its answer. Answers whether the task goes on.
 fn goes_on(task: &mut Task, states: &[StateId]) -> Result<bool> {
-    match task.advance()? {
-        Contact::Local { .. } => Ok(true),
-        Contact::Send(posts) => match VERDICTS.get(..posts.list().len()) {
+    drop(task.advance()?);
+    match task.pending() {
+        None => Ok(true),
+        Some(Contact::Send(posts)) => match VERDICTS.get(..posts.list().len()) {
             Some(verdicts) => {
                 task.sent(verdicts);
                 Ok(true)
             }
             None => bail!("there are too many posts"),
         },
-        Contact::Read(objects) => match states.get(..objects.list().len()) {
+        Some(Contact::Read(objects)) => match states.get(..objects.list().len()) {
             Some(states) => {
                 task.tell(states);
                 Ok(true)
             }
             None => bail!("there are too many objects"),
         },
-        Contact::End(_) => Ok(false),
+        Some(_) => Ok(false),
     }
 }
 
@@ -252,7 +268,9 @@ fn time_task<R: Clock + AllocGlobal>(
     action: ActionId,
 ) -> Result<(Duration, usize)> {
     let mut task = task_of(rt.alloc(), domain, action)?;
-    time_walk(rt, &mut task)
+    let time = time_walk(rt, &mut task);
+    drop(task);
+    time
 }
 
 // The least time in which an action was run, and how many moves it makes.
@@ -270,24 +288,24 @@ fn time_tasks<R: Clock + AllocGlobal>(
     Ok((least, moves))
 }
 
-fn time_shape<R: Clock + AllocGlobal>(rt: &R, shape: Shape) -> Result<(Duration, usize)> {
-    let domain = domain_of_shape(rt.alloc(), shape)?;
-    time_tasks(rt, &domain, action_of(shape))
+fn time_shape<R: Clock + AllocGlobal>(rt: &R, shape: &Shape) -> Result<(Duration, usize)> {
+    let domain = domain_of_lines(rt.alloc(), &shape.text)?;
+    let time = time_tasks(rt, &domain, ActionId::new(shape.action));
+    drop(domain);
+    time
 }
 
-fn tell<R: Print>(rt: &R, name: &str, time: Duration, moves: usize) -> Result<()> {
-    let tenths = time.as_nanos() * 10 / moves.max(1) as u128;
-    let (whole, part) = (tenths / 10, tenths % 10);
-    println!(rt; "{name:<12} {moves:>6} moves {whole:>6}.{part} ns a move")?;
-    Ok(())
+fn tell<R: Print>(rt: &R, name: &str, time: Duration, moves: usize) -> io::Result<()> {
+    let time = Tenths(time.as_nanos() * 10 / moves.max(1) as u128);
+    println!(rt; "{name:<12} {moves:>6} moves {time} ns a move")
 }
 
 /// Prints how long a task takes for a move, in small actions, and in long blocks of `set`s and of
 /// `if`s.
 pub fn report<R: Clock + Print + AllocGlobal>(rt: &R) -> Result<()> {
-    for (shape, name) in SHAPES {
+    for shape in SHAPES {
         let (time, moves) = time_shape(rt, shape)?;
-        tell(rt, name, time, moves)?;
+        tell(rt, shape.name, time, moves)?;
     }
     Ok(())
 }
