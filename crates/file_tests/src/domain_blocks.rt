@@ -1,30 +1,30 @@
 //! Blocks with branches in one another, and how actions end.
 
-use crate::domain_of::has_domain;
-use crate::shapes::{asks, instructions_of, is_move};
-use sml_domain::domain::Domain;
-use sml_domain::ids::{BlockId, ObjId};
-use sml_domain::instr::{Asked, Cond, Instr};
-use std::test::*;
+use crate::blocks::{Step, Turn};
+use crate::facts::{Shown, has_shown};
+use sml_tree::cond::Scope;
 
-// Whether the first action moves to the added state, and the second ends in the declared one.
-fn ends_both_ways(domain: &Domain) -> bool {
-    let goes = match instructions_of(domain, 0, 0, 0) {
-        Some([Instr::MoveTo(state)]) => state.get() == 1,
-        _ => false,
-    };
-    let stops = match instructions_of(domain, 0, 0, 1) {
-        Some([Instr::Terminate(state)]) => state.get() == 0,
-        _ => false,
-    };
-    goes && stops
-}
+// The first action moves to the added state, and the second ends in the declared one.
+const BOTH_WAYS: Shown = Shown {
+    objects: &[b"X"],
+    classes: &[b"K"],
+    sets: &[],
+    states: &[b"S", b"DEAD"],
+    actions: &[b"GO", b"STOP"],
+    names: &[],
+    facts: &[],
+    parts: &[],
+    blocks: &[
+        (0, 0, 0, &[], &[Step::MoveTo(1)]),
+        (0, 0, 1, &[], &[Step::Terminate(0)]),
+    ],
+};
 
 #[test]
 fn both_ways_to_end(rt: HostRuntime) {
     let text: &[u8] =
         b"class: K state: S action: GO move_to DEAD action: STOP terminate_action /state=S object: X is_of_class K";
-    assert!(rt; has_domain(rt.alloc(), text, ends_both_ways));
+    assert!(rt; has_shown(rt.alloc(), text, &BOTH_WAYS));
 }
 
 const BRANCHES: &[u8] = b"class: LAMP
@@ -64,50 +64,46 @@ const DEAD: usize = 3;
 
 const GO: usize = 0;
 
-// Whether a condition asks for the first lamp in neither of two states.
-fn is_neither(cond: &Cond) -> bool {
-    match cond {
-        Cond::Test {
-            asked,
-            negated,
-            states,
-        } => {
-            *asked == Asked::One(ObjId::new(L))
-                && *negated
-                && matches!(states.as_slice(), [on, dead] if on.get() == ON && dead.get() == DEAD)
-        }
-        _ => false,
-    }
-}
-
-fn is_both(cond: &Cond) -> bool {
-    match cond {
-        Cond::And(left, right) => is_neither(left) && asks(right, Asked::One(ObjId::new(M)), ON),
-        _ => false,
-    }
-}
-
-fn is_inner(domain: &Domain, block: BlockId) -> bool {
-    match domain.instructions(block) {
-        [Instr::If { cond, yes, no }] => {
-            asks(cond, Asked::One(ObjId::new(M)), OFF)
-                && is_move(domain, *yes, IDLE)
-                && is_move(domain, *no, DEAD)
-        }
-        _ => false,
-    }
-}
-
-fn branches(domain: &Domain) -> bool {
-    match instructions_of(domain, B, IDLE, GO) {
-        Some([Instr::If { cond, yes, no }]) => {
-            is_both(cond) && is_move(domain, *yes, ON) && is_inner(domain, *no)
-        }
-        _ => false,
-    }
-}
+const IN_ONE_ANOTHER: Shown = Shown {
+    objects: &[b"L", b"M", b"B"],
+    classes: &[b"LAMP", b"BOSS"],
+    sets: &[],
+    states: &[b"OFF", b"ON", b"IDLE", b"DEAD"],
+    actions: &[b"GO"],
+    names: &[],
+    facts: &[],
+    parts: &[],
+    blocks: &[
+        (
+            B,
+            IDLE,
+            GO,
+            &[],
+            &[Step::If(&[
+                (&[Turn::AndLeft], Scope::One, L, true, &[ON, DEAD]),
+                (&[Turn::AndRight], Scope::One, M, false, &[ON]),
+            ])],
+        ),
+        (B, IDLE, GO, &[(0, true)], &[Step::MoveTo(ON)]),
+        (
+            B,
+            IDLE,
+            GO,
+            &[(0, false)],
+            &[Step::If(&[(&[], Scope::One, M, false, &[OFF])])],
+        ),
+        (B, IDLE, GO, &[(0, false), (0, true)], &[Step::MoveTo(IDLE)]),
+        (
+            B,
+            IDLE,
+            GO,
+            &[(0, false), (0, false)],
+            &[Step::MoveTo(DEAD)],
+        ),
+    ],
+};
 
 #[test]
 fn branches_in_one_another(rt: HostRuntime) {
-    assert!(rt; has_domain(rt.alloc(), BRANCHES, branches));
+    assert!(rt; has_shown(rt.alloc(), BRANCHES, &IN_ONE_ANOTHER));
 }

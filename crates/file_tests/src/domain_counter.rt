@@ -1,15 +1,9 @@
 //! A counter, which keeps a number and a string and sends them to a sink.
 
-use crate::domain_of::has_domain;
+use crate::blocks::{Said, Step};
 use crate::example_domains::COUNTER;
-use crate::facts::{Fact, Shown, Sort, is_shown};
-use crate::shapes::{instructions_of, is_given, is_int, is_own, is_param, is_text, passes_own};
-use sml_domain::domain::Domain;
-use sml_domain::ids::{ActionId, ObjId};
-use sml_domain::instr::{Instr, Operand, Target};
-use sml_domain::value::Value;
+use crate::facts::{Fact, Part, Shown, Sort, has_shown};
 use sml_tree::file::Kind;
-use std::test::*;
 
 const OUT: usize = 0;
 
@@ -29,6 +23,8 @@ const SHOW: usize = 2;
 
 const SINK_AND_COUNTER: Shown = Shown {
     objects: &[b"OUT", b"C"],
+    classes: &[b"SINK", b"COUNTER"],
+    sets: &[],
     states: &[b"READY", b"IDLE", b"DEAD"],
     actions: &[b"TAKE", b"PUT", b"SHOW"],
     names: &[
@@ -56,181 +52,118 @@ const SINK_AND_COUNTER: Shown = Shown {
         (Fact::Declares(C, DEAD, SHOW), false),
         (Fact::Takes(C, SHOW, 0), true),
         (Fact::Lists(C, TAKE), false),
+        (Fact::Keeps(C, 2), true),
+        (Fact::Takes(OUT, TAKE, 2), true),
+        (Fact::Takes(C, PUT, 2), true),
     ],
+    parts: &[
+        Part::Own(C, 0, (b"N", Kind::Int, Some(Said::Int(3)))),
+        Part::Own(C, 1, (b"P", Kind::Str, Some(Said::Text(b"x")))),
+        Part::Given(OUT, TAKE, 0, (b"V", Kind::Int, None)),
+        Part::Given(OUT, TAKE, 1, (b"W", Kind::Str, Some(Said::Text(b"none")))),
+        Part::Given(C, PUT, 0, (b"T", Kind::Int, Some(Said::Int(5)))),
+        Part::Given(C, PUT, 1, (b"M", Kind::Str, None)),
+    ],
+    blocks: &[],
 };
-
-// Whether the class has its two parameters with their values.
-fn has_class_parameters(domain: &Domain) -> bool {
-    match domain.class_parameters(ObjId::new(C)) {
-        [n, p] => {
-            is_param(n, b"N", Kind::Int)
-                && is_int(&n.value, 3)
-                && is_param(p, b"P", Kind::Str)
-                && is_text(&p.value, b"x")
-        }
-        _ => false,
-    }
-}
-
-fn takes(domain: &Domain) -> bool {
-    match domain.parameters(ObjId::new(OUT), ActionId::new(TAKE)) {
-        Some([v, w]) => {
-            is_param(v, b"V", Kind::Int)
-                && v.value.is_none()
-                && is_param(w, b"W", Kind::Str)
-                && is_text(&w.value, b"none")
-        }
-        _ => false,
-    }
-}
-
-fn is_put(domain: &Domain) -> bool {
-    match domain.parameters(ObjId::new(C), ActionId::new(PUT)) {
-        Some([t, m]) => {
-            is_param(t, b"T", Kind::Int)
-                && is_int(&t.value, 5)
-                && is_param(m, b"M", Kind::Str)
-                && m.value.is_none()
-        }
-        _ => false,
-    }
-}
-
-fn shows_sink_and_counter(domain: &Domain) -> bool {
-    is_shown(domain, SINK_AND_COUNTER)
-        && has_class_parameters(domain)
-        && takes(domain)
-        && is_put(domain)
-}
 
 #[test]
 fn sink_and_counter(rt: HostRuntime) {
-    assert!(rt; has_domain(rt.alloc(), COUNTER, shows_sink_and_counter));
+    assert!(rt; has_shown(rt.alloc(), COUNTER, &SINK_AND_COUNTER));
 }
 
-// Whether an instruction gives a parameter of the class the value of one of the action.
-fn keeps(instr: &Instr, own: usize, given: usize) -> bool {
-    match instr {
-        Instr::Set { param, value } => param.get() == own && is_given(value, given),
-        _ => false,
-    }
-}
-
-// Whether an instruction sends the sink the string and the number, in this order.
-fn sends_both(instr: &Instr) -> bool {
-    match instr {
-        Instr::Send {
-            target,
-            action,
-            args,
-        } => {
-            *target == Target::One(ObjId::new(OUT))
-                && action.get() == TAKE
-                && matches!(args.as_slice(), [w, v] if passes_own(w, b"W", 1) && passes_own(v, b"V", 0))
-        }
-        _ => false,
-    }
-}
-
-// Whether an instruction sends the sink the number alone.
-fn sends_number(instr: &Instr) -> bool {
-    match instr {
-        Instr::Send {
-            target,
-            action,
-            args,
-        } => {
-            *target == Target::One(ObjId::new(OUT))
-                && action.get() == TAKE
-                && matches!(args.as_slice(), [v] if passes_own(v, b"V", 0))
-        }
-        _ => false,
-    }
-}
-
-fn puts(domain: &Domain) -> bool {
-    match instructions_of(domain, C, IDLE, PUT) {
-        Some([first, second, third]) => {
-            keeps(first, 0, 0) && keeps(second, 1, 1) && sends_both(third)
-        }
-        _ => false,
-    }
-}
-
-fn shows(domain: &Domain) -> bool {
-    match instructions_of(domain, C, IDLE, SHOW) {
-        Some([only]) => sends_number(only),
-        _ => false,
-    }
-}
-
-fn shows_blocks_of_the_counter(domain: &Domain) -> bool {
-    puts(domain) && shows(domain) && instructions_of(domain, C, IDLE, TAKE).is_none()
-}
+// What is given is kept, and sent to the sink as the string and the number, in this order; shown is the number alone.
+const BLOCKS_OF_COUNTER: Shown = Shown {
+    objects: &[b"OUT", b"C"],
+    classes: &[b"SINK", b"COUNTER"],
+    sets: &[],
+    states: &[b"READY", b"IDLE", b"DEAD"],
+    actions: &[b"TAKE", b"PUT", b"SHOW"],
+    names: &[],
+    facts: &[],
+    parts: &[Part::Nothing(C, IDLE, TAKE)],
+    blocks: &[
+        (
+            C,
+            IDLE,
+            PUT,
+            &[],
+            &[
+                Step::Set(0, Said::Given(0)),
+                Step::Set(1, Said::Given(1)),
+                Step::Send(
+                    false,
+                    OUT,
+                    TAKE,
+                    &[(b"W", Said::Own(1)), (b"V", Said::Own(0))],
+                ),
+            ],
+        ),
+        (
+            C,
+            IDLE,
+            SHOW,
+            &[],
+            &[Step::Send(false, OUT, TAKE, &[(b"V", Said::Own(0))])],
+        ),
+    ],
+};
 
 #[test]
 fn blocks_of_the_counter(rt: HostRuntime) {
-    assert!(rt; has_domain(rt.alloc(), COUNTER, shows_blocks_of_the_counter));
+    assert!(rt; has_shown(rt.alloc(), COUNTER, &BLOCKS_OF_COUNTER));
 }
 
-// Whether an instruction gives a parameter of the class an int, by its place.
-fn sets_int(instr: &Instr, place: usize, int: i64) -> bool {
-    match instr {
-        Instr::Set {
-            param,
-            value: Operand::Fixed(Value::Int(n)),
-        } => param.get() == place && *n == int,
-        _ => false,
-    }
-}
-
-// Whether an instruction gives a parameter of the class a string, by its place.
-fn sets_text(instr: &Instr, place: usize, bytes: &[u8]) -> bool {
-    match instr {
-        Instr::Set {
-            param,
-            value: Operand::Fixed(Value::Text(text)),
-        } => { param.get() == place && text.as_bytes() == bytes }
-        _ => false,
-    }
-}
-
-fn has_written_values(domain: &Domain) -> bool {
-    let params = match domain.class_parameters(ObjId::new(0)) {
-        [p, n] => is_text(&p.value, b"") && is_int(&n.value, -7),
-        _ => false,
-    };
-    let block = match instructions_of(domain, 0, 0, 0) {
-        Some([first, second]) => sets_int(first, 1, 12) && sets_text(second, 0, b"a b"),
-        _ => false,
-    };
-    params && block
-}
+const WRITTEN_VALUES: Shown = Shown {
+    objects: &[b"X"],
+    classes: &[b"K"],
+    sets: &[],
+    states: &[b"S", b"DEAD"],
+    actions: &[b"GO"],
+    names: &[],
+    facts: &[(Fact::Keeps(0, 2), true)],
+    parts: &[
+        Part::Own(0, 0, (b"P", Kind::Str, Some(Said::Text(b"")))),
+        Part::Own(0, 1, (b"N", Kind::Int, Some(Said::Int(-7)))),
+    ],
+    blocks: &[(
+        0,
+        0,
+        0,
+        &[],
+        &[
+            Step::Set(1, Said::Int(12)),
+            Step::Set(0, Said::Text(b"a b")),
+        ],
+    )],
+};
 
 #[test]
 fn values_that_are_written_out(rt: HostRuntime) {
     let text: &[u8] =
         b"class: K parameters: string P = \"\", int N = -07 state: S action: GO set N = 12 set P = \"a b\" object: X is_of_class K";
-    assert!(rt; has_domain(rt.alloc(), text, has_written_values));
+    assert!(rt; has_shown(rt.alloc(), text, &WRITTEN_VALUES));
 }
 
-// Whether two classes declare one action, each with a parameter of its own.
-fn differs_by_class(domain: &Domain) -> bool {
-    let go = ActionId::new(0);
-    let x = match domain.parameters(ObjId::new(0), go) {
-        Some([b]) => is_param(b, b"B", Kind::Str) && is_text(&b.value, b"b"),
-        _ => false,
-    };
-    let y = match domain.parameters(ObjId::new(1), go) {
-        Some([a]) => is_param(a, b"A", Kind::Int) && a.value.is_none(),
-        _ => false,
-    };
-    x && y
-}
+// Two classes declare one action, each with a parameter of its own.
+const DIFFERENT_BY_CLASS: Shown = Shown {
+    objects: &[b"X", b"Y"],
+    classes: &[b"J", b"K"],
+    sets: &[],
+    states: &[b"S", b"T", b"DEAD"],
+    actions: &[b"GO"],
+    names: &[],
+    facts: &[(Fact::Takes(0, 0, 1), true), (Fact::Takes(1, 0, 1), true)],
+    parts: &[
+        Part::Given(0, 0, 0, (b"B", Kind::Str, Some(Said::Text(b"b")))),
+        Part::Given(1, 0, 0, (b"A", Kind::Int, None)),
+    ],
+    blocks: &[],
+};
 
 #[test]
 fn parameters_by_class(rt: HostRuntime) {
     let text: &[u8] =
         b"class: J state: S action: GO (int A) class: K state: T action: GO (string B = \"b\") state: S action: GO (string B = \"b\") object: X is_of_class K object: Y is_of_class J";
-    assert!(rt; has_domain(rt.alloc(), text, differs_by_class));
+    assert!(rt; has_shown(rt.alloc(), text, &DIFFERENT_BY_CLASS));
 }

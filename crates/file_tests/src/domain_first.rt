@@ -1,13 +1,8 @@
 //! A lamp and its boss.
 
-use crate::domain_of::has_domain;
+use crate::blocks::Step;
 use crate::example_domains::FIRST;
-use crate::facts::{Fact, Shown, Sort, is_shown};
-use crate::shapes::instructions_of;
-use sml_domain::domain::Domain;
-use sml_domain::ids::{ActionId, ObjId, StateId};
-use sml_domain::instr::{Instr, Target};
-use std::test::*;
+use crate::facts::{Fact, Shown, Sort, has_shown};
 
 const L: usize = 0;
 
@@ -29,6 +24,8 @@ const GO: usize = 1;
 
 const LAMP_AND_BOSS: Shown = Shown {
     objects: &[b"L", b"B"],
+    classes: &[b"LAMP", b"BOSS"],
+    sets: &[],
     states: &[b"OFF", b"ON", b"IDLE", b"DONE", b"DEAD"],
     actions: &[b"LIGHT", b"GO"],
     names: &[
@@ -55,51 +52,20 @@ const LAMP_AND_BOSS: Shown = Shown {
         (Fact::Declares(B, DONE, GO), false),
         (Fact::Lists(B, LIGHT), false),
     ],
+    parts: &[],
+    blocks: &[
+        (L, OFF, LIGHT, &[], &[Step::MoveTo(ON)]),
+        (
+            B,
+            IDLE,
+            GO,
+            &[],
+            &[Step::Send(false, L, LIGHT, &[]), Step::MoveTo(DONE)],
+        ),
+    ],
 };
-
-fn lights(domain: &Domain) -> bool {
-    match instructions_of(domain, L, OFF, LIGHT) {
-        Some([Instr::MoveTo(state)]) => state.get() == ON,
-        _ => false,
-    }
-}
-
-fn goes(domain: &Domain) -> bool {
-    match instructions_of(domain, B, IDLE, GO) {
-        Some(
-            [
-                Instr::Send {
-                    target,
-                    action,
-                    args,
-                },
-                Instr::MoveTo(state),
-            ],
-        ) => {
-            *target == Target::One(ObjId::new(L))
-                && action.get() == LIGHT
-                && args.is_empty()
-                && state.get() == DONE
-        }
-        _ => false,
-    }
-}
-
-// Whether the instruction behind the last one of the boss is none.
-fn ends(domain: &Domain) -> bool {
-    let (b, idle, go) = (ObjId::new(B), StateId::new(IDLE), ActionId::new(GO));
-    let Some(block) = domain.block(b, idle, go) else {
-        return false;
-    };
-    matches!(domain.instruction(block, 1), Some(Instr::MoveTo(_)))
-        && domain.instruction(block, 2).is_none()
-}
-
-fn shows_lamp_and_boss(domain: &Domain) -> bool {
-    is_shown(domain, LAMP_AND_BOSS) && lights(domain) && goes(domain) && ends(domain)
-}
 
 #[test]
 fn lamp_and_boss(rt: HostRuntime) {
-    assert!(rt; has_domain(rt.alloc(), FIRST, shows_lamp_and_boss));
+    assert!(rt; has_shown(rt.alloc(), FIRST, &LAMP_AND_BOSS));
 }

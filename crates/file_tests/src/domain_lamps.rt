@@ -1,12 +1,8 @@
 //! A lamp that keeps how bright it is and asks all lamps to light.
 
-use crate::domain_of::has_domain;
-use crate::facts::{Fact, Named, Row, Sort, is_as_said, names};
-use crate::shapes::{instructions_of, is_given, is_int};
-use sml_domain::domain::Domain;
-use sml_domain::ids::{ActionId, ObjId, SetId};
-use sml_domain::instr::{Instr, Target};
-use std::test::*;
+use crate::blocks::{Said, Step};
+use crate::facts::{Fact, Part, Shown, Sort, has_shown};
+use sml_tree::file::Kind;
 
 /// A lamp, its class and the set of it.
 pub const LAMPS: &[u8] = b"object: L is_of_class LAMP
@@ -31,68 +27,63 @@ const DEAD: usize = 2;
 
 const LIGHT: usize = 0;
 
-const NAMES: &[Named] = &[
-    (Sort::Object, b"L", Some(L)),
-    (Sort::State, b"ON", Some(ON)),
-    (Sort::State, b"OFF", Some(OFF)),
-    (Sort::State, b"DEAD", Some(DEAD)),
-];
-
-const FACTS: &[Row] = &[(Fact::Begins(L, OFF), true), (Fact::Dies(L, DEAD), true)];
-
-fn has_lamp_alone(domain: &Domain) -> bool {
-    match domain.members(SetId::new(0)) {
-        [only] => only.get() == L,
-        _ => false,
-    }
-}
-
-// Whether the class has one parameter, and the action another, with these values.
-fn has_parameters(domain: &Domain) -> bool {
-    keeps_three(domain) && takes_five(domain)
-}
-
-fn keeps_three(domain: &Domain) -> bool {
-    match domain.class_parameters(ObjId::new(L)) {
-        [bright] => is_int(&bright.value, 3),
-        _ => false,
-    }
-}
-
-fn takes_five(domain: &Domain) -> bool {
-    match domain.parameters(ObjId::new(L), ActionId::new(LIGHT)) {
-        Some([how]) => is_int(&how.value, 5),
-        _ => false,
-    }
-}
-
-// Whether to light is to keep how bright, to ask all lamps, and to be on.
-fn lights(domain: &Domain) -> bool {
-    match instructions_of(domain, L, OFF, LIGHT) {
-        Some(
-            [
-                Instr::Set { value, .. },
-                Instr::Send { target, .. },
-                Instr::MoveTo(on),
-            ],
-        ) => is_given(value, 0) && *target == Target::Members(SetId::new(0)) && on.get() == ON,
-        _ => false,
-    }
-}
-
-fn shows_makes_a_domain(domain: &Domain) -> bool {
-    names(domain, NAMES)
-        && is_as_said(domain, FACTS)
-        && has_lamp_alone(domain)
-        && has_parameters(domain)
-}
+/// What the domain of the lamp shows.
+pub const ONE_LAMP: Shown = Shown {
+    objects: &[b"L"],
+    classes: &[b"LAMP"],
+    sets: &[b"LAMPS"],
+    states: &[b"ON", b"OFF", b"DEAD"],
+    actions: &[b"LIGHT"],
+    names: &[
+        (Sort::Object, b"L", Some(L)),
+        (Sort::State, b"ON", Some(ON)),
+        (Sort::State, b"OFF", Some(OFF)),
+        (Sort::State, b"DEAD", Some(DEAD)),
+    ],
+    facts: &[
+        (Fact::Begins(L, OFF), true),
+        (Fact::Dies(L, DEAD), true),
+        (Fact::Members(0, 1), true),
+        (Fact::Keeps(L, 1), true),
+        (Fact::Takes(L, LIGHT, 1), true),
+    ],
+    parts: &[
+        Part::Member(0, 0, L),
+        Part::Own(L, 0, (b"BRIGHT", Kind::Int, Some(Said::Int(3)))),
+        Part::Given(L, LIGHT, 0, (b"HOW", Kind::Int, Some(Said::Int(5)))),
+    ],
+    blocks: &[],
+};
 
 #[test]
 fn makes_a_domain(rt: HostRuntime) {
-    assert!(rt; has_domain(rt.alloc(), LAMPS, shows_makes_a_domain));
+    assert!(rt; has_shown(rt.alloc(), LAMPS, &ONE_LAMP));
 }
+
+// To light is to keep how bright, to ask all lamps, and to be on.
+const INSTRUCTIONS: Shown = Shown {
+    objects: &[b"L"],
+    classes: &[b"LAMP"],
+    sets: &[b"LAMPS"],
+    states: &[b"ON", b"OFF", b"DEAD"],
+    actions: &[b"LIGHT"],
+    names: &[],
+    facts: &[],
+    parts: &[],
+    blocks: &[(
+        L,
+        OFF,
+        LIGHT,
+        &[],
+        &[
+            Step::Set(0, Said::Given(0)),
+            Step::Send(true, 0, LIGHT, &[]),
+            Step::MoveTo(ON),
+        ],
+    )],
+};
 
 #[test]
 fn numbers_instructions(rt: HostRuntime) {
-    assert!(rt; has_domain(rt.alloc(), LAMPS, lights));
+    assert!(rt; has_shown(rt.alloc(), LAMPS, &INSTRUCTIONS));
 }

@@ -1,14 +1,9 @@
 //! A boss with a set of lamps, by each look-up.
 
-use crate::domain_of::has_domain;
-use crate::facts::{Fact, Row, Shown, Sort, has_shown, is_as_said};
-use crate::shapes::{instructions_of, is_empty, is_param, is_text};
-use sml_domain::domain::Domain;
-use sml_domain::ids::{ActionId, BlockId, ObjId, SetId};
-use sml_domain::instr::Instr;
+use crate::blocks::{Said, Step, Turn};
+use crate::facts::{Fact, Part, Shown, Sort, has_shown};
+use sml_tree::cond::Scope;
 use sml_tree::file::Kind;
-use sml_tree::name::Name;
-use std::test::*;
 
 // A lamp, which a device stands for, lights with a string; a boss goes with a number and perhaps a string.
 const BOSS_OF_LAMPS: &[u8] = b"class: LAMP /associated
@@ -49,6 +44,8 @@ const GO: usize = 1;
 
 const LOOK_UPS: Shown = Shown {
     objects: &[b"L", b"B"],
+    classes: &[b"LAMP", b"BOSS"],
+    sets: &[b"LAMPS", b"NONE"],
     states: &[b"OFF", b"ON", b"IDLE", b"DEAD"],
     actions: &[b"LIGHT", b"GO"],
     names: &[
@@ -77,114 +74,80 @@ const LOOK_UPS: Shown = Shown {
         (Fact::Declares(L, OFF, LIGHT), true),
         (Fact::Declares(L, ON, LIGHT), false),
     ],
+    parts: &[],
+    blocks: &[],
 };
 
 #[test]
 fn answers_look_ups(rt: HostRuntime) {
-    assert!(rt; has_shown(rt.alloc(), BOSS_OF_LAMPS, LOOK_UPS));
+    assert!(rt; has_shown(rt.alloc(), BOSS_OF_LAMPS, &LOOK_UPS));
 }
 
-const PARAMETERS: &[Row] = &[
-    (Fact::Lists(L, GO), false),
-    (Fact::Keeps(B, 1), true),
-    (Fact::Keeps(L, 0), true),
-];
-
-// Whether the action of the boss has its two parameters.
-fn has_parameters(domain: &Domain) -> bool {
-    match domain.parameters(ObjId::new(B), ActionId::new(GO)) {
-        Some([count, shade]) => {
-            is_param(count, b"COUNT_NOW", Kind::Int)
-                && count.value.is_none()
-                && is_param(shade, b"SHADE", Kind::Str)
-                && is_text(&shade.value, b"white")
-        }
-        _ => false,
-    }
-}
-
-fn has_members(domain: &Domain) -> bool {
-    matches!(domain.members(SetId::new(0)), [l] if l.get() == L)
-        && domain.members(SetId::new(1)).is_empty()
-}
-
-// Whether a block sets the one parameter of its class, and ends.
-fn sets_count(domain: &Domain, block: BlockId) -> bool {
-    let sets = match domain.instruction(block, 0) {
-        Some(Instr::Set { param, .. }) => param.get() == 0,
-        _ => false,
-    };
-    sets && domain.instruction(block, 1).is_none()
-}
-
-// Whether the boss has four instructions, an `if` first, and a request to nobody third.
-fn has_block(domain: &Domain) -> bool {
-    match instructions_of(domain, B, IDLE, GO) {
-        Some(
-            [
-                Instr::If { yes, no, .. },
-                Instr::Send { .. },
-                Instr::SendNone { set },
-                Instr::MoveTo(idle),
+const PARAMETERS_AND_BLOCKS: Shown = Shown {
+    objects: &[b"L", b"B"],
+    classes: &[b"LAMP", b"BOSS"],
+    sets: &[b"LAMPS", b"NONE"],
+    states: &[b"OFF", b"ON", b"IDLE", b"DEAD"],
+    actions: &[b"LIGHT", b"GO"],
+    names: &[],
+    facts: &[
+        (Fact::Lists(L, GO), false),
+        (Fact::Keeps(B, 1), true),
+        (Fact::Keeps(L, 0), true),
+        (Fact::Takes(B, GO, 2), true),
+        (Fact::Members(0, 1), true),
+        (Fact::Members(1, 0), true),
+    ],
+    parts: &[
+        Part::Given(B, GO, 0, (b"COUNT_NOW", Kind::Int, None)),
+        Part::Given(B, GO, 1, (b"SHADE", Kind::Str, Some(Said::Text(b"white")))),
+        Part::Member(0, 0, L),
+    ],
+    blocks: &[
+        (
+            B,
+            IDLE,
+            GO,
+            &[],
+            &[
+                Step::If(&[
+                    (&[Turn::AndLeft], Scope::One, L, false, &[ON]),
+                    (&[Turn::AndRight], Scope::Any, 0, true, &[ON, DEAD]),
+                ]),
+                Step::Send(true, 0, LIGHT, &[(b"SHADE", Said::Given(1))]),
+                Step::SendNone(1),
+                Step::MoveTo(IDLE),
             ],
-        ) => {
-            sets_count(domain, *yes)
-                && is_empty(domain, *no)
-                && *set == SetId::new(1)
-                && idle.get() == IDLE
-        }
-        _ => false,
-    }
-}
-
-fn shows_answers_of_parameters_and_blocks(domain: &Domain) -> bool {
-    has_parameters(domain)
-        && is_as_said(domain, PARAMETERS)
-        && has_members(domain)
-        && has_block(domain)
-}
+        ),
+        (B, IDLE, GO, &[(0, true)], &[Step::Set(0, Said::Given(0))]),
+        (B, IDLE, GO, &[(0, false)], &[]),
+    ],
+};
 
 #[test]
 fn answers_of_parameters_and_blocks(rt: HostRuntime) {
-    assert!(rt;
-        has_domain(
-            rt.alloc(),
-            BOSS_OF_LAMPS,
-            shows_answers_of_parameters_and_blocks
-        )
-    );
+    assert!(rt; has_shown(rt.alloc(), BOSS_OF_LAMPS, &PARAMETERS_AND_BLOCKS));
 }
 
-fn shows_classes(domain: &Domain) -> bool {
-    match domain.classes() {
-        [lamp, boss] => {
-            lamp.name == Name::from_word(b"LAMP")
-                && lamp.associated
-                && boss.name == Name::from_word(b"BOSS")
-                && boss.states.rows().len() == 2
-        }
-        _ => false,
-    }
-}
-
-fn shows_groups(domain: &Domain) -> bool {
-    match domain.groups() {
-        [lamps, none] => lamps.members.len() == 1 && none.name == Name::from_word(b"NONE"),
-        _ => false,
-    }
-}
-
-fn shows_shows_classes_sets_and_blocks(domain: &Domain) -> bool {
-    shows_classes(domain) && shows_groups(domain) && domain.blocks().len() == 4
-}
+const CLASSES_SETS_AND_BLOCKS: Shown = Shown {
+    objects: &[b"L", b"B"],
+    classes: &[b"LAMP", b"BOSS"],
+    sets: &[b"LAMPS", b"NONE"],
+    states: &[b"OFF", b"ON", b"IDLE", b"DEAD"],
+    actions: &[b"LIGHT", b"GO"],
+    names: &[],
+    facts: &[],
+    parts: &[
+        Part::Class(0, true, 3),
+        Part::Class(1, false, 2),
+        Part::Group(0, 1),
+        Part::Group(1, 0),
+        Part::Blocks(4),
+    ],
+    blocks: &[],
+};
 
 #[test]
 fn shows_classes_sets_and_blocks(rt: HostRuntime) {
-    assert!(rt;
-        has_domain(
-            rt.alloc(),
-            BOSS_OF_LAMPS,
-            shows_shows_classes_sets_and_blocks
-        )
-    );
+    assert!(rt; has_shown(rt.alloc(), BOSS_OF_LAMPS, &CLASSES_SETS_AND_BLOCKS));
 }

@@ -1,13 +1,9 @@
 //! Two objects that ask one another.
 
-use crate::domain_of::has_domain;
+use crate::blocks::Step;
 use crate::example_domains::PAIR;
-use crate::facts::{Fact, Shown, Sort, is_shown};
-use crate::shapes::{asks, instructions_of, is_empty};
-use sml_domain::domain::Domain;
-use sml_domain::ids::ObjId;
-use sml_domain::instr::{Asked, Instr};
-use std::test::*;
+use crate::facts::{Fact, Shown, Sort, has_shown};
+use sml_tree::cond::Scope;
 
 const A: usize = 0;
 
@@ -21,6 +17,8 @@ const GO: usize = 0;
 
 const TWO_OBJECTS: Shown = Shown {
     objects: &[b"A", b"B"],
+    classes: &[b"LEFT", b"RIGHT"],
+    sets: &[],
     states: &[b"S", b"DEAD"],
     actions: &[b"GO"],
     names: &[
@@ -47,25 +45,31 @@ const TWO_OBJECTS: Shown = Shown {
         (Fact::Declares(B, DEAD, GO), false),
         (Fact::Keeps(B, 0), true),
     ],
+    parts: &[],
+    // Each asks the other, and does nothing either way.
+    blocks: &[
+        (
+            A,
+            S,
+            GO,
+            &[],
+            &[Step::If(&[(&[], Scope::One, B, false, &[S])])],
+        ),
+        (A, S, GO, &[(0, true)], &[]),
+        (A, S, GO, &[(0, false)], &[]),
+        (
+            B,
+            S,
+            GO,
+            &[],
+            &[Step::If(&[(&[], Scope::One, A, false, &[S])])],
+        ),
+        (B, S, GO, &[(0, true)], &[]),
+        (B, S, GO, &[(0, false)], &[]),
+    ],
 };
-
-// Whether an object asks another, and does nothing either way.
-fn asks_other(domain: &Domain, own: usize, other: usize) -> bool {
-    match instructions_of(domain, own, S, GO) {
-        Some([Instr::If { cond, yes, no }]) => {
-            asks(cond, Asked::One(ObjId::new(other)), S)
-                && is_empty(domain, *yes)
-                && is_empty(domain, *no)
-        }
-        _ => false,
-    }
-}
-
-fn shows_pair_of_objects(domain: &Domain) -> bool {
-    is_shown(domain, TWO_OBJECTS) && asks_other(domain, A, B) && asks_other(domain, B, A)
-}
 
 #[test]
 fn pair_of_objects(rt: HostRuntime) {
-    assert!(rt; has_domain(rt.alloc(), PAIR, shows_pair_of_objects));
+    assert!(rt; has_shown(rt.alloc(), PAIR, &TWO_OBJECTS));
 }

@@ -1,46 +1,34 @@
 //! Sets whose members stand in an order of their own.
 
-use crate::domain_of::{has_domain, numbers_objects};
-use crate::facts::{Fact, Named, Row, Sort, is_as_said, names};
-use sml_domain::domain::Domain;
-use sml_domain::ids::SetId;
-use std::test::*;
+use crate::facts::{Fact, Part, Shown, Sort, has_shown};
 
-const OBJECTS: &[&[u8]] = &[b"A", b"B", b"C"];
-
-const NAMES: &[Named] = &[
-    (Sort::Set, b"G", Some(0)),
-    (Sort::Set, b"H", Some(1)),
-    (Sort::Set, b"A", None),
-];
-
-const FACTS: &[Row] = &[(Fact::Members(2, 0), true)];
-
-fn has_c_and_a(domain: &Domain) -> bool {
-    match domain.members(SetId::new(0)) {
-        [c, a] => c.get() == 2 && a.get() == 0,
-        _ => false,
-    }
-}
-
-fn has_b(domain: &Domain) -> bool {
-    match domain.members(SetId::new(1)) {
-        [b] => b.get() == 1,
-        _ => false,
-    }
-}
-
-fn shows_members_as_written(domain: &Domain) -> bool {
-    numbers_objects(domain, OBJECTS)
-        && names(domain, NAMES)
-        && is_as_said(domain, FACTS)
-        && has_c_and_a(domain)
-        && has_b(domain)
-}
+const AS_WRITTEN: Shown = Shown {
+    objects: &[b"A", b"B", b"C"],
+    classes: &[b"K"],
+    sets: &[b"G", b"H"],
+    states: &[b"S", b"DEAD"],
+    actions: &[],
+    names: &[
+        (Sort::Set, b"G", Some(0)),
+        (Sort::Set, b"H", Some(1)),
+        (Sort::Set, b"A", None),
+    ],
+    facts: &[
+        (Fact::Members(2, 0), true),
+        (Fact::Members(0, 2), true),
+        (Fact::Members(1, 1), true),
+    ],
+    parts: &[
+        Part::Member(0, 0, 2),
+        Part::Member(0, 1, 0),
+        Part::Member(1, 0, 1),
+    ],
+    blocks: &[],
+};
 
 #[test]
 fn members_as_written(rt: HostRuntime) {
     let text: &[u8] =
         b"objectset: G { C, A } object: A is_of_class K objectset: H { B } class: K state: S object: B is_of_class K object: C is_of_class K";
-    assert!(rt; has_domain(rt.alloc(), text, shows_members_as_written));
+    assert!(rt; has_shown(rt.alloc(), text, &AS_WRITTEN));
 }

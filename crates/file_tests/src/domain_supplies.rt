@@ -1,13 +1,9 @@
 //! Two supplies, switched on together by a run.
 
-use crate::domain_of::has_domain;
+use crate::blocks::Step;
 use crate::example_domains::SUPPLIES;
-use crate::facts::{Fact, Named, Row, Shown, Sort, has_shown, is_as_said, names};
-use crate::shapes::{asks, instructions_of, is_empty, is_move};
-use sml_domain::domain::Domain;
-use sml_domain::ids::SetId;
-use sml_domain::instr::{Asked, Instr, Target};
-use std::test::*;
+use crate::facts::{Fact, Named, Part, Shown, Sort, has_shown};
+use sml_tree::cond::Scope;
 
 const HV1: usize = 0;
 
@@ -56,6 +52,8 @@ const NAMES: &[Named] = &[
 // Two supplies, each switched on where it is off, and off where it is on, and no third one.
 const TWO_SUPPLIES: Shown = Shown {
     objects: &[b"HV1", b"HV2", b"RUN"],
+    classes: &[b"SUPPLY", b"RUN_TYPE"],
+    sets: &[b"HV"],
     states: &[b"OFF", b"ON", b"NOT_READY", b"READY", b"ERROR", b"DEAD"],
     actions: &[b"SWITCH_ON", b"SWITCH_OFF", b"CONFIGURE"],
     names: NAMES,
@@ -115,81 +113,63 @@ const TWO_SUPPLIES: Shown = Shown {
         (Fact::Lists(HV2, CONFIGURE), false),
         (Fact::Does(HV2, OFF, SWITCH_ON, 0), true),
     ],
+    parts: &[],
+    blocks: &[],
 };
 
 #[test]
 fn two_supplies(rt: HostRuntime) {
-    assert!(rt; has_shown(rt.alloc(), SUPPLIES, TWO_SUPPLIES));
+    assert!(rt; has_shown(rt.alloc(), SUPPLIES, &TWO_SUPPLIES));
 }
 
-const RUN_OF_SUPPLIES: &[Row] = &[
-    (Fact::IsOf(RUN, 1), true),
-    (Fact::IsAssociated(RUN), false),
-    (Fact::Begins(RUN, NOT_READY), true),
-    (Fact::Dies(RUN, DEAD), true),
-    (Fact::IsState(RUN, ERROR), true),
-    (Fact::IsState(RUN, DEAD), true),
-    (Fact::IsState(RUN, ON), false),
-    (Fact::Declares(RUN, NOT_READY, CONFIGURE), true),
-    (Fact::Declares(RUN, READY, CONFIGURE), false),
-    (Fact::Declares(RUN, NOT_READY, SWITCH_ON), false),
-    (Fact::Takes(RUN, CONFIGURE, 0), true),
-    (Fact::Lists(RUN, SWITCH_ON), false),
-];
-
-const RUN_BY_NAME: &[Named] = &[(Sort::Object, b"RUN", Some(RUN))];
-
-fn sends_to_all(instr: &Instr) -> bool {
-    match instr {
-        Instr::Send {
-            target,
-            action,
-            args,
-        } => {
-            *target == Target::Members(SetId::new(0))
-                && action.get() == SWITCH_ON
-                && args.is_empty()
-        }
-        _ => false,
-    }
-}
-
-fn is_ready_where_all_are_on(domain: &Domain, instr: &Instr) -> bool {
-    match instr {
-        Instr::If { cond, yes, no } => {
-            asks(cond, Asked::Each(SetId::new(0)), ON)
-                && is_move(domain, *yes, READY)
-                && is_empty(domain, *no)
-        }
-        _ => false,
-    }
-}
-
-fn configures(domain: &Domain) -> bool {
-    match instructions_of(domain, RUN, NOT_READY, CONFIGURE) {
-        Some([first, second, Instr::MoveTo(last)]) => {
-            sends_to_all(first) && is_ready_where_all_are_on(domain, second) && last.get() == ERROR
-        }
-        _ => false,
-    }
-}
-
-// Whether the supplies are the members of the set, in their order.
-fn has_members(domain: &Domain) -> bool {
-    match domain.members(SetId::new(0)) {
-        [first, second] => first.get() == HV1 && second.get() == HV2,
-        _ => false,
-    }
-}
-
-fn shows_run_of_supplies(domain: &Domain) -> bool {
-    names(domain, RUN_BY_NAME)
-        && is_as_said(domain, RUN_OF_SUPPLIES)
-        && configures(domain)
-        && has_members(domain)
-}
+const RUN_OF_SUPPLIES: Shown = Shown {
+    objects: &[b"HV1", b"HV2", b"RUN"],
+    classes: &[b"SUPPLY", b"RUN_TYPE"],
+    sets: &[b"HV"],
+    states: &[b"OFF", b"ON", b"NOT_READY", b"READY", b"ERROR", b"DEAD"],
+    actions: &[b"SWITCH_ON", b"SWITCH_OFF", b"CONFIGURE"],
+    names: &[(Sort::Object, b"RUN", Some(RUN))],
+    facts: &[
+        (Fact::IsOf(RUN, 1), true),
+        (Fact::IsAssociated(RUN), false),
+        (Fact::Begins(RUN, NOT_READY), true),
+        (Fact::Dies(RUN, DEAD), true),
+        (Fact::IsState(RUN, ERROR), true),
+        (Fact::IsState(RUN, DEAD), true),
+        (Fact::IsState(RUN, ON), false),
+        (Fact::Declares(RUN, NOT_READY, CONFIGURE), true),
+        (Fact::Declares(RUN, READY, CONFIGURE), false),
+        (Fact::Declares(RUN, NOT_READY, SWITCH_ON), false),
+        (Fact::Takes(RUN, CONFIGURE, 0), true),
+        (Fact::Lists(RUN, SWITCH_ON), false),
+        (Fact::Members(0, 2), true),
+    ],
+    // The supplies are the members of the set, in their order.
+    parts: &[Part::Member(0, 0, HV1), Part::Member(0, 1, HV2)],
+    blocks: &[
+        (
+            RUN,
+            NOT_READY,
+            CONFIGURE,
+            &[],
+            &[
+                Step::Send(true, 0, SWITCH_ON, &[]),
+                Step::If(&[(&[], Scope::All, 0, false, &[ON])]),
+                Step::MoveTo(ERROR),
+            ],
+        ),
+        (
+            RUN,
+            NOT_READY,
+            CONFIGURE,
+            &[(1, true)],
+            &[Step::MoveTo(READY)],
+        ),
+        (RUN, NOT_READY, CONFIGURE, &[(1, false)], &[]),
+    ],
+};
 
 #[test]
 fn run_of_supplies(rt: HostRuntime) {
-    assert!(rt; has_domain(rt.alloc(), SUPPLIES, shows_run_of_supplies));
+    assert!(rt; has_shown(rt.alloc(), SUPPLIES, &RUN_OF_SUPPLIES));
 }

@@ -2,6 +2,8 @@
 #![tactic(auto)]
 
 #[cfg(test)]
+mod blocks;
+#[cfg(test)]
 mod checked;
 #[cfg(test)]
 mod conditions;
@@ -49,8 +51,6 @@ mod limits;
 mod printing;
 #[cfg(test)]
 mod reading;
-#[cfg(test)]
-mod shapes;
 #[cfg(test)]
 mod small_heaps;
 #[cfg(test)]
