@@ -32,20 +32,27 @@ fn is_full(heap: &LocalHeap) -> bool {
 
 // Whether a file is the same as its copy in other memory.
 fn is_copied_out(alloc: Global, file: &SmlFile<&LocalHeap>) -> bool {
-    match file.copy_in(alloc) {
-        Ok(copy) => copy.same(file),
+    let copy = file.copy_in(alloc);
+    let same = match &copy {
+        Ok(copy) => copy.same(file) && file.same(copy),
         Err(_) => false,
-    }
+    };
+    drop(copy);
+    same
 }
 
 // Whether the file of a text is copied out of a heap that is full.
 fn is_copied_out_of(heap: &LocalHeap, alloc: Global, text: &[u8]) -> bool {
-    let Ok(file) = read(heap, text) else {
-        return false;
-    };
+    let file = read(heap, text);
     let blocks = filling(heap, alloc);
-    let copied = is_full(heap) && is_copied_out(alloc, &file);
-    copied && !blocks.is_empty()
+    let copied = match &file {
+        Ok(file) => is_full(heap) && is_copied_out(alloc, file),
+        Err(_) => false,
+    };
+    let filled = !blocks.is_empty();
+    drop(blocks);
+    drop(file);
+    copied && filled
 }
 
 #[test]

@@ -79,15 +79,18 @@ impl Write for OneByte {
 
 // The canonical text of what a text says, or none where it is not read or not printed.
 fn printed(alloc: Global, text: &[u8]) -> Option<Vec<u8>> {
-    match read(alloc, text) {
-        Ok(file) => print(alloc, &file).ok(),
+    let file = read(alloc, text);
+    let printed = match &file {
+        Ok(file) => print(alloc, file).ok(),
         Err(_) => None,
-    }
+    };
+    drop(file);
+    printed
 }
 
 // Whether a text is printed so.
 fn is_printed(alloc: Global, text: &[u8], canonical: &[u8]) -> bool {
-    match printed(alloc, text) {
+    match &printed(alloc, text) {
         Some(printed) => printed.as_slice() == canonical,
         None => false,
     }
@@ -95,8 +98,9 @@ fn is_printed(alloc: Global, text: &[u8], canonical: &[u8]) -> bool {
 
 // Whether a text is printed as it stands, and the printed text is read as the same file.
 fn is_read_back(alloc: Global, text: &[u8]) -> bool {
-    match printed(alloc, text) {
-        Some(printed) => printed.as_slice() == text && same_file(alloc, &printed, text),
+    match &printed(alloc, text) {
+        Some(printed) => printed.as_slice() == text
+            && same_file(alloc, printed, text) == Some(true),
         None => false,
     }
 }

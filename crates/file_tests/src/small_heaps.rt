@@ -1,11 +1,10 @@
 //! Texts read into several memories.
 
 use crate::example_domains::{ONE_LINE, SUPPLIES};
-use crate::texts::has_file;
+use crate::texts::{are_same_file, is_copied, is_copied_as};
 use bumpalo::Bump;
 use linked_list_allocator::LocalHeap;
 use sml_read::{ReadError, ReadErrorKind, read};
-use sml_tree::file::SmlFile;
 use std::alloc::Global;
 use std::test::Fail;
 
@@ -23,56 +22,33 @@ fn is(error: Option<ReadError>, kind: ReadErrorKind, offset: usize) -> bool {
     error == Some(ReadError { kind, offset })
 }
 
-// Whether the lamp is read into an arena as the same file.
-fn is_read_into(bump: &Bump, plain: &SmlFile<Global>) -> bool {
-    match read(bump, LAMP) {
-        Ok(file) => file.same(plain) && plain.same(&file),
-        Err(_) => false,
-    }
-}
-
 #[test]
 fn reads_into_an_arena(rt: HostRuntime) -> Result<(), Fail> {
     let mut bump = Bump::new(rt.alloc());
-    assert!(rt; has_file(rt.alloc(), LAMP, |plain| is_read_into(&bump, plain)));
+    assert!(rt; are_same_file(rt.alloc(), LAMP, &bump, LAMP) == Some(true));
     bump.reset()?;
     Ok(())
 }
 
-// Whether a file is the same as its copy in an arena.
-fn is_copied_into(bump: &Bump, file: &SmlFile<Global>) -> bool {
-    match file.copy_in(bump) {
-        Ok(copy) => copy.same(file) && file.same(&copy),
-        Err(_) => false,
-    }
-}
-
-// Whether the copy of a file in an arena is another file than that of the lamp.
-fn is_other_copy(bump: &Bump, file: &SmlFile<Global>, lamp: &SmlFile<Global>) -> bool {
-    match file.copy_in(bump) {
-        Ok(copy) => !copy.same(lamp),
-        Err(_) => false,
-    }
-}
-
-fn copies_another(bump: &Bump, alloc: Global, lamp: &SmlFile<Global>) -> bool {
-    has_file(alloc, ONE_LINE, |file| is_other_copy(bump, file, lamp))
+// Whether the copy in an arena of the file of a text is that of another text, or none where there is none.
+fn is_copied_as_that_of(bump: &Bump, alloc: Global, text: &[u8], other: &[u8]) -> Option<bool> {
+    let files = (read(alloc, text), read(alloc, other));
+    let same = match &files {
+        (Ok(file), Ok(other)) => is_copied_as(file, bump, other),
+        _ => None,
+    };
+    drop(files);
+    same
 }
 
 #[test]
 fn copies_into_an_arena(rt: HostRuntime) -> Result<(), Fail> {
     let mut bump = Bump::new(rt.alloc());
     for text in TEXTS {
-        assert!(rt; has_file(rt.alloc(), text, |file| is_copied_into(&bump, file)));
+        assert!(rt; is_copied(rt.alloc(), text, &bump) == Some(true));
         bump.reset()?;
     }
-    assert!(rt;
-        has_file(
-            rt.alloc(),
-            LAMP,
-            |lamp| copies_another(&bump, rt.alloc(), lamp)
-        )
-    );
+    assert!(rt; is_copied_as_that_of(&bump, rt.alloc(), ONE_LINE, LAMP) == Some(false));
     Ok(())
 }
 
@@ -82,10 +58,13 @@ fn is_refused_in(heap: &LocalHeap, text: &[u8], kind: ReadErrorKind, offset: usi
 }
 
 fn has_items(heap: &LocalHeap, text: &[u8], items: usize) -> bool {
-    match read(heap, text) {
+    let file = read(heap, text);
+    let has = match &file {
         Ok(file) => file.items.len() == items,
         Err(_) => false,
-    }
+    };
+    drop(file);
+    has
 }
 
 // Whether a text is read into a heap and has so many items, and nothing stays in the heap.

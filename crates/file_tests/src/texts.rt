@@ -3,7 +3,7 @@
 use sml_read::read;
 use sml_tree::file::SmlFile;
 use sml_tree::name::Name;
-use std::alloc::{AllocError, Global};
+use std::alloc::{AllocError, Allocator, Global};
 
 /// A text, and how it is refused.
 pub type Refusal = (&'static [u8], Option<(u8, usize)>);
@@ -24,10 +24,8 @@ pub fn is(name: &Name, text: &[u8]) -> bool {
 
 /// How a text is refused: the number of the kind, and the offset.
 pub fn refused(alloc: Global, text: &[u8]) -> Option<(u8, usize)> {
-    match read(alloc, text) {
-        Ok(_) => None,
-        Err(error) => Some((error.kind.number(), error.offset)),
-    }
+    let error = read(alloc, text).err()?;
+    Some((error.kind.number(), error.offset))
 }
 
 /// A text of three parts, the one in the middle so many times.
@@ -81,21 +79,86 @@ pub fn other_limit(alloc: Global, rows: &[Limit]) -> Option<usize> {
 pub fn has_file<F: FnOnce(&SmlFile<Global>) -> bool>(alloc: Global, text: &[u8], is_so: F) -> bool
     requires { F.IsAlwaysCallable is_so }
 {
-    match read(alloc, text) {
-        Ok(file) => is_so(&file),
+    let file = read(alloc, text);
+    let so = match &file {
+        Ok(file) => is_so(file),
         Err(_) => false,
+    };
+    drop(file);
+    so
+}
+
+// Whether two files are the same, or none where the one that is asked matters.
+fn sameness<A: Allocator + Clone, B: Allocator + Clone>(
+    file: &SmlFile<A>,
+    other: &SmlFile<B>,
+) -> Option<bool> {
+    let same = file.same(other);
+    if same == other.same(file) {
+        Some(same)
+    } else {
+        None
     }
 }
 
-/// Whether two texts are read as the same file.
-pub fn same_file(alloc: Global, left: &[u8], right: &[u8]) -> bool {
-    has_file(alloc, left, |file| is_said(alloc, file, right))
+/// Whether a text is read into some memory as this file, or none where it is not read.
+pub fn is_read_as<A: Allocator + Clone, B: Allocator + Clone>(
+    alloc: A,
+    text: &[u8],
+    other: &SmlFile<B>,
+) -> Option<bool> {
+    let file = read(alloc, text);
+    let same = match &file {
+        Ok(file) => sameness(file, other),
+        Err(_) => None,
+    };
+    drop(file);
+    same
 }
 
-// Whether a text is read as this file.
-fn is_said(alloc: Global, file: &SmlFile<Global>, text: &[u8]) -> bool {
-    match read(alloc, text) {
-        Ok(other) => file.same(&other),
-        Err(_) => false,
-    }
+/// Whether the copy of a file in some memory is this file, or none where there is no copy.
+pub fn is_copied_as<A: Allocator + Clone, B: Allocator + Clone, C: Allocator + Clone>(
+    file: &SmlFile<A>,
+    alloc: B,
+    other: &SmlFile<C>,
+) -> Option<bool> {
+    let copy = file.copy_in(alloc);
+    let same = match &copy {
+        Ok(copy) => sameness(copy, other),
+        Err(_) => None,
+    };
+    drop(copy);
+    same
+}
+
+/// Whether two texts are read as the same file, the second into some memory, or none where one is not read.
+pub fn are_same_file<A: Allocator + Clone>(
+    alloc: Global,
+    left: &[u8],
+    memory: A,
+    right: &[u8],
+) -> Option<bool> {
+    let file = read(alloc, left);
+    let same = match &file {
+        Ok(file) => is_read_as(memory, right, file),
+        Err(_) => None,
+    };
+    drop(file);
+    same
+}
+
+/// Whether two texts are read as the same file, or none where one is not read.
+pub fn same_file(alloc: Global, left: &[u8], right: &[u8]) -> Option<bool> {
+    are_same_file(alloc, left, alloc, right)
+}
+
+/// Whether the file of a text is the same as its copy in some memory, or none where there is none.
+pub fn is_copied<A: Allocator + Clone>(alloc: Global, text: &[u8], memory: A) -> Option<bool> {
+    let file = read(alloc, text);
+    let same = match &file {
+        Ok(file) => is_copied_as(file, memory, file),
+        Err(_) => None,
+    };
+    drop(file);
+    same
 }

@@ -10,10 +10,13 @@ pub type Row = (&'static [u8], u8, &'static str, &'static [u8]);
 
 // Whether a text is read and well-formed.
 fn is_ok(alloc: Global, text: &[u8]) -> bool {
-    match read(alloc, text) {
-        Ok(file) => first_fault(alloc, &file).is_ok(),
+    let file = read(alloc, text);
+    let ok = match &file {
+        Ok(file) => first_fault(alloc, file).is_ok(),
         Err(_) => false,
-    }
+    };
+    drop(file);
+    ok
 }
 
 /// The first of these texts that is not read or not well-formed.
@@ -40,10 +43,13 @@ fn is_fault(alloc: Global, file: &SmlFile<Global>, number: u8, kind: &str, name:
 
 // Whether the text of a row is read, and its first fault has this number, this kind and this name.
 fn is_told(alloc: Global, (text, number, kind, name): Row) -> bool {
-    match read(alloc, text) {
-        Ok(file) => is_fault(alloc, &file, number, kind, name),
+    let file = read(alloc, text);
+    let told = match &file {
+        Ok(file) => is_fault(alloc, file, number, kind, name),
         Err(_) => false,
-    }
+    };
+    drop(file);
+    told
 }
 
 /// The first row whose text is not told as it says.

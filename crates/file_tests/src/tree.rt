@@ -1,8 +1,7 @@
 //! Names, words, and trees that are copied and compared.
 
 use crate::conditions::is_deep;
-use crate::texts::{has_file, same_file};
-use sml_tree::file::SmlFile;
+use crate::texts::{has_file, is_copied, same_file};
 use sml_tree::name::Name;
 use sml_tree::token_kind::TokenKind;
 use sml_tree::words::{is_reserved, word_kind};
@@ -52,26 +51,21 @@ fn names_are_folded(rt: HostRuntime) {
     assert!(rt; Name::from_word(b"A") < Name::from_word(b"A1"));
 }
 
-// Whether a file is the same as its copy.
-fn is_copied(alloc: Global, file: &SmlFile<Global>) -> bool {
-    match file.copy_in(alloc) {
-        Ok(copy) => copy.same(file),
-        Err(_) => false,
+// Whether the file of each of these texts is the same as its copy.
+fn are_copied(alloc: Global, texts: &[&[u8]]) -> bool {
+    for text in texts {
+        if is_copied(alloc, text, alloc) != Some(true) {
+            return false;
+        }
     }
-}
-
-// Whether the file of a text is the same as its copy.
-fn copies(alloc: Global, text: &[u8]) -> bool {
-    has_file(alloc, text, |file| is_copied(alloc, file))
+    true
 }
 
 #[test]
 fn copies_are_the_same(rt: HostRuntime) {
-    assert!(rt; copies(rt.alloc(), CHOICE));
-    assert!(rt; copies(rt.alloc(), EVERY_FORM));
-    assert!(rt; copies(rt.alloc(), b""));
-    assert!(rt; !same_file(rt.alloc(), CHOICE, b""));
-    assert!(rt; !same_file(rt.alloc(), EVERY_FORM, b""));
+    assert!(rt; are_copied(rt.alloc(), &[CHOICE, EVERY_FORM, b""]));
+    assert!(rt; same_file(rt.alloc(), CHOICE, b"") == Some(false));
+    assert!(rt; same_file(rt.alloc(), EVERY_FORM, b"") == Some(false));
 }
 
 #[test]
