@@ -1,13 +1,13 @@
 //! Files that are printed, and read back.
 
 use crate::example_domains::{CANONICAL, COUNTER, EMPTY_SET, FIRST, OWN_SET, PAIR, SUPPLIES};
+use crate::text::one_byte_writer;
 use crate::texts::{has_file, repeated, same_file};
 use sml_print::{PrintFault, print, write_to};
 use sml_read::read;
 use sml_tree::file::{Group, Item, Object, SmlFile};
 use sml_tree::name::Name;
 use std::alloc::{AllocError, Global};
-use std::io::{Error, Write};
 use std::test::Fail;
 
 // A file of one object and one set.
@@ -51,30 +51,6 @@ fn is_written(alloc: Global, file: &SmlFile<Global>) -> bool {
 fn writes_what_is_printed(rt: HostRuntime) -> Result<(), Fail> {
     assert!(rt; is_written(rt.alloc(), &sample(rt.alloc())?));
     Ok(())
-}
-
-// Takes one byte a call, and fails at a call.
-#[derive(Drop)]
-struct OneByte {
-    taken: Vec<u8>,
-    good_calls: usize,
-}
-
-impl Write for OneByte {
-    fn write(&mut self, buf: &[u8]) -> std::io::Result<usize> {
-        if self.taken.len() >= self.good_calls {
-            return Err(Error::from(AllocError));
-        }
-        let [first, ..] = buf else {
-            return Ok(0);
-        };
-        self.taken.push(*first)?;
-        Ok(1)
-    }
-
-    fn flush(&mut self) -> std::io::Result<()> {
-        Ok(())
-    }
 }
 
 // The canonical text of what a text says, or none where it is not read or not printed.
@@ -211,10 +187,7 @@ fn is_front(written: Result<(), PrintFault>, taken: &[u8], good_calls: usize) ->
 
 // Whether a writer that is good for so many calls gets a front of the text, as the answer says.
 fn is_front_written(file: &SmlFile<Global>, alloc: Global, good_calls: usize) -> bool {
-    let mut writer = OneByte {
-        taken: Vec::new(alloc),
-        good_calls,
-    };
+    let mut writer = one_byte_writer(alloc, good_calls, true);
     let written = write_to(file, &mut writer);
     is_front(written, writer.taken.as_slice(), good_calls)
 }

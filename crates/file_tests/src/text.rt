@@ -275,10 +275,10 @@ fn finds_the_first_bad_place(rt: HostRuntime) {
     }
 }
 
-// Takes one byte a call, and fails at a call or takes nothing there.
+/// Takes one byte a call, and fails at a call or takes nothing there.
 #[derive(Drop)]
-struct Slow {
-    taken: Vec<u8>,
+pub struct Slow {
+    pub taken: Vec<u8>,
     good_calls: usize,
     by_error: bool,
     calls: usize,
@@ -306,7 +306,8 @@ impl Write for Slow {
     }
 }
 
-fn one_byte_writer(alloc: Global, good_calls: usize, by_error: bool) -> Slow {
+/// A writer that is good for so many calls.
+pub fn one_byte_writer(alloc: Global, good_calls: usize, by_error: bool) -> Slow {
     Slow {
         taken: Vec::new(alloc),
         good_calls,
