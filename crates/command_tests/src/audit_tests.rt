@@ -1,13 +1,12 @@
 //! Calls of `drive` that judge journals. The expected texts are those of docs/FORMATS.md.
 
-use crate::runs::{enter, expect, leave, write_many};
+use crate::acts::{Act, Words, perform_all};
+use crate::runs::{Told, enter, leave};
 use crate::supply_rows::JOURNAL;
 use crate::texts::SUPPLIES;
-use std::fs;
-use std::fs::OpenFile;
 use std::test::Fail;
 
-const AUDIT: &[&str] = &["smirun", "audit", "domain.sml", "journal"];
+const AUDIT: Words = &["smirun", "audit", "domain.sml", "journal"];
 
 // The journal of the run that is asked twice, with its two starts exchanged.
 const EXCHANGED: &str = "\
@@ -26,10 +25,8 @@ start RUN @1 0 CONFIGURE
 end RUN skipped
 ";
 
-// A journal, and the status, the output and the errors.
-type Judged = (&'static str, u8, &'static str, &'static str);
-
-const JUDGED: &[Judged] = &[
+// Journals.
+const JUDGED: &[Told] = &[
     ("smi-journal 1\n", 0, "Legal\n", ""),
     (JOURNAL, 0, "Legal\n", ""),
     (EXCHANGED, 4, "Illegal 2 Number\n", ""),
@@ -60,41 +57,49 @@ const JUDGED: &[Judged] = &[
 #[test]
 fn journals_are_judged(rt: HostRuntime) -> Result<(), Fail> {
     enter(&rt, "journals_are_judged")?;
-    fs::write(&rt, "domain.sml", SUPPLIES.as_bytes())?;
-    for (journal, status, output, errors) in JUDGED {
-        fs::write(&rt, "journal", journal.as_bytes())?;
-        expect(&rt, AUDIT, *status, output, errors)?;
-    }
+    perform_all(
+        &rt,
+        &[
+            Act::Write("domain.sml", SUPPLIES),
+            Act::Each(AUDIT, "journal", JUDGED),
+        ],
+    )?;
     leave(&rt)
 }
 
-// The domain is read and checked before the journal is opened.
+const NO_DOMAIN: &str =
+    "domain.sml unreadable\ndomain.sml: No such file or directory (os error 2)\n";
+
+const NO_JOURNAL: &str = "journal unreadable\njournal: No such file or directory (os error 2)\n";
+
+// The domain is read and checked before the journal is opened. Too long goes before a bad header.
+const NOT_JUDGED: &[Act] = &[
+    Act::Call(AUDIT, 1, "", NO_DOMAIN),
+    Act::Each(
+        AUDIT,
+        "domain.sml",
+        &[
+            ("class", 1, "", "domain.sml read 4 Unexpected at 5\n"),
+            ("class: K", 1, "", "domain.sml check 2 NoState K\n"),
+            (SUPPLIES, 1, "", NO_JOURNAL),
+        ],
+    ),
+    Act::Folder("folder"),
+    Act::Call(
+        &["smirun", "audit", "domain.sml", "folder"],
+        1,
+        "",
+        "folder unreadable\nfolder: Is a directory (os error 21)\n",
+    ),
+    Act::Zeros("journal", 67_108_864),
+    Act::Call(AUDIT, 1, "", "journal bad header\n"),
+    Act::Zeros("journal", 67_108_865),
+    Act::Call(AUDIT, 1, "", "journal too long\n"),
+];
+
 #[test]
 fn journals_that_cannot_be_judged(rt: HostRuntime) -> Result<(), Fail> {
     enter(&rt, "journals_that_cannot_be_judged")?;
-    let no_domain = "domain.sml unreadable\ndomain.sml: No such file or directory (os error 2)\n";
-    expect(&rt, AUDIT, 1, "", no_domain)?;
-    let no_journal = "journal unreadable\njournal: No such file or directory (os error 2)\n";
-    for (domain, errors) in [
-        ("class", "domain.sml read 4 Unexpected at 5\n"),
-        ("class: K", "domain.sml check 2 NoState K\n"),
-        (SUPPLIES, no_journal),
-    ] {
-        fs::write(&rt, "domain.sml", domain.as_bytes())?;
-        expect(&rt, AUDIT, 1, "", errors)?;
-    }
-    fs::create_dir(&rt, "folder")?;
-    let of_folder = ["smirun", "audit", "domain.sml", "folder"];
-    let no_text = "folder unreadable\nfolder: Is a directory (os error 21)\n";
-    expect(&rt, &of_folder, 1, "", no_text)?;
-    // Too long goes before a bad header.
-    for (length, errors) in [
-        (67_108_864, "journal bad header\n"),
-        (67_108_865, "journal too long\n"),
-    ] {
-        let file = fs::create(&rt, "journal")?;
-        file.set_len(length)?;
-        expect(&rt, AUDIT, 1, "", errors)?;
-    }
+    perform_all(&rt, NOT_JUDGED)?;
     leave(&rt)
 }

@@ -1,19 +1,21 @@
 //! Calls of `drive` that read standard input. The expected texts are those of docs/FORMATS.md.
 
+use crate::acts::{Act, perform_all};
 use crate::example_texts::{FIRST_OUTPUT, FIRST_SCHEDULE};
-use crate::runs::{Told, enter, expect_of_input, leave};
+use crate::runs::{enter, leave};
 use crate::supply_rows::JOURNAL;
 use crate::texts::{COUNTER, FIRST, SUPPLIES};
-use std::fs;
 use std::test::Fail;
 
-// The words of a command line, and what is told of its input.
-type Given = (&'static [&'static str], Told<'static>);
-
 // Both files of `step` and of `audit` may be the input. A file is named in the lines as it was given.
-const GIVEN: &[Given] = &[
-    (&["smirun", "check", "-"], (FIRST, 0, "- ok\n", "")),
-    (
+const GIVEN: &[Act] = &[
+    Act::Write("first.sml", FIRST),
+    Act::Write("first.schedule", FIRST_SCHEDULE),
+    Act::Write("supplies.sml", SUPPLIES),
+    Act::Write("journal", JOURNAL),
+    Act::Write("./-", COUNTER),
+    Act::Input(&["smirun", "check", "-"], (FIRST, 0, "- ok\n", "")),
+    Act::Input(
         &["smirun", "check", "first.sml", "-", "./-"],
         (
             "class",
@@ -22,24 +24,24 @@ const GIVEN: &[Given] = &[
             "",
         ),
     ),
-    (&["smirun", "print", "-"], (COUNTER, 0, COUNTER, "")),
-    (
+    Act::Input(&["smirun", "print", "-"], (COUNTER, 0, COUNTER, "")),
+    Act::Input(
         &["smirun", "step", "first.sml", "-"],
         (FIRST_SCHEDULE, 0, FIRST_OUTPUT, ""),
     ),
-    (
+    Act::Input(
         &["smirun", "step", "-", "first.schedule"],
         (FIRST, 0, FIRST_OUTPUT, ""),
     ),
-    (
+    Act::Input(
         &["smirun", "audit", "supplies.sml", "-"],
         (JOURNAL, 0, "Legal\n", ""),
     ),
-    (
+    Act::Input(
         &["smirun", "audit", "-", "journal"],
         (SUPPLIES, 0, "Legal\n", ""),
     ),
-    (
+    Act::Input(
         &["smirun", "audit", "supplies.sml", "-"],
         ("", 1, "", "- bad header\n"),
     ),
@@ -48,17 +50,6 @@ const GIVEN: &[Given] = &[
 #[test]
 fn standard_input_is_read(rt: HostRuntime) -> Result<(), Fail> {
     enter(&rt, "standard_input_is_read")?;
-    for (file, text) in [
-        ("first.sml", FIRST),
-        ("first.schedule", FIRST_SCHEDULE),
-        ("supplies.sml", SUPPLIES),
-        ("journal", JOURNAL),
-        ("./-", COUNTER),
-    ] {
-        fs::write(&rt, file, text.as_bytes())?;
-    }
-    for (words, row) in GIVEN {
-        expect_of_input(&rt, words, row)?;
-    }
+    perform_all(&rt, GIVEN)?;
     leave(&rt)
 }

@@ -2,6 +2,8 @@
 #![tactic(auto)]
 
 #[cfg(test)]
+mod acts;
+#[cfg(test)]
 mod audit_tests;
 #[cfg(test)]
 mod check_tests;

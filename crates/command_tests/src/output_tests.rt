@@ -1,13 +1,14 @@
 //! Outputs that cannot be written.
 
-use crate::runs::{enter, leave, strings, write_inputs};
+use crate::acts::Words;
+use crate::runs::{enter, leave, strings, write_inputs, write_text};
 use crate::texts::FIRST;
 use smi_words::drive::drive;
 use std::fs::Files;
+use std::io;
 use std::io::{ErrorKind, Input, Write};
 use std::process::Abort;
 use std::test::Fail;
-use std::{fs, io};
 
 // A writer that fails.
 #[derive(Drop)]
@@ -64,22 +65,31 @@ fn expect_output_fault<R: Files + AllocGlobal + Input + Abort, W: Write>(
     Ok(())
 }
 
+// A command line fails with each of the writers.
+fn expect_output_faults<R: Files + AllocGlobal + Input + Abort>(
+    rt: &R,
+    words: &[&str],
+) -> Result<(), Fail> {
+    expect_output_fault(rt, words, &mut Fails)?;
+    expect_output_fault(rt, words, &mut TakesNothing)?;
+    expect_output_fault(rt, words, &mut FailsLate)
+}
+
+const LINES: &[Words] = &[
+    &["smirun", "step", "domain.sml", "schedule"],
+    &["smirun", "--help"],
+    &["smirun", "print", "domain.sml"],
+    &["smirun", "check", "domain.sml"],
+    &["smirun", "audit", "domain.sml", "journal"],
+];
+
 #[test]
 fn output_faults(rt: HostRuntime) -> Result<(), Fail> {
     enter(&rt, "output_faults")?;
     write_inputs(&rt, FIRST, "start L\n")?;
-    fs::write(&rt, "journal", b"smi-journal 1\n")?;
-    let lines: [&[&str]; 5] = [
-        &["smirun", "step", "domain.sml", "schedule"],
-        &["smirun", "--help"],
-        &["smirun", "print", "domain.sml"],
-        &["smirun", "check", "domain.sml"],
-        &["smirun", "audit", "domain.sml", "journal"],
-    ];
-    for words in lines {
-        expect_output_fault(&rt, words, &mut Fails)?;
-        expect_output_fault(&rt, words, &mut TakesNothing)?;
-        expect_output_fault(&rt, words, &mut FailsLate)?;
+    write_text(&rt, "journal", "smi-journal 1\n")?;
+    for words in LINES {
+        expect_output_faults(&rt, words)?;
     }
     leave(&rt)
 }

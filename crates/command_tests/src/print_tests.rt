@@ -1,6 +1,7 @@
 //! Calls of `drive` that print. The expected texts are those of docs/FORMATS.md.
 
-use crate::runs::{enter, expect, expect_each, leave};
+use crate::acts::{Act, Words, perform_all};
+use crate::runs::{enter, leave};
 use std::test::Fail;
 
 const ONE_LINE: &str =
@@ -34,41 +35,66 @@ objectset: G { A, B }
 objectset: E { }
 ";
 
-const PRINT: &[&str] = &["smirun", "print", "domain.sml"];
+const PRINT: Words = &["smirun", "print", "domain.sml"];
 
-#[test]
-fn prints_the_canonical_text(rt: HostRuntime) -> Result<(), Fail> {
-    enter(&rt, "prints_the_canonical_text")?;
-    let rows = [
+const CANONICALLY: &[Act] = &[Act::Each(
+    PRINT,
+    "domain.sml",
+    &[
         (ONE_LINE, 0, CANONICAL, ""),
         (CANONICAL, 0, CANONICAL, ""),
         (EVERY_FORM, 0, EVERY_FORM, ""),
         ("! nothing\n", 0, "", ""),
-    ];
-    expect_each(&rt, PRINT, &rows)?;
+    ],
+)];
+
+#[test]
+fn prints_the_canonical_text(rt: HostRuntime) -> Result<(), Fail> {
+    enter(&rt, "prints_the_canonical_text")?;
+    perform_all(&rt, CANONICALLY)?;
     leave(&rt)
 }
+
+const REFUSED: &[Act] = &[
+    Act::Call(
+        PRINT,
+        1,
+        "",
+        "domain.sml unreadable\ndomain.sml: No such file or directory (os error 2)\n",
+    ),
+    Act::Each(
+        PRINT,
+        "domain.sml",
+        &[
+            ("class: A\u{C4}", 1, "", "domain.sml read 2 NotAscii at 8\n"),
+            ("class: 9A", 1, "", "domain.sml read 3 BadToken at 7\n"),
+            ("class", 1, "", "domain.sml read 4 Unexpected at 5\n"),
+        ],
+    ),
+];
 
 #[test]
 fn prints_no_refused_file(rt: HostRuntime) -> Result<(), Fail> {
     enter(&rt, "prints_no_refused_file")?;
-    let cause = "domain.sml unreadable\ndomain.sml: No such file or directory (os error 2)\n";
-    expect(&rt, PRINT, 1, "", cause)?;
-    let rows = [
-        ("class: A\u{C4}", 1, "", "domain.sml read 2 NotAscii at 8\n"),
-        ("class: 9A", 1, "", "domain.sml read 3 BadToken at 7\n"),
-        ("class", 1, "", "domain.sml read 4 Unexpected at 5\n"),
-    ];
-    expect_each(&rt, PRINT, &rows)?;
+    perform_all(&rt, REFUSED)?;
     leave(&rt)
 }
 
 // What is not well-formed is printed all the same.
+const UNCHECKED: &[Act] = &[Act::Each(
+    PRINT,
+    "domain.sml",
+    &[(
+        "object:x is_of_class y class:y class:y",
+        0,
+        "object: X is_of_class Y\nclass: Y\nclass: Y\n",
+        "",
+    )],
+)];
+
 #[test]
 fn prints_without_checking(rt: HostRuntime) -> Result<(), Fail> {
     enter(&rt, "prints_without_checking")?;
-    let printed = "object: X is_of_class Y\nclass: Y\nclass: Y\n";
-    let rows = [("object:x is_of_class y class:y class:y", 0, printed, "")];
-    expect_each(&rt, PRINT, &rows)?;
+    perform_all(&rt, UNCHECKED)?;
     leave(&rt)
 }

@@ -8,18 +8,27 @@ use std::process::Abort;
 use std::test::Fail;
 use std::{env, fs, process, str};
 
-// Makes a new folder for a test and enters it.
-pub fn enter(rt: &HostRuntime, test: &str) -> Result<(), Fail> {
-    let alloc = rt.alloc();
+// The path of the folder of a test.
+fn folder_of(rt: &HostRuntime, test: &str) -> Result<String, Fail> {
     let place = env::temp_dir(rt)?;
     let id = process::id(rt.process());
-    let folder = format!(in alloc; "{}/smirun-{test}-{id}", place.as_str())?;
-    if fs::exists(rt, folder.as_str())? {
-        fs::remove_dir_all(rt, folder.as_str())?;
+    Ok(format!(in rt.alloc(); "{}/smirun-{test}-{id}", place.as_str())?)
+}
+
+// Makes a new folder and enters it.
+fn enter_new(rt: &HostRuntime, folder: &str) -> Result<(), Fail> {
+    if fs::exists(rt, folder)? {
+        fs::remove_dir_all(rt, folder)?;
     }
-    fs::create_dir(rt, folder.as_str())?;
-    env::set_current_dir(rt, folder.as_str())?;
+    fs::create_dir(rt, folder)?;
+    env::set_current_dir(rt, folder)?;
     Ok(())
+}
+
+// Makes a new folder for a test and enters it.
+pub fn enter(rt: &HostRuntime, test: &str) -> Result<(), Fail> {
+    let folder = folder_of(rt, test)?;
+    enter_new(rt, folder.as_str())
 }
 
 // Removes the folder that was entered.
@@ -29,10 +38,18 @@ pub fn leave(rt: &HostRuntime) -> Result<(), Fail> {
     Ok(())
 }
 
-pub fn write_inputs(rt: &HostRuntime, domain: &str, schedule: &str) -> Result<(), Fail> {
-    fs::write(rt, "domain.sml", domain.as_bytes())?;
-    fs::write(rt, "schedule", schedule.as_bytes())?;
+pub fn write_text<R: Files + AllocGlobal>(rt: &R, path: &str, text: &str) -> Result<(), Fail> {
+    fs::write(rt, path, text.as_bytes())?;
     Ok(())
+}
+
+pub fn write_inputs<R: Files + AllocGlobal>(
+    rt: &R,
+    domain: &str,
+    schedule: &str,
+) -> Result<(), Fail> {
+    write_text(rt, "domain.sml", domain)?;
+    write_text(rt, "schedule", schedule)
 }
 
 // What `drive` gave for some words.
@@ -115,21 +132,24 @@ pub fn call_with<R: Files + AllocGlobal>(
 }
 
 // Whether a command ended so.
-fn expect_outcome<R: Abort>(
-    rt: &R,
-    words: &[&str],
-    outcome: &Outcome,
-    wanted: (u8, &str, &str),
-) -> Result<(), Fail> {
+fn ended_so(outcome: &Outcome, wanted: (u8, &str, &str)) -> bool {
     let (status, output, errors) = wanted;
-    let told = str::from_utf8(outcome.output.as_slice())?;
-    let told_of_faults = str::from_utf8(outcome.errors.as_slice())?;
-    let is_told = told == output && told_of_faults == errors;
+    outcome.status == status
+        && outcome.output.as_slice() == output.as_bytes()
+        && outcome.errors.as_slice() == errors.as_bytes()
+}
+
+fn text_of(bytes: &[u8]) -> &str {
+    str::from_utf8(bytes).unwrap_or("no UTF-8")
+}
+
+fn expect_outcome<R: Abort>(rt: &R, words: &[&str], outcome: &Outcome, wanted: (u8, &str, &str)) {
+    let told = text_of(outcome.output.as_slice());
+    let told_of_faults = text_of(outcome.errors.as_slice());
     assert!(rt;
-        outcome.status == status && is_told,
+        ended_so(outcome, wanted),
         "{words:?} gives {told:?}, {told_of_faults:?}"
     );
-    Ok(())
 }
 
 pub fn expect<R: Files + AllocGlobal + Input + Abort>(
@@ -140,7 +160,8 @@ pub fn expect<R: Files + AllocGlobal + Input + Abort>(
     errors: &str,
 ) -> Result<(), Fail> {
     let outcome = call(rt, words)?;
-    expect_outcome(rt, words, &outcome, (status, output, errors))
+    expect_outcome(rt, words, &outcome, (status, output, errors));
+    Ok(())
 }
 
 // Gives a text to a command as its standard input.
@@ -151,21 +172,34 @@ pub fn expect_of_input<R: Files + AllocGlobal + Abort>(
 ) -> Result<(), Fail> {
     let (input, status, output, errors) = *row;
     let outcome = call_with(rt, words, input)?;
-    expect_outcome(rt, words, &outcome, (status, output, errors))
+    expect_outcome(rt, words, &outcome, (status, output, errors));
+    Ok(())
 }
 
 // What is told of a text: the status, the output and the errors.
 pub type Told<'a> = (&'a str, u8, &'a str, &'a str);
 
-// Gives each text in turn to a command that reads `domain.sml`.
+// Gives each text in turn to a command, as the file of this name.
 pub fn expect_each<R: Files + AllocGlobal + Input + Abort>(
     rt: &R,
     words: &[&str],
+    path: &str,
     rows: &[Told<'_>],
 ) -> Result<(), Fail> {
     for (text, status, output, errors) in rows {
-        fs::write(rt, "domain.sml", text.as_bytes())?;
+        write_text(rt, path, text)?;
         expect(rt, words, *status, output, errors)?;
     }
+    Ok(())
+}
+
+// The text of what is wrong is the parser's own, and no part of a format.
+pub fn expect_wrong_words<R: Files + AllocGlobal + Input + Abort>(
+    rt: &R,
+    words: &[&str],
+) -> Result<(), Fail> {
+    let outcome = call(rt, words)?;
+    let is_told = outcome.output.is_empty() && !outcome.errors.is_empty();
+    assert!(rt; outcome.status == 2 && is_told, "in {words:?}");
     Ok(())
 }

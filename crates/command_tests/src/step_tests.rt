@@ -1,28 +1,38 @@
 //! Calls of `drive` that run schedules. The expected texts are those of docs/FORMATS.md and docs/LANGUAGE.md.
 
+use crate::acts::{Act, Words, perform_all};
 use crate::example_texts::{
     DETECTOR, DEVICE_FAULTS, DEVICE_FAULTS_OUTPUT, FIRST_OUTPUT, FIRST_SCHEDULE, SUBSYSTEM_KILLED,
     SUBSYSTEM_KILLED_OUTPUT, SWITCH_ON, SWITCH_ON_OUTPUT,
 };
 use crate::other_rows::{LAMP_ROWS, OTHER_ROWS};
-use crate::runs::{enter, expect, expect_each, leave, words_of, write_inputs, write_many};
+use crate::runs::{enter, expect, leave, words_of, write_inputs, write_many, write_text};
 use crate::supply_rows::{CONFIGURE_TWICE, JOURNAL, SUPPLY_ROWS};
 use crate::texts::{FIRST, SUPPLIES};
 use crate::transcript::{Row, whole_of};
-use std::fs;
 use std::fs::Files;
 use std::io::Input;
 use std::process::Abort;
 use std::test::Fail;
 
-const STEP: &[&str] = &["smirun", "step", "domain.sml", "schedule"];
+const STEP: Words = &["smirun", "step", "domain.sml", "schedule"];
+
+// Writes a told schedule as a file, and runs it by a command: it writes its lines.
+fn expect_told<R: Files + AllocGlobal + Input + Abort>(
+    rt: &R,
+    path: &str,
+    told: &str,
+    words: &[&str],
+) -> Result<(), Fail> {
+    let told = whole_of(rt.alloc(), told)?;
+    write_text(rt, path, told.schedule.as_str())?;
+    expect(rt, words, 0, told.output.as_str(), "")
+}
 
 // Runs a row, whose schedule has its name: it writes its lines, and a journal that is judged legal.
 fn expect_row<R: Files + AllocGlobal + Input + Abort>(rt: &R, row: &Row) -> Result<(), Fail> {
-    let told = whole_of(rt.alloc(), row.told)?;
-    fs::write(rt, "domain.sml", row.domain.as_bytes())?;
-    fs::write(rt, row.name, told.schedule.as_bytes())?;
-    let words = [
+    write_text(rt, "domain.sml", row.domain)?;
+    let first = [
         "smirun",
         "step",
         "domain.sml",
@@ -30,8 +40,8 @@ fn expect_row<R: Files + AllocGlobal + Input + Abort>(rt: &R, row: &Row) -> Resu
         "--journal",
         "journal",
     ];
-    let words = words_of(rt.alloc(), &words, row.options)?;
-    expect(rt, words.as_slice(), 0, told.output.as_str(), "")?;
+    let words = words_of(rt.alloc(), &first, row.options)?;
+    expect_told(rt, row.name, row.told, words.as_slice())?;
     expect(rt, AUDIT, 0, "Legal\n", "")
 }
 
@@ -51,15 +61,7 @@ fn schedules_write_their_lines(rt: HostRuntime) -> Result<(), Fail> {
     leave(&rt)
 }
 
-// The examples of the folder examples/: a domain, a schedule, and its output.
-const EXAMPLES: &[(&str, &str, &str)] = &[
-    (FIRST, FIRST_SCHEDULE, FIRST_OUTPUT),
-    (DETECTOR, SWITCH_ON, SWITCH_ON_OUTPUT),
-    (DETECTOR, DEVICE_FAULTS, DEVICE_FAULTS_OUTPUT),
-    (DETECTOR, SUBSYSTEM_KILLED, SUBSYSTEM_KILLED_OUTPUT),
-];
-
-const STEP_AND_KEEP: &[&str] = &[
+const STEP_AND_KEEP: Words = &[
     "smirun",
     "step",
     "domain.sml",
@@ -68,46 +70,63 @@ const STEP_AND_KEEP: &[&str] = &[
     "journal",
 ];
 
-const AUDIT: &[&str] = &["smirun", "audit", "domain.sml", "journal"];
+const AUDIT: Words = &["smirun", "audit", "domain.sml", "journal"];
 
+fn expect_example<R: Files + AllocGlobal + Input + Abort>(
+    rt: &R,
+    domain: &str,
+    schedule: &str,
+    output: &str,
+) -> Result<(), Fail> {
+    write_inputs(rt, domain, schedule)?;
+    expect(rt, STEP_AND_KEEP, 0, output, "")?;
+    expect(rt, AUDIT, 0, "Legal\n", "")
+}
+
+// The examples of the folder examples/: a domain, a schedule, and its output. (Texts as long as these are
+// less to prove by themselves than in a table.)
 #[test]
 fn examples_write_their_outputs(rt: HostRuntime) -> Result<(), Fail> {
     enter(&rt, "examples_write_their_outputs")?;
-    for (domain, schedule, output) in EXAMPLES {
-        write_inputs(&rt, domain, schedule)?;
-        expect(&rt, STEP_AND_KEEP, 0, output, "")?;
-        expect(&rt, AUDIT, 0, "Legal\n", "")?;
-    }
+    expect_example(&rt, FIRST, FIRST_SCHEDULE, FIRST_OUTPUT)?;
+    let detector = DETECTOR;
+    expect_example(&rt, detector, SWITCH_ON, SWITCH_ON_OUTPUT)?;
+    expect_example(&rt, detector, DEVICE_FAULTS, DEVICE_FAULTS_OUTPUT)?;
+    expect_example(&rt, detector, SUBSYSTEM_KILLED, SUBSYSTEM_KILLED_OUTPUT)?;
     leave(&rt)
 }
 
 // A journal is written once its schedule is done, in place of what the file had.
-#[test]
-fn journals_are_kept(rt: HostRuntime) -> Result<(), Fail> {
-    enter(&rt, "journals_are_kept")?;
-    let told = whole_of(rt.alloc(), CONFIGURE_TWICE)?;
-    for (schedule, output, journal) in [
-        (told.schedule.as_str(), told.output.as_str(), JOURNAL),
-        ("go RUN", "refused NotOpen\n", "smi-journal 1\n"),
-    ] {
-        write_inputs(&rt, SUPPLIES, schedule)?;
-        expect(&rt, STEP_AND_KEEP, 0, output, "")?;
-        let kept = fs::read(&rt, "journal")?;
-        assert!(rt; kept.as_slice() == journal.as_bytes(), "behind {schedule}");
-    }
-    let words = words_of(rt.alloc(), STEP, &["--journal", "none/journal"])?;
-    expect(
-        &rt,
-        words.as_slice(),
+const KEPT: &[Act] = &[
+    Act::Kept("journal", JOURNAL),
+    Act::Write("schedule", "go RUN"),
+    Act::Call(STEP_AND_KEEP, 0, "refused NotOpen\n", ""),
+    Act::Kept("journal", "smi-journal 1\n"),
+    Act::Call(
+        &[
+            "smirun",
+            "step",
+            "domain.sml",
+            "schedule",
+            "--journal",
+            "none/journal",
+        ],
         1,
         "refused NotOpen\n",
         "output fault\n",
-    )?;
-    fs::remove_file(&rt, "schedule")?;
-    fs::remove_file(&rt, "journal")?;
-    let cause = "schedule unreadable\nschedule: No such file or directory (os error 2)\n";
-    expect(&rt, STEP_AND_KEEP, 1, "", cause)?;
-    assert!(rt; !fs::exists(&rt, "journal")?);
+    ),
+    Act::Remove("schedule"),
+    Act::Remove("journal"),
+    Act::Call(STEP_AND_KEEP, 1, "", NO_SCHEDULE),
+    Act::Absent("journal"),
+];
+
+#[test]
+fn journals_are_kept(rt: HostRuntime) -> Result<(), Fail> {
+    enter(&rt, "journals_are_kept")?;
+    write_text(&rt, "domain.sml", SUPPLIES)?;
+    expect_told(&rt, "schedule", CONFIGURE_TWICE, STEP_AND_KEEP)?;
+    perform_all(&rt, KEPT)?;
     leave(&rt)
 }
 
@@ -121,18 +140,32 @@ fn push_filled(schedule: &mut String, line: &str, length: usize) -> Result<(), F
     Ok(())
 }
 
-#[test]
-fn longest_lines(rt: HostRuntime) -> Result<(), Fail> {
+// A schedule with a line that is as long as one may be, and two that are longer.
+fn long_lines(rt: &HostRuntime) -> Result<String, Fail> {
     let mut schedule = String::from_str(rt.alloc(), "request @1 L LIGHT\n")?;
     push_filled(&mut schedule, "start L", 8_193)?;
     push_filled(&mut schedule, "", 8_193)?;
     push_filled(&mut schedule, "start L", 8_192)?;
     schedule.push_str("go L")?;
+    Ok(schedule)
+}
+
+fn expect_of_schedule<R: Files + AllocGlobal + Input + Abort>(
+    rt: &R,
+    schedule: &str,
+    output: &str,
+) -> Result<(), Fail> {
+    write_inputs(rt, FIRST, schedule)?;
+    expect(rt, STEP, 0, output, "")
+}
+
+#[test]
+fn longest_lines(rt: HostRuntime) -> Result<(), Fail> {
+    enter(&rt, "longest_lines")?;
+    let schedule = long_lines(&rt)?;
     let output =
         "accept @1 L 0 LIGHT\nrefused BadLine\nrefused BadLine\nstart L @1 0 LIGHT\nend L ON\n";
-    enter(&rt, "longest_lines")?;
-    write_inputs(&rt, FIRST, schedule.as_str())?;
-    expect(&rt, STEP, 0, output, "")?;
+    expect_of_schedule(&rt, schedule.as_str(), output)?;
     leave(&rt)
 }
 
@@ -173,37 +206,49 @@ fn longest_texts(rt: HostRuntime) -> Result<(), Fail> {
     leave(&rt)
 }
 
+const NO_DOMAIN: &str =
+    "domain.sml unreadable\ndomain.sml: No such file or directory (os error 2)\n";
+
+const NO_SCHEDULE: &str = "schedule unreadable\nschedule: No such file or directory (os error 2)\n";
+
 // The domain is read and checked before the schedule is opened. A folder can be opened, and not read.
+const REFUSED: &[Act] = &[
+    Act::Call(STEP, 1, "", NO_DOMAIN),
+    Act::Each(
+        STEP,
+        "domain.sml",
+        &[
+            (
+                "class: A \u{e9}",
+                1,
+                "",
+                "domain.sml read 2 NotAscii at 9\n",
+            ),
+            ("class: A ;", 1, "", "domain.sml read 3 BadToken at 9\n"),
+            ("class", 1, "", "domain.sml read 4 Unexpected at 5\n"),
+            ("class: K", 1, "", "domain.sml check 2 NoState K\n"),
+            (SUPPLIES, 1, "", NO_SCHEDULE),
+        ],
+    ),
+    Act::Folder("folder"),
+    Act::Write("schedule", ""),
+    Act::Call(
+        &["smirun", "step", "folder", "schedule"],
+        1,
+        "",
+        "folder unreadable\nfolder: Is a directory (os error 21)\n",
+    ),
+    Act::Call(
+        &["smirun", "step", "domain.sml", "./folder"],
+        1,
+        "",
+        "./folder unreadable\n",
+    ),
+];
+
 #[test]
 fn refused_inputs(rt: HostRuntime) -> Result<(), Fail> {
     enter(&rt, "refused_inputs")?;
-    let no_domain = "domain.sml unreadable\ndomain.sml: No such file or directory (os error 2)\n";
-    expect(&rt, STEP, 1, "", no_domain)?;
-    let no_schedule = "schedule unreadable\nschedule: No such file or directory (os error 2)\n";
-    let rows = [
-        (
-            "class: A \u{e9}",
-            1,
-            "",
-            "domain.sml read 2 NotAscii at 9\n",
-        ),
-        ("class: A ;", 1, "", "domain.sml read 3 BadToken at 9\n"),
-        ("class", 1, "", "domain.sml read 4 Unexpected at 5\n"),
-        ("class: K", 1, "", "domain.sml check 2 NoState K\n"),
-        (SUPPLIES, 1, "", no_schedule),
-    ];
-    expect_each(&rt, STEP, &rows)?;
-    fs::create_dir(&rt, "folder")?;
-    fs::write(&rt, "schedule", b"")?;
-    for (file, schedule, errors) in [
-        (
-            "folder",
-            "schedule",
-            "folder unreadable\nfolder: Is a directory (os error 21)\n",
-        ),
-        ("domain.sml", "./folder", "./folder unreadable\n"),
-    ] {
-        expect(&rt, &["smirun", "step", file, schedule], 1, "", errors)?;
-    }
+    perform_all(&rt, REFUSED)?;
     leave(&rt)
 }

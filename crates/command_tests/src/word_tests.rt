@@ -1,6 +1,7 @@
 //! Command lines that are none, and those that ask for help.
 
-use crate::runs::{call, enter, expect, leave, write_inputs};
+use crate::acts::{Act, Words, perform_all};
+use crate::runs::{call, enter, leave};
 use crate::texts::FIRST;
 use smi_commands::{LONGEST_JOURNAL, MAX_CAPACITY, MAX_STARTS, refuse_words};
 use smi_core::{LONGEST_LINE, LONGEST_SCHEDULE};
@@ -17,85 +18,164 @@ use std::io::{ErrorKind, Input};
 use std::process::Abort;
 use std::test::Fail;
 
-// The text of what is wrong is the parser's own, and no part of a format.
-fn expect_wrong_words<R: Files + AllocGlobal + Input + Abort>(
-    rt: &R,
-    words: &[&str],
-) -> Result<(), Fail> {
-    let outcome = call(rt, words)?;
-    let is_told = outcome.output.is_empty() && !outcome.errors.is_empty();
-    assert!(rt; outcome.status == 2 && is_told, "in {words:?}");
-    Ok(())
-}
+const WRONG: &[Act] = &[
+    Act::Wrong(&[]),
+    Act::Wrong(&["smirun"]),
+    Act::Wrong(&["smirun", "print"]),
+    Act::Wrong(&["smirun", "print", "a", "b"]),
+    Act::Wrong(&["smirun", "check"]),
+    Act::Wrong(&["smirun", "audit"]),
+    Act::Wrong(&["smirun", "audit", "a"]),
+    Act::Wrong(&["smirun", "audit", "a", "b", "c"]),
+    Act::Wrong(&["smirun", "run", "a", "b"]),
+    Act::Wrong(&["smirun", "--x"]),
+    Act::Wrong(&["smirun", "check", "-", "a", "-"]),
+    Act::Wrong(&["smirun", "step", "-", "-"]),
+    Act::Wrong(&["smirun", "audit", "-", "-"]),
+    Act::Wrong(&["smirun", "step"]),
+    Act::Wrong(&["smirun", "step", "a"]),
+    Act::Wrong(&["smirun", "step", "a", "b", "c"]),
+    Act::Wrong(&["smirun", "step", "a", "b", "--workers", "2"]),
+    Act::Wrong(&["smirun", "step", "a", "b", "--journal"]),
+];
 
 #[test]
 fn wrong_command_lines(rt: HostRuntime) -> Result<(), Fail> {
-    let step_lines: [&[&str]; 5] = [
-        &[],
-        &["a"],
-        &["a", "b", "c"],
-        &["a", "b", "--workers", "2"],
-        &["a", "b", "--journal"],
-    ];
-    let other_lines: [&[&str]; 13] = [
-        &[],
-        &["smirun"],
-        &["smirun", "print"],
-        &["smirun", "print", "a", "b"],
-        &["smirun", "check"],
-        &["smirun", "audit"],
-        &["smirun", "audit", "a"],
-        &["smirun", "audit", "a", "b", "c"],
-        &["smirun", "run", "a", "b"],
-        &["smirun", "--x"],
-        &["smirun", "check", "-", "a", "-"],
-        &["smirun", "step", "-", "-"],
-        &["smirun", "audit", "-", "-"],
-    ];
-    for words in other_lines {
-        expect_wrong_words(&rt, words)?;
-    }
-    for rest in step_lines {
-        let mut words = ["smirun", "step"].to_vec(rt.alloc())?;
-        words.extend_from_slice(rest)?;
-        expect_wrong_words(&rt, words.as_slice())?;
-    }
-    Ok(())
+    enter(&rt, "wrong_command_lines")?;
+    perform_all(&rt, WRONG)?;
+    leave(&rt)
 }
+
+const OPTIONS: &[Act] = &[
+    Act::Wrong(&[
+        "smirun",
+        "step",
+        "domain.sml",
+        "schedule",
+        "--capacity",
+        "0",
+    ]),
+    Act::Wrong(&[
+        "smirun",
+        "step",
+        "domain.sml",
+        "schedule",
+        "--capacity",
+        "1025",
+    ]),
+    Act::Wrong(&[
+        "smirun",
+        "step",
+        "domain.sml",
+        "schedule",
+        "--capacity",
+        "x",
+    ]),
+    Act::Wrong(&[
+        "smirun",
+        "step",
+        "domain.sml",
+        "schedule",
+        "--capacity",
+        "-1",
+    ]),
+    Act::Wrong(&[
+        "smirun",
+        "step",
+        "domain.sml",
+        "schedule",
+        "--max-starts",
+        "0",
+    ]),
+    Act::Wrong(&[
+        "smirun",
+        "step",
+        "domain.sml",
+        "schedule",
+        "--max-starts",
+        "1000001",
+    ]),
+    Act::Wrong(&[
+        "smirun",
+        "step",
+        "domain.sml",
+        "schedule",
+        "--max-starts",
+        "18446744073709551617",
+    ]),
+    Act::Wrong(&[
+        "smirun",
+        "step",
+        "domain.sml",
+        "schedule",
+        "--max-starts",
+        "",
+    ]),
+    Act::Write("domain.sml", FIRST),
+    Act::Write("schedule", "start L\n"),
+    Act::Call(
+        &[
+            "smirun",
+            "step",
+            "domain.sml",
+            "schedule",
+            "--capacity",
+            "1",
+        ],
+        0,
+        "refused Empty\n",
+        "",
+    ),
+    Act::Call(
+        &[
+            "smirun",
+            "step",
+            "domain.sml",
+            "schedule",
+            "--capacity",
+            "1024",
+        ],
+        0,
+        "refused Empty\n",
+        "",
+    ),
+    Act::Call(
+        &[
+            "smirun",
+            "step",
+            "domain.sml",
+            "schedule",
+            "--max-starts",
+            "1",
+        ],
+        0,
+        "refused Empty\n",
+        "",
+    ),
+    Act::Call(
+        &[
+            "smirun",
+            "step",
+            "domain.sml",
+            "schedule",
+            "--max-starts",
+            "1000000",
+        ],
+        0,
+        "refused Empty\n",
+        "",
+    ),
+];
 
 #[test]
 fn options_in_and_out_of_range(rt: HostRuntime) -> Result<(), Fail> {
     enter(&rt, "options_in_and_out_of_range")?;
-    for (option, value) in [
-        ("--capacity", "0"),
-        ("--capacity", "1025"),
-        ("--capacity", "x"),
-        ("--capacity", "-1"),
-        ("--max-starts", "0"),
-        ("--max-starts", "1000001"),
-        ("--max-starts", "18446744073709551617"),
-        ("--max-starts", ""),
-    ] {
-        expect_wrong_words(
-            &rt,
-            &["smirun", "step", "domain.sml", "schedule", option, value],
-        )?;
-    }
-    write_inputs(&rt, FIRST, "start L\n")?;
-    for (option, value) in [
-        ("--capacity", "1"),
-        ("--capacity", "1024"),
-        ("--max-starts", "1"),
-        ("--max-starts", "1000000"),
-    ] {
-        let words = ["smirun", "step", "domain.sml", "schedule", option, value];
-        expect(&rt, &words, 0, "refused Empty\n", "")?;
-    }
+    perform_all(&rt, OPTIONS)?;
     leave(&rt)
 }
 
 // A command line, and what stands in the text that it is given.
-type Help = (&'static [&'static str], &'static [&'static str]);
+type Help = (Words, &'static [&'static str]);
 
 const HELP: &[Help] = &[
     (&["smirun", "--help"], &["Exit status: 0 done", "audit"]),
@@ -184,14 +264,23 @@ fn missing_in<'a>(text: &str, parts: &[&'a str]) -> Option<&'a str> {
     None
 }
 
+fn expect_parts<R: Files + AllocGlobal + Input + Abort>(
+    rt: &R,
+    words: &[&str],
+    parts: &[&str],
+) -> Result<(), Fail> {
+    let outcome = call(rt, words)?;
+    let text = std::str::from_utf8(outcome.output.as_slice())?;
+    let missing = missing_in(text, parts);
+    let is_told = outcome.status == 0 && outcome.errors.is_empty();
+    assert!(rt; is_told && missing.is_none(), "no {missing:?} in {words:?}");
+    Ok(())
+}
+
 #[test]
 fn help_is_given(rt: HostRuntime) -> Result<(), Fail> {
     for (words, parts) in HELP {
-        let outcome = call(&rt, words)?;
-        let text = std::str::from_utf8(outcome.output.as_slice())?;
-        let missing = missing_in(text, parts);
-        let is_told = outcome.status == 0 && outcome.errors.is_empty();
-        assert!(rt; is_told && missing.is_none(), "no {missing:?} in {words:?}");
+        expect_parts(&rt, words, parts)?;
     }
     Ok(())
 }
@@ -220,7 +309,7 @@ const OF_A_DOMAIN: &[Limit] = &[
 ];
 
 // A command line that asks for help, and the limits that the text tells.
-const LIMITS: &[(&[&str], &[Limit])] = &[
+const LIMITS: &[(Words, &[Limit])] = &[
     (&["smirun", "check", "--help"], OF_A_DOMAIN),
     (&["smirun", "print", "--help"], &[OF_A_TEXT]),
     (
@@ -247,13 +336,22 @@ fn untold_in(alloc: Global, text: &str, limits: &'static [Limit]) -> Result<Opti
     Ok(None)
 }
 
+fn expect_limits<R: Files + AllocGlobal + Input + Abort>(
+    rt: &R,
+    words: &[&str],
+    limits: &'static [Limit],
+) -> Result<(), Fail> {
+    let outcome = call(rt, words)?;
+    let text = std::str::from_utf8(outcome.output.as_slice())?;
+    let untold = untold_in(rt.alloc(), text, limits)?;
+    assert!(rt; untold.is_none(), "no {untold:?} in {words:?}");
+    Ok(())
+}
+
 #[test]
 fn help_tells_the_limits(rt: HostRuntime) -> Result<(), Fail> {
     for (words, limits) in LIMITS {
-        let outcome = call(&rt, words)?;
-        let text = std::str::from_utf8(outcome.output.as_slice())?;
-        let untold = untold_in(rt.alloc(), text, limits)?;
-        assert!(rt; untold.is_none(), "no {untold:?} in {words:?}");
+        expect_limits(&rt, words, limits)?;
     }
     Ok(())
 }
