@@ -6,8 +6,8 @@ use crate::domain_of::core_of;
 use crate::schedule_tests::written;
 use crate::supply_rows::CONFIGURE_READY;
 use crate::texts::SUPPLIES;
-use crate::transcript::{part_of, whole_of};
-use smi_core::{ScheduleFault, run_schedule};
+use crate::transcript::{Transcript, part_of, whole_of};
+use smi_core::{Core, ScheduleFault, run_schedule};
 use std::alloc::{AllocError, Global};
 use std::io::{Error, Read, Write};
 use std::test::Fail;
@@ -75,7 +75,9 @@ fn written_before(alloc: Global, text: &[u8], fails: bool) -> Option<(Vec<u8>, S
     let mut core = core_of(alloc, SUPPLIES)?;
     let mut reader = Ending { text, fails };
     let mut output = Vec::new(alloc);
-    match run_schedule(alloc, &mut core, &mut reader, &mut output) {
+    let ran = run_schedule(alloc, &mut core, &mut reader, &mut output);
+    drop(core);
+    match ran {
         Ok(()) => None,
         Err(fault) => Some((output, fault)),
     }
@@ -113,22 +115,33 @@ fn steps_made(alloc: Global, length: usize) -> Option<usize> {
     None
 }
 
-// Whether a writer that fails behind so many bytes is given those, and leaves the core behind the step
-// whose lines it cut.
-fn goes_on_behind_the_cut(alloc: Global, room: usize) -> Option<bool> {
-    let whole = whole_of(alloc, CONFIGURE_READY).ok()?;
-    let rest = part_of(alloc, CONFIGURE_READY, steps_made(alloc, room)?, usize::MAX).ok()?;
-    let mut core = core_of(alloc, SUPPLIES)?;
+// Whether a writer that fails behind so many bytes is given those.
+fn is_cut_at(alloc: Global, core: &mut Core, whole: &Transcript, room: usize) -> Option<bool> {
+    let expected = whole.output.as_bytes().get(..room)?;
     let mut reader = whole.schedule.as_bytes();
     let mut writer = OneByte {
         taken: Vec::new(alloc),
         good_calls: room,
     };
-    let ran = run_schedule(alloc, &mut core, &mut reader, &mut writer);
-    let is_cut = writer.taken.as_slice() == whole.output.as_bytes().get(..room)?;
-    let again = written(alloc, &mut core, rest.schedule.as_str())?;
-    let goes_on = again.as_slice() == rest.output.as_bytes();
-    Some(ran == Err(ScheduleFault::Write) && is_cut && goes_on)
+    let ran = run_schedule(alloc, core, &mut reader, &mut writer);
+    Some(ran == Err(ScheduleFault::Write) && writer.taken.as_slice() == expected)
+}
+
+// Whether a core writes what is told.
+fn goes_on(alloc: Global, core: &mut Core, told: &Transcript) -> Option<bool> {
+    let output = written(alloc, core, told.schedule.as_str())?;
+    Some(output.as_slice() == told.output.as_bytes())
+}
+
+// The same, and whether the writer leaves the core behind the step whose lines it cut.
+fn goes_on_behind_the_cut(alloc: Global, room: usize) -> Option<bool> {
+    let whole = whole_of(alloc, CONFIGURE_READY).ok()?;
+    let rest = part_of(alloc, CONFIGURE_READY, steps_made(alloc, room)?, usize::MAX).ok()?;
+    let mut core = core_of(alloc, SUPPLIES)?;
+    let is_cut = is_cut_at(alloc, &mut core, &whole, room);
+    let is_continued = goes_on(alloc, &mut core, &rest);
+    drop(core);
+    Some(is_cut == Some(true) && is_continued == Some(true))
 }
 
 #[test]

@@ -4,7 +4,7 @@ use crate::domain_of::{core_of, domain_of};
 use crate::schedule_tests::written;
 use smi_audit::audit::audit;
 use smi_audit::judgement::Judgement;
-use smi_core::{StepError, read_step};
+use smi_core::{Core, StepError, read_step};
 use sml_print::print;
 use sml_read::{ReadErrorKind, read};
 use std::alloc::Global;
@@ -31,14 +31,26 @@ fn checks(alloc: Global) -> Option<bool> {
     Some(domain.objects() == 1)
 }
 
+// Whether a core tells that nothing waits to be started.
+fn is_empty(alloc: Global, core: &mut Core) -> Option<bool> {
+    let step = read_step(alloc, b"start L").ok()??;
+    Some(matches!(core.step(&step), Err(StepError::Empty)))
+}
+
+// Whether a core writes what the lamp does.
+fn lights(alloc: Global, core: &mut Core) -> Option<bool> {
+    let output = written(alloc, core, "request @1 L LIGHT\nstart L\ngo L\n")?;
+    let told = b"accept @1 L 0 LIGHT\nstart L @1 0 LIGHT\nend L ON\n".as_slice();
+    Some(output.as_slice() == told)
+}
+
 // `Core::new` and `Core::step`, and `run_schedule`.
 fn steps_and_runs(alloc: Global) -> Option<bool> {
     let mut core = core_of(alloc, LAMP)?;
-    let step = read_step(alloc, b"start L").ok()??;
-    let is_empty = matches!(core.step(&step), Err(StepError::Empty));
-    let output = written(alloc, &mut core, "request @1 L LIGHT\nstart L\ngo L\n")?;
-    let told = b"accept @1 L 0 LIGHT\nstart L @1 0 LIGHT\nend L ON\n".as_slice();
-    Some(is_empty && output.as_slice() == told)
+    let is_empty = is_empty(alloc, &mut core);
+    let lights = lights(alloc, &mut core);
+    drop(core);
+    Some(is_empty == Some(true) && lights == Some(true))
 }
 
 // `smi_audit::audit`.
