@@ -119,12 +119,12 @@ pub invariant_of-self-in_default-take : goal.invariant_of-self-in_default-take
 invariant_of-self-in_default-take g c =
     let i = c.self.inside in
     let d = arc_value i.domain in
-    let none : c.take.result ≡ None = search rules in
+    let none : c.take.result ≡ None = assumption in
     let same : c.take.new.self ≡ i.mail = at_none _ none c.take.ensures.none in
     let hd : c.hold.new.self.domain ≡ d = ap (λ (v : LedgerView). v.domain) c.in-Ok-hold.ensures.ok.1 ∙ c.self.invariant.3 in
     let hj : i.ledger.journal ≡ c.hold.new.self.journal = sym (ap (λ (v : LedgerView). v.journal) c.in-Ok-hold.ensures.ok.1) in (
       subst (λ K. IsTied d K i.params.items (g.M.Mail.serves c.take.new.self) (g.M.Mail.taken c.take.new.self) (g.M.Mail.sent c.take.new.self)) hj
-      (subst (λ m. IsTied d i.ledger.journal i.params.items (g.M.Mail.serves m) (g.M.Mail.taken m) (g.M.Mail.sent m)) (sym same) c.self.invariant.0),
+          (subst (λ m. IsTied d i.ledger.journal i.params.items (g.M.Mail.serves m) (g.M.Mail.taken m) (g.M.Mail.sent m)) (sym same) c.self.invariant.0),
       subst (λ K. EachRuns d K i.params.items) hj c.self.invariant.1,
       subst (λ K. EachKept d K i.params.items i.kept.items) hj c.self.invariant.2,
       hd,
@@ -135,7 +135,7 @@ invariant_of-self-in_default-take g c =
 pub returns-in_default-take-clause-same : goal.returns-in_default-take-clause-same
 returns-in_default-take-clause-same g c =
     let i = c.self.inside in
-    let none : c.take.result ≡ None = search rules in
+    let none : c.take.result ≡ None = assumption in
     let same : c.take.new.self ≡ i.mail = at_none _ none c.take.ensures.none in
     let hj : c.hold.new.self.journal ≡ i.ledger.journal = ap (λ (v : LedgerView). v.journal) c.in-Ok-hold.ensures.ok.1 in
     unchanged (λ K m. record { domain = arc_value i.domain; most = i.most; journal = K; params = i.params.items; kept = i.kept.items; mail = m }) _ _ _ _ _ c.self.view_is hj same
@@ -144,13 +144,13 @@ pub returns-in_default-take-clause-all : goal.returns-in_default-take-clause-all
 returns-in_default-take-clause-all g c = λ is.
     let i = c.self.inside in
     let o = c.args.o in
-    let none : c.take.result ≡ None = search rules in
+    let none : c.take.result ≡ None = assumption in
     let whole : (s : Sender) → g.M.Mail.serves i.mail s ≡ true → from_sender s (g.M.Mail.taken i.mail o) ≡ g.M.Mail.sent i.mail s o = at_none _ none c.take.ensures.all in
     subst (λ (b : BoardView _). (s : Sender) → g.M.Mail.serves b.mail s ≡ true → from_sender s (starts_at o b.journal) ≡ g.M.Mail.sent b.mail s o) c.self.view_is (λ s served.
     ap (from_sender s) (sym (c.self.invariant.0.taken_is o)) ∙ whole s served)
 
 pub returns-in_default-take-clause-empty : goal.returns-in_default-take-clause-empty
 returns-in_default-take-clause-empty g c = λ is.
-    let none : c.take.result ≡ None = search rules in
+    let none : c.take.result ≡ None = assumption in
     let empty : IfSome (g.M.Mail.waiting c.self.inside.mail c.args.o) (λ w. w ≡ []) = at_none _ none c.take.ensures.empty in
     subst (λ (b : BoardView _). IfSome (g.M.Mail.waiting b.mail c.args.o) (λ w. w ≡ [])) c.self.view_is empty
