@@ -1,9 +1,7 @@
 //! Instructions that choose, and their conditions.
 
 use crate::example_domains::{CANONICAL, ONE_LINE};
-use crate::texts::{
-    Limit, Refusal, has_file, is, other_limit, other_refusal, refused, repeated, same_file,
-};
+use crate::texts::{has_file, is, refused, repeated, same_file};
 use sml_tree::block::{Block, Instr};
 use sml_tree::cond::{Cond, Scope};
 use sml_tree::file::{Item, SmlFile};
@@ -271,71 +269,10 @@ fn brackets_and_braces_leave_no_trace(rt: HostRuntime) {
     assert!(rt; same_file(rt.alloc(), empty, none) == Some(true));
 }
 
-const NO_CONDITIONS: &[Limit] = &[
-    (IF, b"", 1, END, Some((4, 28))),
-    (IF, b"A", 1, END, Some((4, 29))),
-    (IF, b"A in_state", 1, END, Some((4, 38))),
-    (IF, b"A in_state {}", 1, END, Some((4, 40))),
-    (IF, b"A in_state {S,}", 1, END, Some((4, 42))),
-    (IF, b"A in_state S B", 1, END, Some((4, 41))),
-    (IF, b"A in_state S and", 1, END, Some((4, 44))),
-    (IF, b"A in_state S or or", 1, END, Some((4, 44))),
-    (IF, b"all_in in_state S", 1, END, Some((4, 35))),
-    (IF, b"(A in_state S", 1, END, Some((4, 42))),
-    (IF, b"wait A in_state S", 1, END, Some((4, 28))),
-];
-
-const NO_IFS: &[Refusal] = &[
-    (
-        b"class:K state:S action:G if A in_state S then endif",
-        Some((4, 28)),
-    ),
-    (b"class:K state:S action:G else", Some((4, 25))),
-    (
-        b"class:K state:S action:G if(A in_state S)then else else endif",
-        Some((4, 51)),
-    ),
-];
-
-#[test]
-fn refuses_what_is_no_condition(rt: HostRuntime) {
-    assert!(rt; other_limit(rt.alloc(), NO_CONDITIONS) == None);
-    assert!(rt; other_refusal(rt.alloc(), NO_IFS) == None);
-}
-
-const LATER_WORDS: &[Limit] = &[
-    (b"class: ", b"wait", 1, b"", Some((4, 7))),
-    (b"class: ", b"insert", 1, b"", Some((4, 7))),
-    (b"class: ", b"remove", 1, b"", Some((4, 7))),
-    (b"class: ", b"in", 1, b"", Some((4, 7))),
-    (b"class: ", b"from", 1, b"", Some((4, 7))),
-    (ACTION, b"wait", 1, b"", Some((4, 25))),
-    (ACTION, b"insert", 1, b"", Some((4, 25))),
-    (ACTION, b"remove", 1, b"", Some((4, 25))),
-    (ACTION, b"in", 1, b"", Some((4, 25))),
-    (ACTION, b"from", 1, b"", Some((4, 25))),
-];
-
-#[test]
-fn later_words_are_reserved(rt: HostRuntime) {
-    assert!(rt; other_limit(rt.alloc(), LATER_WORDS) == None);
-}
-
 const OPEN: &[u8] = b"if(A in_state S)then ";
 
 const SIXTEEN: &[u8] =
     b"endif endif endif endif endif endif endif endif endif endif endif endif endif endif endif endif ";
-
-const SEVENTEEN: &[u8] =
-    b"endif endif endif endif endif endif endif endif endif endif endif endif endif endif endif endif endif ";
-
-const ONE_MORE: &[u8] =
-    b"endif endif endif endif endif endif endif endif endif endif endif endif endif endif endif endif if(A in_state S)then endif";
-
-const IFS: &[Limit] = &[
-    (ACTION, OPEN, 17, SEVENTEEN, Some((5, 25 + 16 * 21))),
-    (ACTION, OPEN, 16, ONE_MORE, None),
-];
 
 /// Whether so many `if`s stand in one another in the first instruction of the first action.
 pub fn is_deep(file: &SmlFile<Global>, depth: u32) -> bool {
@@ -355,5 +292,4 @@ fn are_sixteen(alloc: Global) -> bool {
 #[test]
 fn sixteen_ifs_are_read(rt: HostRuntime) {
     assert!(rt; are_sixteen(rt.alloc()));
-    assert!(rt; other_limit(rt.alloc(), IFS) == None);
 }

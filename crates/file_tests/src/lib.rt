@@ -36,14 +36,6 @@ mod example_domains;
 #[cfg(test)]
 mod facts;
 #[cfg(test)]
-mod fault_domains;
-#[cfg(test)]
-mod fault_edges;
-#[cfg(test)]
-mod fault_kinds;
-#[cfg(test)]
-mod fault_pairs;
-#[cfg(test)]
 mod full_heaps;
 #[cfg(test)]
 mod limits;
@@ -59,7 +51,5 @@ mod strings;
 mod text;
 #[cfg(test)]
 mod texts;
-#[cfg(test)]
-mod told;
 #[cfg(test)]
 mod tree;

@@ -1,7 +1,7 @@
-//! Texts that are read, and texts that are refused.
+//! Texts that are read.
 
 use crate::example_domains::FIRST;
-use crate::texts::{Refusal, has_file, is, other_refusal};
+use crate::texts::{has_file, is};
 use sml_read::{ReadError, ReadErrorKind};
 use sml_tree::block::Instr;
 use sml_tree::file::{
@@ -102,13 +102,10 @@ fn has_odd_object(file: &SmlFile<Global>) -> bool {
     }
 }
 
-const NO_NAMES: &[Refusal] = &[(b"object: CLASS is_of_class C", Some((4, 8)))];
-
 #[test]
 fn words_count_behind_a_slash_alone(rt: HostRuntime) {
     let text: &[u8] = b"object: ASSOCIATED is_of_class dead_state";
     assert!(rt; has_file(rt.alloc(), text, has_odd_object));
-    assert!(rt; other_refusal(rt.alloc(), NO_NAMES) == None);
 }
 
 // Whether a state is marked so.
@@ -144,21 +141,11 @@ fn has_marks(file: &SmlFile<Global>) -> bool {
     }
 }
 
-const NO_MARKS: &[Refusal] = &[
-    (
-        b"class:C state:S /initial_state /initial_state",
-        Some((4, 32)),
-    ),
-    (b"class:C state:S /dead_state/initial_state/", Some((4, 41))),
-    (b"class:C /dead_state", Some((4, 9))),
-];
-
 #[test]
 fn reads_marks_in_either_order(rt: HostRuntime) {
     let text: &[u8] =
         b"class: C / associated state: A /dead_state/initial_state state: B /initial_state state: D /dead_state state: E";
     assert!(rt; has_file(rt.alloc(), text, has_marks));
-    assert!(rt; other_refusal(rt.alloc(), NO_MARKS) == None);
 }
 
 fn is_n(param: &ClassParam<Global>) -> bool {
@@ -278,8 +265,6 @@ fn has_sets(file: &SmlFile<Global>) -> bool {
     }
 }
 
-const NO_SETS: &[Refusal] = &[(b"objectset: E { A, }", Some((4, 18)))];
-
 #[test]
 fn reads_sets(rt: HostRuntime) {
     assert!(rt;
@@ -289,23 +274,6 @@ fn reads_sets(rt: HostRuntime) {
             has_sets
         )
     );
-    assert!(rt; other_refusal(rt.alloc(), NO_SETS) == None);
-}
-
-const REFUSED: &[Refusal] = &[
-    (b"class: A\xC4 9A", Some((2, 8))),
-    (b"class: 9A", Some((3, 7))),
-    (b"class: \"abc", Some((3, 7))),
-    (b"object: class: \"abc", Some((3, 15))),
-    (b"class", Some((4, 5))),
-    (b"class: A state", Some((4, 14))),
-    (b"class: class", Some((4, 7))),
-    (b"class: A object", Some((4, 15))),
-];
-
-#[test]
-fn refuses_by_kind_and_place(rt: HostRuntime) {
-    assert!(rt; other_refusal(rt.alloc(), REFUSED) == None);
 }
 
 // Whether an error is told so.

@@ -5,18 +5,6 @@ use sml_tree::file::SmlFile;
 use sml_tree::name::Name;
 use std::alloc::{AllocError, Allocator, Global};
 
-/// A text, and how it is refused.
-pub type Refusal = (&'static [u8], Option<(u8, usize)>);
-
-/// A text of three parts, the one in the middle so many times, and how it is refused.
-pub type Limit = (
-    &'static [u8],
-    &'static [u8],
-    usize,
-    &'static [u8],
-    Option<(u8, usize)>,
-);
-
 /// Whether a name is this text.
 pub fn is(name: &Name, text: &[u8]) -> bool {
     name.as_bytes() == text
@@ -42,37 +30,6 @@ pub fn repeated(
     }
     text.extend_from_slice(end)?;
     Ok(text)
-}
-
-fn is_refused_so(alloc: Global, (text, answer): Refusal) -> bool {
-    refused(alloc, text) == answer
-}
-
-/// The first row whose text is not refused as it says.
-pub fn other_refusal(alloc: Global, rows: &[Refusal]) -> Option<usize> {
-    for (place, row) in rows.iter().enumerate() {
-        if !is_refused_so(alloc, *row) {
-            return Some(place);
-        }
-    }
-    None
-}
-
-fn is_limited_so(alloc: Global, (front, middle, count, end, answer): Limit) -> bool {
-    match repeated(alloc, front, middle, count, end) {
-        Ok(text) => refused(alloc, &text) == answer,
-        Err(_) => false,
-    }
-}
-
-/// The first row whose text is not refused as it says.
-pub fn other_limit(alloc: Global, rows: &[Limit]) -> Option<usize> {
-    for (place, row) in rows.iter().enumerate() {
-        if !is_limited_so(alloc, *row) {
-            return Some(place);
-        }
-    }
-    None
 }
 
 /// Whether a text is read, and this is so of its file.

@@ -11,7 +11,7 @@ use smi_commands::{Asked, AuditOptions, MAX_CAPACITY, MAX_STARTS, STANDARD_INPUT
 use std::alloc::{AllocError, Global};
 
 // The version of the program, and the toolchain that it is proved with: what `--version` gives.
-const VERSION: &str = "0.1.0 (proved with rattle-kit-13b logic dac8208d650f15bf)";
+const VERSION: &str = "0.1.0 (proved with rattle-kit-13f logic dac8208d650f15bf)";
 
 /// Reads the words of a command line, the program's name first. A request for help or for the version is an
 /// `Err` too, and the error tells which it is.

@@ -1,0 +1,15 @@
+//! Schedules in a core, whole and cut short, and the first calls of the libraries.
+#![tactic(auto)]
+
+#[cfg(test)]
+mod domain_of;
+#[cfg(test)]
+mod fault_tests;
+#[cfg(test)]
+mod first_calls;
+#[cfg(test)]
+mod schedule_tests;
+#[cfg(test)]
+mod texts;
+#[cfg(test)]
+mod transcript;

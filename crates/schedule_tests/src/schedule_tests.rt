@@ -1,0 +1,109 @@
+//! Schedules and lists of steps in a core, and what it is left with.
+
+use crate::domain_of::{core_of, domain_of};
+use crate::texts::{COUNTER, PARAMETERS, SUPPLIES};
+use crate::transcript::whole_of;
+use smi_core::{Answer, Core, CoreError, Step, StepError, read_step, run, run_schedule};
+use sml_domain::value::Value;
+use sml_tree::name::Name;
+use std::alloc::Global;
+
+/// What a core writes for a schedule, or none where that fails.
+pub fn written(alloc: Global, core: &mut Core, schedule: &str) -> Option<Vec<u8>> {
+    let mut reader = schedule.as_bytes();
+    let mut output = Vec::new(alloc);
+    run_schedule(alloc, core, &mut reader, &mut output).ok()?;
+    Some(output)
+}
+
+// Whether the parameters of an object are a number and a text.
+fn has_parameters(core: &Core, object: &Name, number: i64, text: &[u8]) -> bool {
+    let Some(o) = core.domain().object(object) else {
+        return false;
+    };
+    match core.params(o) {
+        [Value::Int(n), Value::Text(t)] => *n == number && t.as_bytes() == text,
+        _ => false,
+    }
+}
+
+// Whether what an action set is forgotten where a kill cuts it.
+fn forgets_what_was_cut(alloc: Global) -> Option<bool> {
+    let mut core = core_of(alloc, COUNTER)?;
+    let told = whole_of(alloc, PARAMETERS).ok()?;
+    written(alloc, &mut core, told.schedule.as_str())?;
+    Some(has_parameters(&core, &Name::from_word(b"C"), 5, b"a"))
+}
+
+// The steps of a run that is killed twice while its supplies are asked to switch on.
+const KILLED: &[&[u8]] = &[
+    b"request @1 RUN CONFIGURE",
+    b"start RUN",
+    b"go RUN",
+    b"kill RUN @1",
+    b"kill RUN @2",
+];
+
+// The steps of lines, if each is one.
+fn steps_of(alloc: Global, lines: &[&[u8]]) -> Option<Vec<Step>> {
+    let mut steps = Vec::new(alloc);
+    for line in lines {
+        let step = read_step(alloc, line).ok()??;
+        steps.push(step).ok()?;
+    }
+    Some(steps)
+}
+
+// Whether these are the answers to the run that is killed twice.
+fn are_of_killed(answers: &[Result<Answer, StepError>]) -> bool {
+    match answers {
+        [
+            Ok(Answer::Accepted { number: 0, .. }),
+            ..,
+            Err(StepError::AlreadyDead(3)),
+        ] => answers.len() == KILLED.len(),
+        _ => false,
+    }
+}
+
+// Whether a list of steps is answered in order.
+fn answers_in_order(alloc: Global) -> Option<bool> {
+    let domain = domain_of(alloc, SUPPLIES)?;
+    let steps = steps_of(alloc, KILLED)?;
+    let (core, answers) = run(alloc, domain, 16, 1_000_000, steps.as_slice()).ok()?;
+    Some(core.journal().len() == 4 && are_of_killed(answers.as_slice()))
+}
+
+#[test]
+fn parameters_and_lists_of_steps(rt: HostRuntime) {
+    assert!(rt; forgets_what_was_cut(rt.alloc()) == Some(true));
+    assert!(rt; answers_in_order(rt.alloc()) == Some(true));
+}
+
+// A capacity, how many starts there may be, and whether there is a core with these numbers.
+const NUMBERS: &[(usize, usize, bool)] = &[
+    (0, 1, false),
+    (1025, 1, false),
+    (1, 0, false),
+    (1, 1_000_001, false),
+    (1, 1, true),
+    (1024, 1_000_000, true),
+];
+
+// Whether there is a core with these numbers, or else they are told to be out of range.
+fn has_core(alloc: Global, capacity: usize, max_starts: usize) -> Option<bool> {
+    let domain = domain_of(alloc, SUPPLIES)?;
+    match Core::new(alloc, domain, capacity, max_starts) {
+        Ok(_) => Some(true),
+        Err(CoreError::BadConfig) => Some(false),
+        Err(CoreError::Memory) => None,
+    }
+}
+
+#[test]
+fn numbers_in_and_out_of_range(rt: HostRuntime) {
+    for (capacity, max_starts, expected) in NUMBERS {
+        let given = has_core(rt.alloc(), *capacity, *max_starts);
+        assert!(rt; given == Some(*expected), "{capacity}, {max_starts}");
+    }
+}

@@ -1,0 +1,107 @@
+//! Domains, and schedules that are told step by step: behind four blanks stand the lines that a step writes.
+
+/// A run and its two high voltage supplies, which are equipment.
+pub const SUPPLIES: &str = "\
+class: SUPPLY /associated
+  state: OFF /initial_state
+    action: SWITCH_ON
+  state: ON
+    action: SWITCH_OFF
+class: RUN_TYPE
+  state: NOT_READY /initial_state
+    action: CONFIGURE
+      do SWITCH_ON all_in HV
+      if ( all_in HV in_state ON ) then
+        move_to READY
+      endif
+      move_to ERROR
+  state: READY
+  state: ERROR
+object: HV1 is_of_class SUPPLY
+object: HV2 is_of_class SUPPLY
+object: RUN is_of_class RUN_TYPE
+objectset: HV { HV1, HV2 }
+";
+
+/// A counter with two parameters, and the equipment that is sent them.
+pub const COUNTER: &str = "\
+class: SINK /associated
+  state: READY
+    action: TAKE (int V, string W = \"none\")
+class: COUNTER
+  parameters: int N = 3, string P = \"x\"
+  state: IDLE
+    action: PUT (int T = 5, string M)
+      set N = T
+      set P = M
+      do TAKE (W = P, V = N) OUT
+    action: SHOW
+      do TAKE (V = N) OUT
+object: OUT is_of_class SINK
+object: C is_of_class COUNTER
+";
+
+/// The run is configured, and waits for both of its supplies.
+pub const CONFIGURE_READY: &str = "\
+request @1 RUN CONFIGURE
+    accept @1 RUN 0 CONFIGURE
+start RUN
+    start RUN @1 0 CONFIGURE
+go RUN
+    post RUN HV1 0 SWITCH_ON
+    post RUN HV2 0 SWITCH_ON
+go RUN
+    wait RUN
+go RUN
+    still RUN
+start HV1
+    start HV1 RUN 0 SWITCH_ON
+answer HV1 ON
+    end HV1 ON
+go RUN
+    still RUN
+start HV2
+    start HV2 RUN 0 SWITCH_ON
+answer HV2 ON
+    end HV2 ON
+go RUN
+    seen RUN HV1=ON HV2=ON
+go RUN
+    end RUN READY
+";
+
+/// A counter is asked for its actions, and killed in the middle of the last.
+pub const PARAMETERS: &str = "\
+request @1 C PUT (M = \"a\")
+    accept @1 C 0 PUT (T = 5, M = \"a\")
+start C
+    start C @1 0 PUT (T = 5, M = \"a\")
+go C
+    set C N=5
+go C
+    set C P=\"a\"
+go C
+    post C OUT 0 TAKE (V = 5, W = \"a\")
+go C
+    end C IDLE
+request @1 C SHOW
+    accept @1 C 1 SHOW
+start C
+    start C @1 1 SHOW
+go C
+    post C OUT 1 TAKE (V = 5, W = \"none\")
+go C
+    end C IDLE
+request @1 C PUT (T = 1)
+    refused BadArgs
+request @1 C PUT (M = \"b\", T = 9223372036854775808)
+    refused BadLine
+request @1 C PUT (M = \"b\", T = -9223372036854775808)
+    accept @1 C 2 PUT (T = -9223372036854775808, M = \"b\")
+start C
+    start C @1 2 PUT (T = -9223372036854775808, M = \"b\")
+go C
+    set C N=-9223372036854775808
+kill C @1
+    kill C @1
+";

@@ -1,0 +1,129 @@
+//! The lines of a script: their first byte tells what they do.
+
+use crate::calls::{ask, call, call_in_vain, call_with_no_memory, tell_no_words};
+use crate::limits::tell_untold;
+use crate::place::Place;
+use std::alloc::AllocError;
+use std::fs::Files;
+use std::io::{ErrorKind, Write};
+use std::{fs, io, str};
+
+/// Does what a line says.
+pub fn perform<R: Files + AllocGlobal>(rt: &R, line: &str, place: &mut Place) -> io::Result<()> {
+    let (mark, rest) = line.split_once(' ').unwrap_or((line, ""));
+    match mark {
+        // adds the rest to the text at hand, as a line
+        "|" => Ok(place.add(rest)?),
+        // adds a text so many times, behind what was added last: COUNT TEXT
+        "+" => add_times(rest, place),
+        // performs the rest as a command line
+        "$" => call(rt, rest, place),
+        // the same, where only the status and the errors are told
+        "%" => ask(rt, rest, place),
+        // tells whether the last output has the rest
+        "?" => tell_part(rest, place),
+        // performs a command line with outputs that cannot be written
+        "&" => call_in_vain(rt, rest, place),
+        // performs a command line where there is no memory
+        "~" => call_with_no_memory(rt.alloc(), rest, place),
+        // does something with a file
+        "@" => handle(rt, rest, place),
+        _ => Ok(()),
+    }
+}
+
+fn tell_part(part: &str, place: &mut Place) -> io::Result<()> {
+    let text = str::from_utf8(place.output.as_slice()).unwrap_or("");
+    let answer = if text.contains(part) { "yes" } else { "no" };
+    place.tell_line("  ", answer)?;
+    Ok(())
+}
+
+// Does something with a file, or with what a command line told of help.
+fn handle<R: Files + AllocGlobal>(rt: &R, line: &str, place: &mut Place) -> io::Result<()> {
+    let (verb, rest) = line.split_once(' ').unwrap_or((line, ""));
+    match verb {
+        // writes the text at hand as a file
+        "write" => write(rt, rest, place),
+        // makes a file of one byte many times: PATH BYTE COUNT
+        "fill" => fill(rt, rest),
+        // adds a line to the text at hand, filled with blanks: LENGTH LINE
+        "filled" => add_filled(rest, place),
+        "folder" => fs::create_dir(rt, rest),
+        "remove" => fs::remove_file(rt, rest),
+        "show" => show(rt, rest, place),
+        // tells what is said of words of a command line that could not be had
+        "no-words" => tell_no_words(rt.alloc(), ErrorKind::InvalidData, place),
+        "no-memory" => tell_no_words(rt.alloc(), ErrorKind::OutOfMemory, place),
+        // tells the limits that the last output does not: NAME
+        "limits" => Ok(tell_untold(rt.alloc(), rest, place)?),
+        _ => Err(io::Error::from(ErrorKind::InvalidInput)),
+    }
+}
+
+fn write<R: Files + AllocGlobal>(rt: &R, path: &str, place: &mut Place) -> io::Result<()> {
+    place.is_open = false;
+    fs::write(rt, path, place.text.as_slice())
+}
+
+fn number(word: &str) -> io::Result<usize> {
+    match word.parse::<usize>() {
+        Ok(number) => Ok(number),
+        Err(_) => Err(io::Error::from(ErrorKind::InvalidInput)),
+    }
+}
+
+fn byte_of(word: &str) -> io::Result<u8> {
+    match word.parse::<u8>() {
+        Ok(byte) => Ok(byte),
+        Err(_) => Err(io::Error::from(ErrorKind::InvalidInput)),
+    }
+}
+
+fn fill<R: Files + AllocGlobal>(rt: &R, words: &str) -> io::Result<()> {
+    let (path, rest) = words.split_once(' ').unwrap_or((words, ""));
+    let (byte, count) = rest.split_once(' ').unwrap_or((rest, ""));
+    let block = [byte_of(byte)?; 4_096];
+    let count = number(count)?;
+    let mut file = fs::create(rt, path)?;
+    for _ in 0..count / 4_096 {
+        file.write_all(&block)?;
+    }
+    match block.get(..count % 4_096) {
+        Some(rest) => file.write_all(rest),
+        None => Ok(()),
+    }
+}
+
+fn add_times(words: &str, place: &mut Place) -> io::Result<()> {
+    let (count, text) = words.split_once(' ').unwrap_or((words, ""));
+    for _ in 0..number(count)? {
+        place.text.extend_from_slice(text.as_bytes())?;
+    }
+    Ok(())
+}
+
+fn add_filled(words: &str, place: &mut Place) -> io::Result<()> {
+    let (length, line) = words.split_once(' ').unwrap_or((words, ""));
+    let length = number(length)?;
+    place.add(line)?;
+    Ok(add_blanks(place, length.saturating_sub(line.len()))?)
+}
+
+fn add_blanks(place: &mut Place, count: usize) -> Result<(), AllocError> {
+    for _ in 0..count {
+        place.text.push(b' ')?;
+    }
+    Ok(())
+}
+
+// Tells the text of a file, or that there is none.
+fn show<R: Files + AllocGlobal>(rt: &R, path: &str, place: &mut Place) -> io::Result<()> {
+    if !fs::exists(rt, path)? {
+        place.tell_line("  ", "(no such file)")?;
+        return Ok(());
+    }
+    place.output = fs::read(rt, path)?;
+    place.tell_output()?;
+    Ok(())
+}

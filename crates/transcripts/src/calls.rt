@@ -1,0 +1,99 @@
+//! Calls of command lines.
+
+use crate::place::Place;
+use crate::writers::{Fails, FailsLate, NoMemory, TakesNothing};
+use smi_commands::refuse_words;
+use smi_words::drive::drive_from;
+use std::alloc::{AllocError, Global};
+use std::fs::Files;
+use std::io;
+use std::io::Write;
+
+// The words of a line, none if it is empty. (`""` is the word of no bytes.)
+fn words_of(alloc: Global, line: &str) -> Result<Vec<String>, AllocError> {
+    let mut words = Vec::new(alloc);
+    if line.is_empty() {
+        return Ok(words);
+    }
+    for word in line.split(' ') {
+        let word = if word == "\"\"" { "" } else { word };
+        words.push(String::from_str(alloc, word)?)?;
+    }
+    Ok(words)
+}
+
+/// Performs a command line, whose standard input is the text at hand, and gives its status.
+fn run<R: Files + AllocGlobal, W: Write>(
+    rt: &R,
+    line: &str,
+    text: &[u8],
+    output: &mut W,
+    errors: &mut Vec<u8>,
+) -> Result<u8, AllocError> {
+    let words = words_of(rt.alloc(), line)?;
+    Ok(drive_from(rt, words.as_slice(), &mut &*text, output, errors))
+}
+
+// Tells a status, and what was written for errors. (What is said of wrong words is the parser's own, and no part of
+// a format.)
+fn tell(alloc: Global, place: &mut Place, status: u8, errors: &[u8]) -> io::Result<()> {
+    if status != 2 {
+        place.tell_errors(errors)?;
+    } else if !errors.is_empty() {
+        place.tell_errors(b"(wrong words)\n")?;
+    }
+    let told = format!(in alloc; "{status}")?;
+    place.tell_line("  = ", told.as_str())?;
+    Ok(())
+}
+
+/// Performs a command line and tells its status and its errors. Its output is kept.
+pub fn ask<R: Files + AllocGlobal>(rt: &R, line: &str, place: &mut Place) -> io::Result<()> {
+    place.is_open = false;
+    let mut output = Vec::new(rt.alloc());
+    let mut errors = Vec::new(rt.alloc());
+    let status = run(rt, line, place.text.as_slice(), &mut output, &mut errors)?;
+    place.output = output;
+    tell(rt.alloc(), place, status, errors.as_slice())
+}
+
+/// Performs a command line and tells its output too.
+pub fn call<R: Files + AllocGlobal>(rt: &R, line: &str, place: &mut Place) -> io::Result<()> {
+    ask(rt, line, place)?;
+    place.tell_output()?;
+    Ok(())
+}
+
+fn call_into<R: Files + AllocGlobal, W: Write>(
+    rt: &R,
+    line: &str,
+    place: &mut Place,
+    output: &mut W,
+) -> io::Result<()> {
+    let mut errors = Vec::new(rt.alloc());
+    let status = run(rt, line, place.text.as_slice(), output, &mut errors)?;
+    tell(rt.alloc(), place, status, errors.as_slice())
+}
+
+/// Performs a command line three times, with outputs that cannot be written.
+pub fn call_in_vain<R: Files + AllocGlobal>(
+    rt: &R,
+    line: &str,
+    place: &mut Place,
+) -> io::Result<()> {
+    call_into(rt, line, place, &mut Fails)?;
+    call_into(rt, line, place, &mut TakesNothing)?;
+    call_into(rt, line, place, &mut FailsLate)
+}
+
+/// Performs a command line where there is no memory to read a file.
+pub fn call_with_no_memory(alloc: Global, line: &str, place: &mut Place) -> io::Result<()> {
+    call(&(NoMemory, alloc), line, place)
+}
+
+/// Tells what is said of the words of a command line that could not be had, for want of memory or else.
+pub fn tell_no_words(alloc: Global, kind: io::ErrorKind, place: &mut Place) -> io::Result<()> {
+    let mut errors = Vec::new(alloc);
+    let status = refuse_words(&io::Error::from(kind), &mut errors);
+    tell(alloc, place, status, errors.as_slice())
+}
