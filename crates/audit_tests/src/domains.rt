@@ -13,8 +13,6 @@ pub enum Setting {
     Empty,
     /// A control and a supply, as in the help of `step`.
     Control,
-    /// An object that notes its number, which it sets before and behind, and asks a set without members.
-    Notes,
     /// The supplies with what switches them on, the counter with its sink, the two that ask one another, and
     /// a watch that switches off one supply and asks the other.
     Plant,
@@ -28,7 +26,6 @@ pub fn text_of(setting: Setting) -> &'static [u8] {
         Setting::Pair => PAIR,
         Setting::Empty => EMPTY,
         Setting::Control => CONTROL,
-        Setting::Notes => NOTES,
         Setting::Plant => PLANT,
     }
 }
@@ -116,23 +113,6 @@ class: CONTROL
 object: HV is_of_class SUPPLY
 object: RUN is_of_class CONTROL
 objectset: SUPPLIES { HV }
-";
-
-const NOTES: &[u8] = b"class: K
-  parameters: int N = 1
-  state: S
-    action: GO
-      set N = 2
-      do GO all_in E
-      do NOTE (V = N) X
-      set N = 3
-      terminate_action /state=T
-    action: NOTE (int V)
-  state: T
-    action: GO
-      do NOTE (V = N) X
-object: X is_of_class K
-objectset: E { }
 ";
 
 const PLANT: &[u8] = b"class: SUPPLY /associated

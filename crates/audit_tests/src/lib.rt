@@ -1,12 +1,11 @@
-//! What the judge says of journals that were written by hand, and what is said to people.
+//! What the judge says of a journal that is changed line by line, and what is said to people. (Other journals are rows
+//! of `transcripts`.)
 #![tactic(auto)]
 
 #[cfg(test)]
 mod changed;
 #[cfg(test)]
 mod domains;
-#[cfg(test)]
-mod ends;
 #[cfg(test)]
 mod exchanged;
 #[cfg(test)]
@@ -16,12 +15,4 @@ mod explained_rows;
 #[cfg(test)]
 mod judged;
 #[cfg(test)]
-mod posts;
-#[cfg(test)]
-mod reads;
-#[cfg(test)]
 mod standard;
-#[cfg(test)]
-mod starts;
-#[cfg(test)]
-mod values;
