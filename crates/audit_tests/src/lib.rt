@@ -13,6 +13,8 @@ mod explained;
 #[cfg(test)]
 mod explained_rows;
 #[cfg(test)]
+mod first_calls;
+#[cfg(test)]
 mod judged;
 #[cfg(test)]
 mod standard;

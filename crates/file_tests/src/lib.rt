@@ -36,6 +36,8 @@ mod example_domains;
 #[cfg(test)]
 mod facts;
 #[cfg(test)]
+mod first_calls;
+#[cfg(test)]
 mod full_heaps;
 #[cfg(test)]
 mod limits;

@@ -1,13 +1,12 @@
-//! Files that are printed, and read back.
+//! Files that are printed, to writers that fail too. (Which text is printed are rows of `transcripts`.)
 
-use crate::example_domains::{CANONICAL, COUNTER, EMPTY_SET, FIRST, OWN_SET, PAIR, SUPPLIES};
+use crate::example_domains::CANONICAL;
 use crate::text::one_byte_writer;
-use crate::texts::{has_file, repeated, same_file};
+use crate::texts::has_file;
 use sml_print::{PrintFault, print, write_to};
-use sml_read::read;
 use sml_tree::file::{Group, Item, Object, SmlFile};
 use sml_tree::name::Name;
-use std::alloc::{AllocError, Global};
+use std::alloc::Global;
 use std::test::Fail;
 
 // A file of one object and one set.
@@ -51,132 +50,6 @@ fn is_written(alloc: Global, file: &SmlFile<Global>) -> bool {
 fn writes_what_is_printed(rt: HostRuntime) -> Result<(), Fail> {
     assert!(rt; is_written(rt.alloc(), &sample(rt.alloc())?));
     Ok(())
-}
-
-// The canonical text of what a text says, or none where it is not read or not printed.
-fn printed(alloc: Global, text: &[u8]) -> Option<Vec<u8>> {
-    let file = read(alloc, text);
-    let printed = match &file {
-        Ok(file) => print(alloc, file).ok(),
-        Err(_) => None,
-    };
-    drop(file);
-    printed
-}
-
-// Whether a text is printed so.
-fn is_printed(alloc: Global, text: &[u8], canonical: &[u8]) -> bool {
-    match &printed(alloc, text) {
-        Some(printed) => printed.as_slice() == canonical,
-        None => false,
-    }
-}
-
-// Whether a text is printed as it stands, and the printed text is read as the same file.
-fn is_read_back(alloc: Global, text: &[u8]) -> bool {
-    match &printed(alloc, text) {
-        Some(printed) => printed.as_slice() == text
-            && same_file(alloc, printed, text) == Some(true),
-        None => false,
-    }
-}
-
-const DOMAINS: &[&[u8]] = &[SUPPLIES, COUNTER, FIRST, PAIR, EMPTY_SET, OWN_SET];
-
-#[test]
-fn domains_are_read_back(rt: HostRuntime) {
-    for (i, text) in DOMAINS.iter().enumerate() {
-        assert!(rt; is_read_back(rt.alloc(), text), "at {i}");
-    }
-}
-
-// A text with one condition.
-fn with_condition(alloc: Global, condition: &str) -> Result<Vec<u8>, AllocError> {
-    repeated(
-        alloc,
-        b"class: K\n  state: S\n    action: G\n      if ( ",
-        condition.as_bytes(),
-        1,
-        b" ) then\n      endif\n",
-    )
-}
-
-// Whether a text is printed as the text with this condition.
-fn is_printed_with(alloc: Global, text: &[u8], canonical: &str) -> bool {
-    match with_condition(alloc, canonical) {
-        Ok(wanted) => is_printed(alloc, text, &wanted),
-        Err(_) => false,
-    }
-}
-
-// Whether a condition is printed so, and what is printed is printed as it stands.
-fn is_canonical(alloc: Global, condition: &str, canonical: &str) -> bool {
-    match with_condition(alloc, condition) {
-        Ok(text) => is_printed_with(alloc, &text, canonical),
-        Err(_) => false,
-    }
-}
-
-const CONDITIONS: &[(&str, &str)] = &[
-    (
-        "((A in_state S) and (B in_state S)) and C in_state S",
-        "A in_state S and B in_state S and C in_state S",
-    ),
-    (
-        "A in_state S and (B in_state S and C in_state S)",
-        "A in_state S and ( B in_state S and C in_state S )",
-    ),
-    (
-        "(A in_state S or B in_state S) or C in_state S",
-        "A in_state S or B in_state S or C in_state S",
-    ),
-    (
-        "A in_state S or (B in_state S or C in_state S)",
-        "A in_state S or ( B in_state S or C in_state S )",
-    ),
-    (
-        "(A in_state S or B in_state S) and C in_state S",
-        "( A in_state S or B in_state S ) and C in_state S",
-    ),
-    (
-        "A in_state S and (B in_state S or C in_state S)",
-        "A in_state S and ( B in_state S or C in_state S )",
-    ),
-    (
-        "(A in_state S and B in_state S) or C in_state S",
-        "A in_state S and B in_state S or C in_state S",
-    ),
-    (
-        "A in_state S or (B in_state S and C in_state S)",
-        "A in_state S or B in_state S and C in_state S",
-    ),
-    (
-        "not (A in_state S and B in_state S)",
-        "not ( A in_state S and B in_state S )",
-    ),
-    (
-        "not (A in_state S or B in_state S)",
-        "not ( A in_state S or B in_state S )",
-    ),
-    ("not (not (A in_state S))", "not not A in_state S"),
-    (
-        "(not A in_state S) and (not B in_state S)",
-        "not A in_state S and not B in_state S",
-    ),
-];
-
-#[test]
-fn brackets_stand_where_they_are_needed(rt: HostRuntime) {
-    for (condition, canonical) in CONDITIONS {
-        assert!(rt;
-            is_canonical(rt.alloc(), condition, canonical),
-            "{condition}"
-        );
-        assert!(rt;
-            is_canonical(rt.alloc(), canonical, canonical),
-            "{canonical}"
-        );
-    }
 }
 
 // What a writer that is good for so many calls gets and is told must be so.

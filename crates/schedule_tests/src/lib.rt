@@ -1,4 +1,4 @@
-//! Schedules in a core, whole and cut short, and the first calls of the libraries.
+//! Schedules in a core, whole and cut short, and a core's first calls.
 #![tactic(auto)]
 
 #[cfg(test)]

@@ -39,7 +39,7 @@ fn judged(alloc: Global, domain: Arc<Domain>, entries: &[Entry]) -> Result<Judge
 ///
 /// # Example
 ///
-/// `schedule_tests` has it as `first_calls::judges`; L is a lamp that is off:
+/// `audit_tests` has it as `first_calls::judges`; L is a lamp that is off:
 ///
 /// ```
 /// let journal = b"smi-journal 1\nstart L @1 0 LIGHT\nend L ON\n";

@@ -27,7 +27,7 @@ use std::alloc::{Allocator, Global};
 ///
 /// # Example
 ///
-/// `schedule_tests` has it as `first_calls::checks`:
+/// `file_tests` has it as `first_calls::checks`:
 ///
 /// ```
 /// laws_of_read_files();   // what was read has the strings that `check` asks for

@@ -47,7 +47,7 @@ pub fn write_to<A: Allocator + Clone, W: Sink>(
 ///
 /// The error is want of memory for the text. The time grows with the length of the text.
 ///
-/// `schedule_tests` has this example as `first_calls::reads_and_prints`:
+/// `file_tests` has this example as `first_calls::reads_and_prints`:
 ///
 /// ```
 /// let file = read(alloc, b"class:lamp state:off")?;

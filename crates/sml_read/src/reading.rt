@@ -71,7 +71,7 @@ fn error_of(stop: Stop, length: usize) -> ReadError
 /// over the whole text; these three take no memory. Where nothing is read nothing stays allocated. The
 /// time grows with the length of the text.
 ///
-/// `schedule_tests` has this example as `first_calls::refuses`:
+/// `file_tests` has this example as `first_calls::refuses`:
 ///
 /// ```
 /// let file = read(alloc, b"class: LAMP state: OFF")?;
