@@ -1,5 +1,5 @@
 -- What is read of an `if`, by the tokens and parts that were read of it.
-use Rattle.std.proofs.Common.{◌≡◌, ◌≤◌, ◌+◌, ℕ, Option, map, List, [], ◌∷◌, refl, ap, ◌∙◌, length, nat_lt, true, false, Result, Ok, Err, OnOk, arith}
+use Rattle.std.proofs.Common.{◌≡◌, ◌≤◌, ◌+◌, ℕ, map, List, [], ◌∷◌, refl, ap, ◌∙◌, length, nat_lt, true, false, Result, Ok, Err, arith}
 use Rattle.sml_tree.specs.declared.token_kind.TokenKind.TheVariants.{If, Then, Else, Endif, OpenBracket, CloseBracket}
 use Rattle.sml_tree.specs.Piece.{Piece}
 use Rattle.sml_tree.specs.Syntax as said
@@ -9,18 +9,18 @@ use Rattle.sml_tree.specs.Content.{block_of, instr_content}
 use Rattle.sml_tree.specs.Grammar.{way}
 use Rattle.sml_tree.specs.Form.{Block, Branch, Arm, Cond, Value, Form, B, P, Fine, word, part, gives, ◌>>=◌, ◌>>◌}
 use Rattle.sml_tree.specs.Form as of
-use Rattle.sml_read.specs.declared.fault.Stop.{Stop}
-use Rattle.sml_read.specs.declared.fault.Stop.TheVariants as stop
-use Rattle.sml_read.specs.declared.fault.Fault.TheVariants.{TooDeep}
-use Rattle.sml_read.specs.Reads.{Reads, ReadsNext, ReadsFront, Refuses, Stops, SeesKind, ReadsToken}
+use Rattle.sml_reader.specs.declared.fault.Stop.{Stop}
+use Rattle.sml_reader.specs.declared.fault.Stop.TheVariants as stop
+use Rattle.sml_reader.specs.declared.fault.Fault.TheVariants.{TooDeep}
+use Rattle.sml_reader.specs.Reads.{Reads, ReadsFront, Refuses, Stops, SeesKind, ReadsToken}
 use Rattle.sml_read.specs.Arms.{armed, ReadsAskedFor}
-use Rattle.sml_read.specs.Made.{OrMemory, OfRead, found_of}
-use Rattle.sml_read.specs.Stands.{Lacks, Ends}
-use Rattle.sml_read.specs.Trails.{Trail}
-use Rattle.sml_read.proofs.Behind.{lacking}
-use Rattle.sml_read.proofs.Steps.{Taken, seen}
-use Rattle.sml_read.proofs.Heads.{Read}
-use Rattle.sml_read.proofs.Trails.{only_way, token_refused}
+use Rattle.sml_reader.specs.Made.{OrMemory, OfRead}
+use Rattle.sml_reader.specs.Stands.{Lacks, Ends}
+use Rattle.sml_reader.specs.Trails.{Trail}
+use Rattle.sml_reader.proofs.Behind.{lacking}
+use Rattle.sml_reader.proofs.Steps.{Taken, seen}
+use Rattle.sml_reader.proofs.Heads.{Read}
+use Rattle.sml_reader.proofs.Trails.{only_way, token_refused}
 use Rattle.sml_tree.specs.declared.limits.TheConstants.{MAX_IFS}
 
 -- what stands behind `then`
@@ -133,17 +133,6 @@ pub else_left_out : {A : Type 0} (d : ℕ) (r : Result (InBlock A) Stop) (old ne
     → Reads (of.Else d) (λ b. map instr_content b.instrs.items) old new r
 else_left_out d (Ok b) old new same lacks made = (omega (arith, ap length same), rw (same, made) (lacking (of.Else d) _ [] old refl refl lacks))
 else_left_out d (Err e) old new same lacks made = rw made tt
-
--- what was found is the front of a list
-pub found_front : {X : Type 0} (n next : of.Part) (front : X → Value next → Value n) (none : Value n) (read : Result X Stop) (r : Result (Option X) Stop) (old new : List Piece)
-    → r ≡ found_of read → ReadsFront n next front old new read → ReadsNext n next front none old new r
-found_front n next front none (Ok x) r old new e h = rw e h
-found_front n next front none (Err s) r old new e h = rw e h
-
--- what holds where something was read holds where it was found
-pub found_room : {X : Type 0} (read : Result X Stop) (r : Result (Option X) Stop) (R : Type 0) → r ≡ found_of read → OnOk read R → OnOk r R
-found_room (Ok x) r R e h = rw e h
-found_room (Err s) r R e h = rw e tt
 
 -- an `else` and its block
 pub else_block : {X : Type 0} (view : X → List InstrData) (d : ℕ) (r : Result X Stop) (t : Piece) (old u new : List Piece) → old ≡ t ∷ u → t.kind ≡ Else

@@ -5,9 +5,9 @@ use Rattle.sml_tree.specs.Piece.{Piece}
 use Rattle.sml_tree.specs.Form.{Bone, B, P, Form, needs, calls, Mark, Fine, Deep, Many, Part, Family, family, Value}
 use Rattle.sml_tree.specs.Grammar.{Rule, rules, empty}
 use Rattle.sml_tree.specs.Derive.{Marked, OneOf, Derives, nothing, token, left_out, written, fine}
-use Rattle.sml_read.specs.Machine.{code, chosen, Move, Goes, Stuck, take_rule, or_else, advance, finish, go_on, ended, run}
+use Rattle.sml_reader.specs.Machine.{code, chosen, Move, Goes, Stuck, take_rule, or_else, advance, finish, go_on, ended, run}
 use Rattle.sml_read.proofs.Tables.{is_there, starts, hollow, begins, skips, follows, implies, rest_fits, all_fit, tested, lacks, distinct, sorted}
-use Rattle.sml_read.proofs.Codes.{same_code}
+use Rattle.sml_reader.proofs.Codes.{same_code}
 use Rattle.sml_read.proofs.Sound.{joined, inverted}
 
 -- tests

@@ -4,10 +4,10 @@ use Rattle.sml_tree.specs.declared.token_kind.TokenKind.{TokenKind}
 use Rattle.sml_tree.specs.Piece.{Piece}
 use Rattle.sml_tree.specs.Syntax.{ItemData}
 use Rattle.sml_tree.specs.Form.{File, part, gives}
-use Rattle.sml_read.specs.declared.fault.Stop.{Stop}
-use Rattle.sml_read.specs.declared.fault.Stop.TheVariants as stop
-use Rattle.sml_read.specs.Machine.{run}
-use Rattle.sml_read.specs.Reads.{Passes, Sees, Refusal, IfFault, Gives}
+use Rattle.sml_reader.specs.declared.fault.Stop.{Stop}
+use Rattle.sml_reader.specs.declared.fault.Stop.TheVariants as stop
+use Rattle.sml_reader.specs.Machine.{run}
+use Rattle.sml_reader.specs.Reads.{Passes, Sees, Refusal, IfFault, Gives}
 
 -- nothing is left behind the file
 pub whole_read : (v : List ItemData) (old start new : List Piece) → old ≡ start → Passes (File 0 0 0) v old new → Sees new None → run (File 0 0 0) _ (part (File 0 0 0)) start ≡ Ok v

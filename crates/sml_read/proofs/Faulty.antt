@@ -7,9 +7,9 @@ use Rattle.sml_tree.specs.Form as of
 use Rattle.sml_tree.specs.Form.{Bone, B, P, Form, gives, needs, calls, part, Part, Family, family, Mark, Fine, Deep, Many, Value, Files, ClassMarks, ClassParamLists, Sorts, ClassParams, MoreClassParams, Literals, States, StateMarks, FirstMarks, InitialMarks, DeadMarks, Actions, ActionParamLists, ActionParams, MoreActionParams, Defaults, Blocks, ArgLists, PassedArgs, MorePassed, Everys, Args, Branches, Arms, Elses, Conds, Conjs, Units, MoreAnds, MoreOrs, Senses, StateLists, NameLists, MoreNames, MemberLists, MoreMembers}
 use Rattle.sml_tree.specs.Grammar.{Rule, rules, empty}
 use Rattle.sml_tree.specs.Derive.{Marked, OneOf, Derives, nothing, token, left_out, written, marked, fine, plain}
-use Rattle.sml_read.specs.declared.fault.Fault.{Fault}
-use Rattle.sml_read.specs.declared.fault.Fault.TheVariants.{Unexpected, TooDeep, TooMany, Ends}
-use Rattle.sml_read.specs.Machine.{Move, Goes, Stuck, advance, finish, go_on, ended, run}
+use Rattle.sml_reader.specs.declared.fault.Fault.{Fault}
+use Rattle.sml_reader.specs.declared.fault.Fault.TheVariants.{Unexpected, TooDeep, TooMany, Ends}
+use Rattle.sml_reader.specs.Machine.{Move, Goes, Stuck, advance, finish, go_on, ended, run}
 use Rattle.sml_read.specs.Faults.{Begins, NoneBegins, FaultOf}
 use Rattle.sml_read.proofs.Sound.{joined, Backed, backed}
 use Rattle.sml_read.proofs.Tables.{is_there, skips, sorted}

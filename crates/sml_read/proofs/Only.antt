@@ -7,15 +7,15 @@ use Rattle.sml_tree.specs.Syntax.{ItemData}
 use Rattle.sml_tree.specs.Form.{File, part, Part, Bone, Form, Value, Mark, Fine, Deep, Many}
 use Rattle.sml_tree.specs.Piece.{Piece, marked_words}
 use Rattle.sml_tree.specs.Derive.{IsFile, Marked, Derives, fine, plain, marked}
-use Rattle.sml_read.specs.declared.fault.Fault.{Fault}
-use Rattle.sml_read.specs.declared.fault.Fault.TheVariants as fault
-use Rattle.sml_read.specs.declared.fault.Stop.{Stop}
-use Rattle.sml_read.specs.declared.fault.Stop.TheVariants as stop
+use Rattle.sml_reader.specs.declared.fault.Fault.{Fault}
+use Rattle.sml_reader.specs.declared.fault.Fault.TheVariants as fault
+use Rattle.sml_reader.specs.declared.fault.Stop.{Stop}
+use Rattle.sml_reader.specs.declared.fault.Stop.TheVariants as stop
 use Rattle.sml_read.specs.declared.error.ReadErrorKind.TheVariants.{Memory}
-use Rattle.sml_read.specs.Left.{left}
-use Rattle.sml_read.specs.Reads.{Gives}
+use Rattle.sml_reader.specs.Left.{left}
+use Rattle.sml_reader.specs.Reads.{Gives}
 use Rattle.sml_read.specs.Promise.{error_of, refusal}
-use Rattle.sml_read.specs.Machine.{run, Move, Stuck, Goes, advance}
+use Rattle.sml_reader.specs.Machine.{run, Move, Stuck, Goes, advance}
 use Rattle.sml_read.specs.Faults.{FileFault, FaultOf}
 use Rattle.sml_read.proofs.Complete.{complete, Ready, Takes, stepped}
 use Rattle.sml_read.proofs.Late.{file_ready}

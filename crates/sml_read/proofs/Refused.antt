@@ -4,9 +4,9 @@ use Rattle.sml_text.specs.Tokens.{Token}
 use Rattle.sml_tree.specs.Form.{File, part, Part, Bone, Form, Value, Fine, Deep, Many}
 use Rattle.sml_tree.specs.Piece.{Piece, marked_words}
 use Rattle.sml_tree.specs.Derive.{Marked, Derives, fine, plain, marked}
-use Rattle.sml_read.specs.declared.fault.Fault.{Fault}
-use Rattle.sml_read.specs.declared.fault.Fault.TheVariants as fault
-use Rattle.sml_read.specs.Machine.{run, Move, Stuck, Goes, advance, go_on, finish, ended}
+use Rattle.sml_reader.specs.declared.fault.Fault.{Fault}
+use Rattle.sml_reader.specs.declared.fault.Fault.TheVariants as fault
+use Rattle.sml_reader.specs.Machine.{run, Move, Stuck, Goes, advance, go_on, finish, ended}
 use Rattle.sml_read.specs.Faults.{FileFault, FaultOf, Begins, NoneBegins}
 use Rattle.sml_read.proofs.Sound.{Backed, backed, finish_backed}
 use Rattle.sml_read.proofs.Complete.{Ready, Takes, stepped}

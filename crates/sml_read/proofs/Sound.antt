@@ -5,8 +5,8 @@ use Rattle.sml_tree.specs.Piece.{Piece}
 use Rattle.sml_tree.specs.Form.{Bone, B, P, Form, gives, needs, calls, ◌>>=◌, Mark, Fine, Deep, Many, Part, family, Value}
 use Rattle.sml_tree.specs.Grammar.{Rule, rules, empty}
 use Rattle.sml_tree.specs.Derive.{Marked, OneOf, Derives, nothing, token, left_out, written, fine}
-use Rattle.sml_read.specs.Machine.{code, chosen, Move, Goes, Stuck, take_rule, or_else, advance, finish, go_on, ended, run}
-use Rattle.sml_read.proofs.Codes.{same_kind}
+use Rattle.sml_reader.specs.Machine.{code, chosen, Move, Goes, Stuck, take_rule, or_else, advance, finish, go_on, ended, run}
+use Rattle.sml_reader.proofs.Codes.{same_kind}
 
 -- what stands behind a form is derived behind it
 pub joined : (n : Part) (bones : List Bone) (f : Form (Value n) bones) (us : List Marked) (w : Value n) → Derives n bones f us w

@@ -5,8 +5,8 @@ use Rattle.sml_tree.specs.declared.token_kind.TokenKind.TheVariants.{Class, Obje
 use Rattle.sml_tree.specs.Form as of
 use Rattle.sml_tree.specs.Form.{Bone, B, P, Form, Mark, Part, Family, family, Value, Files, ClassMarks, ClassParamLists, Sorts, ClassParams, MoreClassParams, Literals, States, StateMarks, FirstMarks, InitialMarks, DeadMarks, Actions, ActionParamLists, ActionParams, MoreActionParams, Defaults, Blocks, ArgLists, PassedArgs, MorePassed, Everys, Args, Branches, Arms, Elses, Conds, Conjs, Units, MoreAnds, MoreOrs, Senses, StateLists, NameLists, MoreNames, MemberLists, MoreMembers}
 use Rattle.sml_tree.specs.Grammar.{Rule, rules, empty}
-use Rattle.sml_read.specs.Machine.{code, chosen}
-use Rattle.sml_read.proofs.Codes.{kinds, kind_at_code}
+use Rattle.sml_reader.specs.Machine.{code, chosen}
+use Rattle.sml_reader.proofs.Codes.{kinds, kind_at_code}
 
 abbrev pub is_there : {A : Type 0} → Option A → Bool
 is_there None = false

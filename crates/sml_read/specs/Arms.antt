@@ -5,10 +5,10 @@ use Rattle.sml_tree.specs.Syntax.{CondData, choose}
 use Rattle.sml_tree.specs.Form.{P, Form, Arms as Armed, Branch, Arm, Two, Value, part, gives, ◌>>=◌}
 use Rattle.sml_tree.specs.Content.{instr_content, block_of}
 use Rattle.sml_tree.specs.declared.block.Block.{Block}
-use Rattle.sml_read.specs.declared.make.Arms.{Arms}
-use Rattle.sml_read.specs.declared.fault.Stop.{Stop}
-use Rattle.sml_read.specs.Reads.{Stops}
-use Rattle.sml_read.specs.Trails.{Trail}
+use Rattle.sml_read.specs.declared.arms.Arms.{Arms}
+use Rattle.sml_reader.specs.declared.fault.Stop.{Stop}
+use Rattle.sml_reader.specs.Reads.{Stops}
+use Rattle.sml_reader.specs.Trails.{Trail}
 
 -- what the two blocks say
 abbrev pub arms_content : {A : Type 0} → Arms A → Two

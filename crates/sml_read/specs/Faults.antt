@@ -3,8 +3,8 @@ use Rattle.std.specs.Prelude.{◌≡◌, ℕ, List, [], ◌∷◌, ◌++◌}
 use Rattle.sml_tree.specs.Piece.{Piece}
 use Rattle.sml_tree.specs.Form.{Bone, Form, Part, File, part, Deep, Many, Value}
 use Rattle.sml_tree.specs.Derive.{Marked, Derives, marked, fine, plain}
-use Rattle.sml_read.specs.declared.fault.Fault.{Fault}
-use Rattle.sml_read.specs.declared.fault.Fault.TheVariants.{Unexpected, TooDeep, TooMany, Ends}
+use Rattle.sml_reader.specs.declared.fault.Fault.{Fault}
+use Rattle.sml_reader.specs.declared.fault.Fault.TheVariants.{Unexpected, TooDeep, TooMany, Ends}
 
 -- some text of the form begins so
 abbrev pub Begins : (g : Part) (bones : List Bone) → Form (Value g) bones → List Marked → Type 0

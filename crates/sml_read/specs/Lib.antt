@@ -1,15 +1,4 @@
 pub mod Arms
-pub mod Asks
-pub mod Counts
 pub mod Faults
-pub mod Heads
-pub mod Held
-pub mod Left
-pub mod Lists
-pub mod Machine
-pub mod Made
 pub mod Promise
-pub mod Reads
 pub mod Refusal
-pub mod Stands
-pub mod Trails

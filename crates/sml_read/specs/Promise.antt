@@ -6,10 +6,10 @@ use Rattle.sml_tree.specs.Syntax.{ItemData}
 use Rattle.sml_tree.specs.Piece.{marked_words}
 use Rattle.sml_tree.specs.Derive.{IsFile}
 use Rattle.sml_read.specs.Faults.{FileFault}
-use Rattle.sml_read.specs.declared.fault.Fault.{Fault}
-use Rattle.sml_read.specs.declared.fault.Fault.TheVariants as fault
-use Rattle.sml_read.specs.declared.fault.Stop.{Stop}
-use Rattle.sml_read.specs.declared.fault.Stop.TheVariants as stop
+use Rattle.sml_reader.specs.declared.fault.Fault.{Fault}
+use Rattle.sml_reader.specs.declared.fault.Fault.TheVariants as fault
+use Rattle.sml_reader.specs.declared.fault.Stop.{Stop}
+use Rattle.sml_reader.specs.declared.fault.Stop.TheVariants as stop
 use Rattle.sml_read.specs.declared.error.ReadError.{ReadError}
 use Rattle.sml_read.specs.declared.error.ReadErrorKind.{ReadErrorKind}
 use Rattle.sml_read.specs.declared.error.ReadErrorKind.TheVariants.{TooLong, NotAscii, BadToken, Unexpected, TooDeep, TooMany, Memory}

@@ -1,237 +1,127 @@
 //! Instructions.
-ghost use Rattle.std.specs.Prelude.{◌≤◌, ◌<◌, [], ◌∷◌, map, Ok, IfOk};
-ghost use Rattle.sml_tree.specs.Form.{Literal as Literal', Arg as Arg', Every, Passed as Passed', ArgList, Arm, Block as Block'};
+ghost use Rattle.std.specs.Prelude.{◌≤◌, ◌<◌, [], ◌∷◌, map, Ok};
+ghost use Rattle.sml_tree.specs.Form.{Arm, Block as Block'};
 ghost use Rattle.sml_tree.specs.Form.{Else};
-ghost use Rattle.sml_tree.specs.Content.{literal_content, arg_content, passed_content, cond_content, instr_content};
+ghost use Rattle.sml_tree.specs.Content.{cond_content, instr_content};
 ghost use Rattle.sml_tree.specs.declared.token_kind.TokenKind.TheVariants as kinds;
-ghost use Rattle.sml_read.specs.Reads.{Reads, ReadsNext, ReadsFront, SeesKind};
+ghost use Rattle.sml_reader.specs.Reads.{Reads, ReadsNext, ReadsFront, SeesKind};
 ghost use Rattle.sml_read.specs.Arms.{arms_content, arms_of, ReadsAskedFor};
-ghost use Rattle.sml_read.specs.Stands.{Lacks, Ends};
-ghost use Rattle.sml_tree.specs.declared.limits.TheConstants.{MAX_ARGUMENTS, MAX_IFS};
+ghost use Rattle.sml_reader.specs.Stands.{Ends};
+ghost use Rattle.sml_tree.specs.declared.limits.TheConstants.{MAX_IFS};
 
-use crate::fault::Stop;
-use crate::make;
-use crate::make::Arms;
-use crate::reader::Reader;
+use crate::arms::{Arms, chosen};
+use sml_condition::condition::condition;
+use sml_reader::fault::Stop;
+use sml_reader::make;
+use sml_reader::reader::Reader;
 use sml_tree::block::{Block, Instr};
 use sml_tree::cond::Cond;
-use sml_tree::limits::{MAX_ARGUMENTS, MAX_IFS};
-use sml_tree::literal::{Arg, Literal, Passed};
+use sml_tree::limits::MAX_IFS;
 use sml_tree::token_kind::TokenKind;
 use std::alloc::Allocator;
 
-impl Reader<'_> {
-    /// A value that is written out.
-    pub fn literal<A: Allocator + Clone>(&mut self, alloc: &A) -> Result<Literal<A>, Stop>
-        ensures { Reads Literal' literal_content self.old self.new result }
-    {
-        if self.stands(TokenKind::Int) {
-            return Ok(Literal::Int(self.take().int()));
-        }
-        if self.stands(TokenKind::Str) {
-            return make::text(alloc, self.take().bytes());
-        }
-        Err(self.refusal())
-    }
+/// The condition of an `if`, in its brackets.
+fn asked_for<A: Allocator + Clone>(reader: &mut Reader<'_>, alloc: &A) -> Result<Cond<A>, Stop>
+    ensures { ReadsAskedFor cond_content reader.old reader.new result }
+{
+    reader.sign(TokenKind::OpenBracket)?;
+    let mut tests = 0;
+    let cond = condition(reader, alloc, 0, &mut tests);
+    reader.ended(TokenKind::CloseBracket, cond)
+}
 
-    /// A value, or the name of a parameter.
-    fn arg<A: Allocator + Clone>(&mut self, alloc: &A) -> Result<Arg<A>, Stop>
-        ensures { Reads Arg' arg_content self.old self.new result }
-    {
-        if self.stands(TokenKind::Name) {
-            return Ok(Arg::Param(self.take().name()));
-        }
-        make::written(self.literal(alloc))
+/// The two blocks of an `if`, if the second was read and the last word stands behind it.
+fn arms_ended<A: Allocator + Clone>(
+    reader: &mut Reader<'_>,
+    yes: Block<A>,
+    no: Result<Block<A>, Stop>,
+) -> Result<Arms<A>, Stop>
+    ensures { Ends kinds.Endif reader.old reader.new (arms_of yes) no result }
+{
+    match no {
+        Ok(no) => reader.closed(TokenKind::Endif, Arms { yes, no }),
+        Err(stop) => Err(stop),
     }
+}
 
-    /// Whether `all_in` stands here.
-    fn every(&mut self) -> bool
-        ensures { Reads Every (λ all. all) self.old self.new (Ok result) }
-    {
-        self.skip(TokenKind::AllIn)
+/// The next instruction of a block inside so many `if`s, where one stands there.
+#[cycle(instructions)]
+fn instr<A: Allocator + Clone>(
+    reader: &mut Reader<'_>,
+    alloc: &A,
+    depth: u32,
+) -> Result<Option<Instr<A>>, Stop>
+    requires { depth ≤ MAX_IFS }
+    ensures { ReadsNext (Block' depth) (Block' depth) (λ i v. instr_content i ∷ v) [] reader.old reader.new result }
+{
+    if reader.stands(TokenKind::If) {
+        return make::found(choice(reader, alloc, depth));
     }
+    reader.plain(alloc, depth)
+}
 
-    /// An argument that has so many before it.
-    fn passed<A: Allocator + Clone>(&mut self, alloc: &A, before: usize) -> Result<Passed<A>, Stop>
-        requires { before ≤ MAX_ARGUMENTS }
-        ensures read { Reads (Passed' before) passed_content self.old self.new result }
-        ensures room { IfOk result (λ p. before < MAX_ARGUMENTS) }
-    {
-        let name = self.limited(before, MAX_ARGUMENTS)?;
-        self.sign(TokenKind::Equals)?;
-        let value = self.arg(alloc)?;
-        Ok(Passed { name, value })
-    }
+/// An `if`, whose word stands in front.
+#[cycle(instructions)]
+fn choice<A: Allocator + Clone>(
+    reader: &mut Reader<'_>,
+    alloc: &A,
+    depth: u32,
+) -> Result<Instr<A>, Stop>
+    requires at_if { SeesKind kinds.If reader.old }
+    requires depth { depth ≤ MAX_IFS }
+    ensures { ReadsFront (Block' depth) (Block' depth) (λ i v. instr_content i ∷ v) reader.old reader.new result }
+{
+    reader.deeper(depth, MAX_IFS)?;
+    let cond = asked_for(reader, alloc)?;
+    let arms = arms(reader, alloc, depth);
+    chosen(cond, arms)
+}
 
-    /// The arguments of a `do`, where a bracket stands there.
-    fn args<A: Allocator + Clone>(&mut self, alloc: &A) -> Result<Vec<Passed<A>, A>, Stop>
-        ensures { Reads ArgList (λ v. map passed_content v.items) self.old self.new result }
-    {
-        if !self.skip(TokenKind::OpenBracket) {
-            return make::none(alloc);
-        }
-        let first = self.passed(alloc, 0)?;
-        let mut args = make::one(alloc, first)?;
-        'more: while self.skip(TokenKind::Comma) {
-            let passed = self.passed(alloc, args.len());
-            args = make::longer(args, passed)?;
-        }
-        self.closed(TokenKind::CloseBracket, args)
-    }
+/// The two blocks of an `if`.
+#[cycle(instructions)]
+fn arms<A: Allocator + Clone>(
+    reader: &mut Reader<'_>,
+    alloc: &A,
+    depth: u32,
+) -> Result<Arms<A>, Stop>
+    requires { depth < MAX_IFS }
+    ensures { Reads (Arm depth) arms_content reader.old reader.new result }
+{
+    reader.sign(TokenKind::Then)?;
+    let yes = block(reader, alloc, depth + 1)?;
+    let no = otherwise(reader, alloc, depth + 1);
+    arms_ended(reader, yes, no)
+}
 
-    /// A `do`, whose word stands in front.
-    fn send<A: Allocator + Clone>(&mut self, alloc: &A, depth: u32) -> Result<Instr<A>, Stop>
-        requires { SeesKind kinds.Do self.old }
-        ensures { ReadsFront (Block' depth) (Block' depth) (λ i v. instr_content i ∷ v) self.old self.new result }
-    {
-        self.take();
-        let action = self.named()?;
-        let args = self.args(alloc)?;
-        let all = self.every();
-        let target = self.named()?;
-        Ok(make::send(action, args, all, target))
+/// The second block of an `if`, which may be left out.
+#[cycle(instructions)]
+fn otherwise<A: Allocator + Clone>(
+    reader: &mut Reader<'_>,
+    alloc: &A,
+    depth: u32,
+) -> Result<Block<A>, Stop>
+    requires { depth ≤ MAX_IFS }
+    ensures { Reads (Else depth) (λ b. map instr_content b.instrs.items) reader.old reader.new result }
+{
+    if !reader.skip(TokenKind::Else) {
+        return make::no_block(alloc);
     }
+    block(reader, alloc, depth)
+}
 
-    /// A `set`, whose word stands in front.
-    fn assignment<A: Allocator + Clone>(&mut self, alloc: &A, depth: u32) -> Result<Instr<A>, Stop>
-        requires { SeesKind kinds.Set self.old }
-        ensures { ReadsFront (Block' depth) (Block' depth) (λ i v. instr_content i ∷ v) self.old self.new result }
-    {
-        self.take();
-        let param = self.named()?;
-        self.sign(TokenKind::Equals)?;
-        let value = self.arg(alloc)?;
-        Ok(make::set(param, value))
+/// The instructions of a block inside so many `if`s.
+#[cycle(instructions)]
+pub fn block<A: Allocator + Clone>(
+    reader: &mut Reader<'_>,
+    alloc: &A,
+    depth: u32,
+) -> Result<Block<A>, Stop>
+    requires { depth ≤ MAX_IFS }
+    ensures { Reads (Block' depth) (λ b. map instr_content b.instrs.items) reader.old reader.new result }
+{
+    let mut instrs = make::none(alloc)?;
+    'more: while let Some(instr) = instr(reader, alloc, depth)? {
+        instrs = make::longer(instrs, Ok(instr))?;
     }
-
-    /// A `move_to`, whose word stands in front.
-    fn movement<A: Allocator + Clone>(&mut self, depth: u32) -> Result<Instr<A>, Stop>
-        requires { SeesKind kinds.MoveTo self.old }
-        ensures { ReadsFront (Block' depth) (Block' depth) (λ i v. instr_content i ∷ v) self.old self.new result }
-    {
-        self.take();
-        let state = self.named()?;
-        Ok(make::move_to(state))
-    }
-
-    /// A `terminate_action`, whose word stands in front.
-    fn termination<A: Allocator + Clone>(&mut self, depth: u32) -> Result<Instr<A>, Stop>
-        requires { SeesKind kinds.TerminateAction self.old }
-        ensures { ReadsFront (Block' depth) (Block' depth) (λ i v. instr_content i ∷ v) self.old self.new result }
-    {
-        self.take();
-        self.sign(TokenKind::Slash)?;
-        self.sign(TokenKind::State)?;
-        self.sign(TokenKind::Equals)?;
-        let state = self.named()?;
-        Ok(make::terminate(state))
-    }
-
-    /// The next instruction of a block, where one stands there that is no `if`.
-    fn plain<A: Allocator + Clone>(
-        &mut self,
-        alloc: &A,
-        depth: u32,
-    ) -> Result<Option<Instr<A>>, Stop>
-        requires { Lacks kinds.If self.old }
-        ensures { ReadsNext (Block' depth) (Block' depth) (λ i v. instr_content i ∷ v) [] self.old self.new result }
-    {
-        match self.peek() {
-            Some(TokenKind::Do) => make::found(self.send(alloc, depth)),
-            Some(TokenKind::Set) => make::found(self.assignment(alloc, depth)),
-            Some(TokenKind::MoveTo) => make::found(self.movement(depth)),
-            Some(TokenKind::TerminateAction) => make::found(self.termination(depth)),
-            _ => Ok(None),
-        }
-    }
-
-    /// The condition of an `if`, in its brackets.
-    fn asked_for<A: Allocator + Clone>(&mut self, alloc: &A) -> Result<Cond<A>, Stop>
-        ensures { ReadsAskedFor cond_content self.old self.new result }
-    {
-        self.sign(TokenKind::OpenBracket)?;
-        let mut tests = 0;
-        let cond = self.condition(alloc, 0, &mut tests);
-        self.ended(TokenKind::CloseBracket, cond)
-    }
-
-    /// The two blocks of an `if`, if the second was read and the last word stands behind it.
-    fn arms_ended<A: Allocator + Clone>(
-        &mut self,
-        yes: Block<A>,
-        no: Result<Block<A>, Stop>,
-    ) -> Result<Arms<A>, Stop>
-        ensures { Ends kinds.Endif self.old self.new (arms_of yes) no result }
-    {
-        match no {
-            Ok(no) => self.closed(TokenKind::Endif, Arms { yes, no }),
-            Err(stop) => Err(stop),
-        }
-    }
-
-    /// The next instruction of a block inside so many `if`s, where one stands there.
-    #[cycle(instructions)]
-    fn instr<A: Allocator + Clone>(
-        &mut self,
-        alloc: &A,
-        depth: u32,
-    ) -> Result<Option<Instr<A>>, Stop>
-        requires { depth ≤ MAX_IFS }
-        ensures { ReadsNext (Block' depth) (Block' depth) (λ i v. instr_content i ∷ v) [] self.old self.new result }
-    {
-        if self.stands(TokenKind::If) {
-            return make::found(self.choice(alloc, depth));
-        }
-        self.plain(alloc, depth)
-    }
-
-    /// An `if`, whose word stands in front.
-    #[cycle(instructions)]
-    fn choice<A: Allocator + Clone>(&mut self, alloc: &A, depth: u32) -> Result<Instr<A>, Stop>
-        requires at_if { SeesKind kinds.If self.old }
-        requires depth { depth ≤ MAX_IFS }
-        ensures { ReadsFront (Block' depth) (Block' depth) (λ i v. instr_content i ∷ v) self.old self.new result }
-    {
-        self.deeper(depth, MAX_IFS)?;
-        let cond = self.asked_for(alloc)?;
-        let arms = self.arms(alloc, depth);
-        make::chosen(cond, arms)
-    }
-
-    /// The two blocks of an `if`.
-    #[cycle(instructions)]
-    fn arms<A: Allocator + Clone>(&mut self, alloc: &A, depth: u32) -> Result<Arms<A>, Stop>
-        requires { depth < MAX_IFS }
-        ensures { Reads (Arm depth) arms_content self.old self.new result }
-    {
-        self.sign(TokenKind::Then)?;
-        let yes = self.block(alloc, depth + 1)?;
-        let no = self.otherwise(alloc, depth + 1);
-        self.arms_ended(yes, no)
-    }
-
-    /// The second block of an `if`, which may be left out.
-    #[cycle(instructions)]
-    fn otherwise<A: Allocator + Clone>(&mut self, alloc: &A, depth: u32) -> Result<Block<A>, Stop>
-        requires { depth ≤ MAX_IFS }
-        ensures { Reads (Else depth) (λ b. map instr_content b.instrs.items) self.old self.new result }
-    {
-        if !self.skip(TokenKind::Else) {
-            return make::no_block(alloc);
-        }
-        self.block(alloc, depth)
-    }
-
-    /// The instructions of a block inside so many `if`s.
-    #[cycle(instructions)]
-    pub fn block<A: Allocator + Clone>(&mut self, alloc: &A, depth: u32) -> Result<Block<A>, Stop>
-        requires { depth ≤ MAX_IFS }
-        ensures { Reads (Block' depth) (λ b. map instr_content b.instrs.items) self.old self.new result }
-    {
-        let mut instrs = make::none(alloc)?;
-        'more: while let Some(instr) = self.instr(alloc, depth)? {
-            instrs = make::longer(instrs, Ok(instr))?;
-        }
-        Ok(Block { instrs })
-    }
+    Ok(Block { instrs })
 }

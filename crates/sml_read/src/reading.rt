@@ -6,14 +6,15 @@ ghost use Rattle.sml_tree.specs.Syntax.{ItemData};
 ghost use Rattle.sml_tree.specs.Form.{File, part};
 ghost use Rattle.sml_tree.specs.Content.{item_content, file_content};
 ghost use Rattle.sml_read.specs.declared.error.ReadErrorKind.TheVariants as kinds;
-ghost use Rattle.sml_read.specs.Left.{left};
-ghost use Rattle.sml_read.specs.Machine.{run};
-ghost use Rattle.sml_read.specs.Reads.{Gives};
+ghost use Rattle.sml_reader.specs.Left.{left};
+ghost use Rattle.sml_reader.specs.Machine.{run};
+ghost use Rattle.sml_reader.specs.Reads.{Gives};
 ghost use Rattle.sml_read.specs.Promise.{refusal, IsShort, first_foreign, IsFileOf, ReadsFile, Cause, error_of as told};
 
 use crate::error::{ReadError, ReadErrorKind};
-use crate::fault::{Fault, Stop};
-use crate::reader::Reader;
+use crate::item::file;
+use sml_reader::fault::{Fault, Stop};
+use sml_reader::reader::Reader;
 use sml_text::laws::laws_of_tokens;
 use sml_text::source::Source;
 use sml_text::tokens::first_bad;
@@ -29,7 +30,7 @@ fn read_items<A: Allocator + Clone>(alloc: &A, text: &[u8]) -> Result<Vec<Item<A
     ensures { Gives (λ v. map item_content v.items) result (run (File 0 0 0) _ (part (File 0 0 0)) (left false 0 text.now)) }
 {
     let mut reader = Reader::new(text);
-    let items = reader.file(alloc)?;
+    let items = file(&mut reader, alloc)?;
     match reader.peek() {
         None => Ok(items),
         Some(_) => Err(reader.refusal()),

@@ -1,0 +1,4 @@
+//! Reads a condition of a domain's text.
+#![tactic(auto)]
+
+pub mod condition;

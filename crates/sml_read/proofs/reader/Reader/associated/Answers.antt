@@ -1,5 +1,0 @@
-use Rattle.sml_read.proofs.Marks.{class_mark}
-use Rattle.sml_read.proofs.reader.Reader.associated.Goals as goal
-
-pub returns : goal.returns
-returns c = class_mark c.mark.result c.args.self.now c.mark.new.self c.mark.ensures

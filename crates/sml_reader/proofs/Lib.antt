@@ -1,0 +1,17 @@
+pub mod Args
+pub mod Asked
+pub mod Behind
+pub mod Bracketed
+pub mod Codes
+pub mod Found
+pub mod Heads
+pub mod Lists
+pub mod Made
+pub mod Marks
+pub mod Naming
+pub mod Params
+pub mod Passing
+pub mod Sorts
+pub mod Steps
+pub mod Stopped
+pub mod Trails

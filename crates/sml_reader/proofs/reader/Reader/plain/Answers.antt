@@ -1,0 +1,18 @@
+use Rattle.std.proofs.Common.{[], ◌∷◌}
+use Rattle.sml_tree.specs.Content.{instr_content}
+use Rattle.sml_tree.specs.Form.{Block}
+use Rattle.sml_reader.proofs.Found.{found_front}
+use Rattle.sml_reader.proofs.reader.Reader.plain.Goals as goal
+
+-- an instruction of each kind
+pub returns-in-Some-Do : goal.returns-in-Some-Do
+returns-in-Some-Do g c = found_front (Block c.args.depth) (Block c.args.depth) (λ i v. instr_content i ∷ v) [] c.send.result c.found.result c.args.self.now c.send.new.self c.found.ensures c.send.ensures
+
+pub returns-in-Some-Set : goal.returns-in-Some-Set
+returns-in-Some-Set g c = found_front (Block c.args.depth) (Block c.args.depth) (λ i v. instr_content i ∷ v) [] c.assignment.result c.found-in-Some-Set.result c.args.self.now c.assignment.new.self c.found-in-Some-Set.ensures c.assignment.ensures
+
+pub returns-in-Some-MoveTo : goal.returns-in-Some-MoveTo
+returns-in-Some-MoveTo g c = found_front (Block c.args.depth) (Block c.args.depth) (λ i v. instr_content i ∷ v) [] c.movement.result c.found-in-Some-MoveTo.result c.args.self.now c.movement.new.self c.found-in-Some-MoveTo.ensures c.movement.ensures
+
+pub returns-in-Some-TerminateAction : goal.returns-in-Some-TerminateAction
+returns-in-Some-TerminateAction g c = found_front (Block c.args.depth) (Block c.args.depth) (λ i v. instr_content i ∷ v) [] c.termination.result c.found-in-Some-TerminateAction.result c.args.self.now c.termination.new.self c.found-in-Some-TerminateAction.ensures c.termination.ensures

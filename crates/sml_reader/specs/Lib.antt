@@ -1,0 +1,11 @@
+pub mod Asks
+pub mod Counts
+pub mod Heads
+pub mod Held
+pub mod Left
+pub mod Lists
+pub mod Machine
+pub mod Made
+pub mod Reads
+pub mod Stands
+pub mod Trails
