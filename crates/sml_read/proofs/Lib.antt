@@ -1,9 +1,4 @@
-pub mod Choices
-pub mod Complete
 pub mod Ended
-pub mod Faulty
 pub mod Late
 pub mod Only
 pub mod Refused
-pub mod Sound
-pub mod Tables

@@ -16,8 +16,8 @@ use Rattle.sml_reader.specs.Left.{left}
 use Rattle.sml_reader.specs.Reads.{Gives}
 use Rattle.sml_read.specs.Promise.{error_of, refusal}
 use Rattle.sml_reader.specs.Machine.{run, Move, Stuck, Goes, advance}
-use Rattle.sml_read.specs.Faults.{FileFault, FaultOf}
-use Rattle.sml_read.proofs.Complete.{complete, Ready, Takes, stepped}
+use Rattle.sml_items.specs.Faults.{FileFault, FaultOf}
+use Rattle.sml_items.proofs.Complete.{complete, Ready, Takes, stepped}
 use Rattle.sml_read.proofs.Late.{file_ready}
 
 -- what is derived, the machine reads

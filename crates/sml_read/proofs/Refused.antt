@@ -7,10 +7,10 @@ use Rattle.sml_tree.specs.Derive.{Marked, Derives, fine, plain, marked}
 use Rattle.sml_reader.specs.declared.fault.Fault.{Fault}
 use Rattle.sml_reader.specs.declared.fault.Fault.TheVariants as fault
 use Rattle.sml_reader.specs.Machine.{run, Move, Stuck, Goes, advance, go_on, finish, ended}
-use Rattle.sml_read.specs.Faults.{FileFault, FaultOf, Begins, NoneBegins}
-use Rattle.sml_read.proofs.Sound.{Backed, backed, finish_backed}
-use Rattle.sml_read.proofs.Complete.{Ready, Takes, stepped}
-use Rattle.sml_read.proofs.Faulty.{begins_all, begins_more}
+use Rattle.sml_items.specs.Faults.{FileFault, FaultOf, Begins, NoneBegins}
+use Rattle.sml_items.proofs.Sound.{Backed, backed, finish_backed}
+use Rattle.sml_items.proofs.Complete.{Ready, Takes, stepped}
+use Rattle.sml_items.proofs.Faulty.{begins_all, begins_more}
 use Rattle.sml_read.proofs.Late.{file_ready}
 
 -- what is said of a token behind others that the machine takes

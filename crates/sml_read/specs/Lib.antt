@@ -1,4 +1,2 @@
-pub mod Arms
-pub mod Faults
 pub mod Promise
 pub mod Refusal

@@ -5,7 +5,7 @@ use Rattle.sml_text.specs.Tokens.{Token, TokensOf, BadTokenOf}
 use Rattle.sml_tree.specs.Syntax.{ItemData}
 use Rattle.sml_tree.specs.Piece.{marked_words}
 use Rattle.sml_tree.specs.Derive.{IsFile}
-use Rattle.sml_read.specs.Faults.{FileFault}
+use Rattle.sml_items.specs.Faults.{FileFault}
 use Rattle.sml_reader.specs.declared.fault.Fault.{Fault}
 use Rattle.sml_reader.specs.declared.fault.Fault.TheVariants as fault
 use Rattle.sml_reader.specs.declared.fault.Stop.{Stop}

@@ -12,7 +12,7 @@ ghost use Rattle.sml_reader.specs.Reads.{Gives};
 ghost use Rattle.sml_read.specs.Promise.{refusal, IsShort, first_foreign, IsFileOf, ReadsFile, Cause, error_of as told};
 
 use crate::error::{ReadError, ReadErrorKind};
-use crate::item::file;
+use sml_items::item::file;
 use sml_reader::fault::{Fault, Stop};
 use sml_reader::reader::Reader;
 use sml_text::laws::laws_of_tokens;

@@ -1,0 +1,5 @@
+pub mod Choices
+pub mod Complete
+pub mod Faulty
+pub mod Sound
+pub mod Tables
