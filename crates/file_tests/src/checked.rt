@@ -8,9 +8,9 @@ ghost use Rattle.sml_layout.specs.Programs.{state_numbers, formula};
 ghost use Rattle.sml_layout.specs.Truth.{holds_in};
 ghost use Rattle.file_tests.specs.Example as example;
 
-use crate::domain_lamps::{LAMPS, ONE_LAMP};
 use crate::domain_of::is_refused;
-use crate::facts::has_shown;
+use crate::domains::{LAMPS, TABLES_OF_LAMPS};
+use crate::tables::has_tables;
 use sml_check::{CheckKind, laws_of_conditions, laws_of_numbers};
 
 #[test]
@@ -33,5 +33,5 @@ fn leaves_out_states_that_nobody_declares(rt: HostRuntime) {
     answers_of_tests();
     laws_of_conditions();
     laws_of_numbers();
-    assert!(rt; has_shown(rt.alloc(), LAMPS, &ONE_LAMP));
+    assert!(rt; has_tables(rt.alloc(), LAMPS, TABLES_OF_LAMPS));
 }

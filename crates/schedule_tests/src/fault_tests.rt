@@ -97,10 +97,33 @@ fn line_feeds(text: &[u8]) -> usize {
 // fails behind it.
 fn makes_whole_lines(alloc: Global, length: usize) -> Option<bool> {
     let whole = whole_of(alloc, CONFIGURE_READY).ok()?;
-    let text = whole.schedule.as_bytes().get(..length)?;
+    let makes = match whole.schedule.as_bytes().get(..length) {
+        Some(text) => makes_lines(alloc, text),
+        None => None,
+    };
+    drop(whole);
+    makes
+}
+
+fn makes_lines(alloc: Global, text: &[u8]) -> Option<bool> {
     let expected = part_of(alloc, CONFIGURE_READY, 0, line_feeds(text)).ok()?;
-    let (output, fault) = written_before(alloc, text, true)?;
-    Some(fault == ScheduleFault::Read && output.as_slice() == expected.output.as_bytes())
+    let made = written_before(alloc, text, true);
+    let makes = is_written(&made, ScheduleFault::Read, expected.output.as_bytes());
+    drop(made);
+    drop(expected);
+    Some(makes)
+}
+
+// Whether this was written, and then the fault came.
+fn is_written(
+    made: &Option<(Vec<u8>, ScheduleFault)>,
+    fault: ScheduleFault,
+    output: &[u8],
+) -> bool {
+    match made {
+        Some((written, told)) => *told == fault && written.as_slice() == output,
+        None => false,
+    }
 }
 
 // How many steps are made where the output ends behind so many bytes.
@@ -168,8 +191,11 @@ fn faults_of_the_reader(rt: HostRuntime) -> Result<(), Fail> {
 // Whether what stands before the limit of a schedule's length is made and written.
 fn is_written_before_the_limit(alloc: Global) -> Option<bool> {
     let whole = whole_of(alloc, CONFIGURE_READY).ok()?;
-    let (output, fault) = written_before(alloc, whole.schedule.as_bytes(), false)?;
-    Some(fault == ScheduleFault::TooLong && output.as_slice() == whole.output.as_bytes())
+    let made = written_before(alloc, whole.schedule.as_bytes(), false);
+    let is_written = is_written(&made, ScheduleFault::TooLong, whole.output.as_bytes());
+    drop(made);
+    drop(whole);
+    Some(is_written)
 }
 
 #[test]

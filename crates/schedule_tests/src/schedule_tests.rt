@@ -30,9 +30,18 @@ fn has_parameters(core: &Core, object: &Name, number: i64, text: &[u8]) -> bool 
 // Whether what an action set is forgotten where a kill cuts it.
 fn forgets_what_was_cut(alloc: Global) -> Option<bool> {
     let mut core = core_of(alloc, COUNTER)?;
+    let forgets = forgets_by(alloc, &mut core);
+    drop(core);
+    forgets
+}
+
+// The same, in a core.
+fn forgets_by(alloc: Global, core: &mut Core) -> Option<bool> {
     let told = whole_of(alloc, PARAMETERS).ok()?;
-    written(alloc, &mut core, told.schedule.as_str())?;
-    Some(has_parameters(&core, &Name::from_word(b"C"), 5, b"a"))
+    let output = written(alloc, core, told.schedule.as_str());
+    let forgets = output.is_some() && has_parameters(core, &Name::from_word(b"C"), 5, b"a");
+    drop(output);
+    Some(forgets)
 }
 
 // The steps of a run that is killed twice while its supplies are asked to switch on.
@@ -68,10 +77,21 @@ fn are_of_killed(answers: &[Result<Answer, StepError>]) -> bool {
 
 // Whether a list of steps is answered in order.
 fn answers_in_order(alloc: Global) -> Option<bool> {
-    let domain = domain_of(alloc, SUPPLIES)?;
     let steps = steps_of(alloc, KILLED)?;
-    let (core, answers) = run(alloc, domain, 16, 1_000_000, steps.as_slice()).ok()?;
-    Some(core.journal().len() == 4 && are_of_killed(answers.as_slice()))
+    let answers = are_answered(alloc, steps.as_slice());
+    drop(steps);
+    answers
+}
+
+fn are_answered(alloc: Global, steps: &[Step]) -> Option<bool> {
+    let domain = domain_of(alloc, SUPPLIES)?;
+    let made = run(alloc, domain, 16, 1_000_000, steps);
+    let answers = match &made {
+        Ok((core, answers)) => core.journal().len() == 4 && are_of_killed(answers.as_slice()),
+        Err(_) => false,
+    };
+    drop(made);
+    Some(answers)
 }
 
 #[test]
@@ -93,11 +113,14 @@ const NUMBERS: &[(usize, usize, bool)] = &[
 // Whether there is a core with these numbers, or else they are told to be out of range.
 fn has_core(alloc: Global, capacity: usize, max_starts: usize) -> Option<bool> {
     let domain = domain_of(alloc, SUPPLIES)?;
-    match Core::new(alloc, domain, capacity, max_starts) {
+    let made = Core::new(alloc, domain, capacity, max_starts);
+    let answer = match &made {
         Ok(_) => Some(true),
         Err(CoreError::BadConfig) => Some(false),
         Err(CoreError::Memory) => None,
-    }
+    };
+    drop(made);
+    answer
 }
 
 #[test]

@@ -29,10 +29,10 @@ pub fn run_check<R: Files + AllocGlobal, I: Read, W: Write, E: Write>(
     let told = tell_files(rt, files, input, &mut writer, errors);
     // After a fault too: what was told before it is written.
     let flushed = writer.flush();
-    match (told, flushed) {
-        (Err(fault), _) => Err(fault),
-        (Ok(_), Err(_)) => Err(Fault::Output),
-        (Ok(status), Ok(())) => Ok(status),
+    match told {
+        Ok(status) if flushed.is_ok() => Ok(status),
+        Ok(_) => Err(Fault::Output),
+        Err(fault) => Err(fault),
     }
 }
 

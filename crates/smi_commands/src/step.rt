@@ -46,11 +46,24 @@ pub fn run_step<'a, R: Files + AllocGlobal, I: Read, W: Write>(
         Ok(core) => core,
         Err(fault) => return Err(fault),
     };
-    if let Err(fault) = run_file(rt, &mut core, options.schedule, input, output) {
+    let done = run_in(rt, &mut core, options, input, output);
+    drop(core);
+    done
+}
+
+// Runs the schedule in the core of the domain, and writes the journal where that is asked for.
+fn run_in<'a, R: Files + AllocGlobal, I: Read, W: Write>(
+    rt: &R,
+    core: &mut Core,
+    options: &StepOptions<'a>,
+    input: &mut I,
+    output: &mut W,
+) -> Result<(), Fault<'a>> {
+    if let Err(fault) = run_file(rt, core, options.schedule, input, output) {
         return Err(fault);
     }
     match options.journal {
-        Some(path) => keep_journal(rt, &core, path),
+        Some(path) => keep_journal(rt, core, path),
         None => Ok(()),
     }
 }
@@ -102,10 +115,10 @@ fn run_all<'a, I: Read, W: Write>(
     let ran = run_steps(heap, core, schedule, reader, &mut writer);
     // After a fault too: what was done before it is told.
     let flushed = writer.flush();
-    match (ran, flushed) {
-        (Err(fault), _) => Err(fault),
-        (Ok(()), Err(_)) => Err(Fault::Output),
-        (Ok(()), Ok(())) => Ok(()),
+    match ran {
+        Ok(()) if flushed.is_ok() => Ok(()),
+        Ok(()) => Err(Fault::Output),
+        Err(fault) => Err(fault),
     }
 }
 

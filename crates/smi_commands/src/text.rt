@@ -1,6 +1,7 @@
 //! The bytes of files that are read whole, and those of standard input.
 
 use sml_read::MAX_TEXT;
+use std::alloc::Global;
 use std::fs::Files;
 use std::io::Read;
 use std::{fs, io};
@@ -28,11 +29,20 @@ pub fn load_prefix<R: Files + AllocGlobal, I: Read>(
     file: &str,
     most: u64,
 ) -> io::Result<Vec<u8>> {
-    let mut bytes = Vec::new(rt.alloc());
     if file == STANDARD_INPUT {
-        input.take(most).read_to_end(&mut bytes)?;
-    } else {
-        fs::open(rt, file)?.take(most).read_to_end(&mut bytes)?;
+        return read_prefix(rt.alloc(), input, most);
     }
-    Ok(bytes)
+    match fs::open(rt, file) {
+        Ok(mut opened) => read_prefix(rt.alloc(), &mut opened, most),
+        Err(error) => Err(error),
+    }
+}
+
+// The first bytes of what is read.
+fn read_prefix<I: Read>(heap: Global, input: &mut I, most: u64) -> io::Result<Vec<u8>> {
+    let mut bytes = Vec::new(heap);
+    match input.take(most).read_to_end(&mut bytes) {
+        Ok(_) => Ok(bytes),
+        Err(error) => Err(error),
+    }
 }

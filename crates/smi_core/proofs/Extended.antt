@@ -8,7 +8,7 @@ use Rattle.smi_world.specs.declared.step.Answer.{Answer}
 use Rattle.smi_world.specs.declared.refusal.StepError.{StepError}
 use Rattle.smi_world.specs.World.{Setup, World, opening}
 use Rattle.smi_world.specs.Steps.{StepsTo, Run}
-use Rattle.smi_world.specs.Runs.{IsReached}
+use Rattle.smi_world.specs.Runs.{IsReached, Reaches}
 
 -- a run goes on by one step
 pub run_more : (m : Setup) (w : World) (ss : List Step) (rs : List (Result Answer StepError)) (w2 w3 : World) (s : Step) (r : Result Answer StepError) → Run m w ss rs w2 → StepsTo m w2 s r w3 → Run m w (ss ++ s ∷ []) (rs ++ r ∷ []) w3
@@ -17,13 +17,17 @@ run_more m w (t ∷ ss) (q ∷ rs) w2 w3 s r h last = (h.0, h.1, run_more m h.0 
 run_more m w [] (q ∷ rs) w2 w3 s r h last = absurd h
 run_more m w (t ∷ ss) [] w2 w3 s r h last = absurd h
 
--- the world of a run that was made to the end of its steps
+-- a run that was made to the end of its steps reaches its world
+pub reached : (m : Setup) (d : Domain) (steps : List Step) (k : ℕ) (answers : List (Result Answer StepError)) (w : World) → m.domain ≡ d → IsSound d → length steps ≤ k → Run m (opening m) (take k steps) answers w → Reaches m steps answers w
+reached m d steps k answers w same sound long run = record {
+  sound = subst IsSound (sym same) sound;
+  run = subst (λ l. Run m (opening m) l answers w) (take_all k steps long) run;
+}
+
+-- and its world is reached
 pub is_reached : (m : Setup) (d : Domain) (steps : List Step) (k : ℕ) (answers : List (Result Answer StepError)) (w : World) → m.domain ≡ d → IsSound d → length steps ≤ k → Run m (opening m) (take k steps) answers w → IsReached m w
 is_reached m d steps k answers w same sound long run = record {
   steps = steps;
   answers = answers;
-  reaches = record {
-    sound = subst IsSound (sym same) sound;
-    run = subst (λ l. Run m (opening m) l answers w) (take_all k steps long) run;
-  };
+  reaches = reached m d steps k answers w same sound long run;
 }

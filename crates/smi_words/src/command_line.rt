@@ -52,39 +52,50 @@ fn inputs_in(files: &[&str]) -> usize {
 
 fn asked_of<'a>(alloc: Global, matches: &ArgMatches<'a>) -> Result<Option<Asked<'a>>, AllocError> {
     if let Some(check) = matches.subcommand_matches("check") {
-        return match check.get_strs("FILE") {
-            Some(files) => Ok(Some(Asked::Check(files.to_vec(alloc)?))),
-            None => Ok(None),
-        };
+        return files_to_check(alloc, check);
     }
     if let Some(step) = matches.subcommand_matches("step") {
-        return Ok(step_options(step).map(Asked::Step));
+        return Ok(schedule_to_run(step));
     }
     if let Some(audit) = matches.subcommand_matches("audit") {
-        return Ok(audit_options(audit).map(Asked::Audit));
+        return Ok(journal_to_judge(audit));
     }
     match matches.subcommand_matches("print") {
-        Some(print) => Ok(print.get_str("FILE").map(Asked::Print)),
+        Some(print) => Ok(file_to_print(print)),
         None => Ok(None),
     }
 }
 
-fn step_options<'a>(step: &ArgMatches<'a>) -> Option<StepOptions<'a>> {
-    Some(StepOptions {
+fn files_to_check<'a>(
+    alloc: Global,
+    check: &ArgMatches<'a>,
+) -> Result<Option<Asked<'a>>, AllocError> {
+    match check.get_strs("FILE") {
+        Some(files) => Ok(Some(Asked::Check(files.to_vec(alloc)?))),
+        None => Ok(None),
+    }
+}
+
+fn file_to_print<'a>(print: &ArgMatches<'a>) -> Option<Asked<'a>> {
+    Some(Asked::Print(print.get_str("FILE")?))
+}
+
+fn schedule_to_run<'a>(step: &ArgMatches<'a>) -> Option<Asked<'a>> {
+    Some(Asked::Step(StepOptions {
         file: step.get_str("FILE")?,
         schedule: step.get_str("SCHEDULE")?,
         capacity: step.get_one::<usize>("capacity")?,
         max_starts: step.get_one::<usize>("max-starts")?,
         journal: step.get_str("journal"),
-    })
+    }))
 }
 
-fn audit_options<'a>(audit: &ArgMatches<'a>) -> Option<AuditOptions<'a>> {
-    Some(AuditOptions {
+fn journal_to_judge<'a>(audit: &ArgMatches<'a>) -> Option<Asked<'a>> {
+    Some(Asked::Audit(AuditOptions {
         file: audit.get_str("FILE")?,
         journal: audit.get_str("JOURNAL")?,
         explain: audit.get_flag("explain"),
-    })
+    }))
 }
 
 fn smirun_command<'a>(alloc: Global) -> Result<Command<'a>, AllocError> {

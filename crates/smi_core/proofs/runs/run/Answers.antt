@@ -6,7 +6,7 @@ use Rattle.smi_world.specs.declared.step.Step.TheVariants as step
 use Rattle.smi_world.specs.World.{Setup, opening}
 use Rattle.smi_world.specs.Steps.{Run}
 use Rattle.sml_domain.specs.Sound.{IsSound}
-use Rattle.smi_core.proofs.Extended.{run_more, is_reached}
+use Rattle.smi_core.proofs.Extended.{run_more, is_reached, reached}
 use Rattle.smi_core.proofs.runs.run.Goals as goal
 
 pub loop-step-init : goal.loop-step-init
@@ -25,6 +25,15 @@ loop-step-preserved c =
       run = subst P (sym c.step-answer.ensures.setup) (rw (more, item, pushed) (run_more i.core.setup (opening i.core.setup) (take i.step-index c.args.steps.now) i.answers.items i.core.world w2 c.step-item.result c.step-answer.result i.invariant.run c.step-answer.ensures.step));
       setup = c.step-answer.ensures.setup ∙ i.invariant.setup;
     }
+
+pub returns-clause-setup : goal.returns-clause-setup
+returns-clause-setup c = c.loop-step.invariant.setup ∙ c.in_ok-core.ensures.setup
+
+pub returns-clause-run : goal.returns-clause-run
+returns-clause-run c =
+    let i = c.loop-step in
+    let setup = i.invariant.setup ∙ c.in_ok-core.ensures.setup in
+    reached i.core.setup _ c.args.steps.now i.step-index i.answers.items i.core.world (ap (λ (m : Setup). m.domain) setup) (subst IsSound c.deref.ensures c.objects-sound.ensures.sound) (omega arith) i.invariant.run
 
 pub returns-clause-legal : goal.returns-clause-legal
 returns-clause-legal c =

@@ -1,10 +1,10 @@
 use Rattle.smi_core.specs.Output.{LineWrites}
 use Rattle.std.proofs.Common.{◌≡◌, ◌+◌, Result, Err, arith, drop, subst, take-append-drop}
-use Rattle.std.proofs.lemmas.List.{take_more}
+use Rattle.std.proofs.lemmas.List.{take_all, take_more}
 use Rattle.smi_core.specs.declared.schedule.LineFault.{LineFault}
 use Rattle.smi_core.specs.declared.schedule.LineFault.TheVariants.{Write}
-use Rattle.smi_core.specs.Feeds.{Halted}
-use Rattle.smi_core.proofs.Parts.{went_more, halted_more, halted_before}
+use Rattle.smi_core.specs.Feeds.{Halted, Went}
+use Rattle.smi_core.proofs.Parts.{went_none, went_more, halted_more, halted_before}
 use Rattle.smi_core.proofs.schedule.feed_chunk.Goals as goal
 
 pub returns-in-Err-clause-err : goal.returns-in-Err-clause-err
@@ -21,3 +21,11 @@ loop-b-preserved g c line p =
     let i = c.loop-b.b-index in
     let more = take_more c.args.chunk.now i 0 (omega arith) in
     rw more (went_more LineWrites _ line _ _ _ _ _ _ _ _ _ _ _ (c.loop-b.invariant line p) c.in_default.ensures.ok)
+
+pub loop-b-init : goal.loop-b-init
+loop-b-init g c line p = went_none LineWrites _ line _ _ _ p
+
+pub returns-clause-ok : goal.returns-clause-ok
+returns-clause-ok g c line p =
+    let i = c.loop-b in
+    subst (λ l. Went LineWrites c.args.core.now line l (g.W.Sink.contents c.args.writer.now) (g.W.Sink.contents i.writer) i.core i.pending.kept.items i.pending.over) (take_all i.b-index c.args.chunk.now (omega arith)) (i.invariant line p)

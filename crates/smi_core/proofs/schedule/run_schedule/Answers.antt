@@ -1,9 +1,9 @@
 use Rattle.smi_core.specs.Output.{LineWrites}
-use Rattle.std.proofs.Common.{◌++◌, ◌≤◌, Err, ap, arith, length, take, inl, inr, refl}
+use Rattle.std.proofs.Common.{[], ◌++◌, ◌≤◌, Err, ap, arith, length, take, inl, inr, refl}
 use Rattle.std.proofs.lemmas.Grind.{common_steps}
 use Rattle.std.proofs.Common.{length-append, length-take-le}
-use Rattle.smi_core.proofs.Io.{consumes_more, consumes_kept, consumes_empty}
-use Rattle.smi_core.proofs.Parts.{went_more, halted_more, halted_here, halted_now, first_lines, whole, torn, whole_lines}
+use Rattle.smi_core.proofs.Io.{consumes_none, consumes_more, consumes_kept, consumes_empty}
+use Rattle.smi_core.proofs.Parts.{went_none, went_more, halted_more, halted_here, halted_now, first_lines, whole, torn, whole_lines}
 use Rattle.smi_core.proofs.schedule.run_schedule.Goals as goal
 
 pub returns-in_default-clause-err : goal.returns-in_default-clause-err
@@ -20,6 +20,14 @@ pub returns-in-Err-clause-err : goal.returns-in-Err-clause-err
 returns-in-Err-clause-err g c =
     let s = c.reads.invariant.so_far in
     (s.0 ++ take c.in-Some.n c.fetch.new.buf, consumes_more _ _ _ _ _ s.1 c.in-Some.ensures.some.1, first_lines LineWrites _ _ _ _ _ _ _ (λ e. ap Err (c.of_schedule.ensures.write.1 (cc e))) (halted_more LineWrites _ _ _ _ _ _ _ _ _ _ _ _ s.3 c.in-Err.ensures.err), inl (omega (arith, s.2, c.reads.invariant.most, c.if-n-total.false, length-take-le c.in-Some.n c.fetch.new.buf c.in-Some.ensures.some.0, length-append s.0 (take c.in-Some.n c.fetch.new.buf))))
+
+-- nothing is read, fed or kept yet
+pub reads-init : goal.reads-init
+reads-init g c = record {
+  most = omega (arith);
+  room = refl;
+  so_far = ([], consumes_none _, refl, went_none LineWrites _ [] _ _ _ (c.new.ensures.items, omega (arith)));
+}
 
 pub reads-preserved : goal.reads-preserved
 reads-preserved g c =

@@ -9,6 +9,9 @@ use Rattle.sml_print.proofs.Tolds.{flat_more, flat_all, block_flat, else_some, e
 use Rattle.sml_print.proofs.Tolds.{then_told}
 use Rattle.sml_print.proofs.block.+blocks.Goals as goal
 
+pub tell_block-loop-instr-init : goal.tell_block-loop-instr-init
+tell_block-loop-instr-init g t c = (told_nothing _ _, λ h. h)
+
 pub tell_block-loop-instr-preserved : goal.tell_block-loop-instr-preserved
 tell_block-loop-instr-preserved g t c = (
   told_as _ _ _ _ _ _ (then_told c.loop-instr.invariant.0 c.tell_instr.ensures.told)

@@ -8,6 +8,9 @@ use Rattle.sml_tree.proofs.block.+copy.Goals as goal
 pub Block::copy_by-copy_by-requires : goal.Block::copy_by-copy_by-requires
 Block::copy_by-copy_by-requires g t c = λ κs within. (omega (arith, item_smaller c.args.self.now _ c.loop-instr.instr-index c.instr-item.result c.deref-instr-items.ensures.value c.loop-instr-test.true c.instr-item.is, c.decreases), within)
 
+pub Block::copy_by-loop-instr-init : goal.Block::copy_by-loop-instr-init
+Block::copy_by-loop-instr-init g t c = ap (map instr_content) c.new-instrs.ensures.items
+
 pub Block::copy_by-loop-instr-preserved : goal.Block::copy_by-loop-instr-preserved
 Block::copy_by-loop-instr-preserved g t c =
     let added = c.in_ok-add.ensures in
