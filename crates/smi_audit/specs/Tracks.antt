@@ -41,7 +41,11 @@ pub record IsTracked (d : Domain) (J : List Entry) (o : ℕ) (t : TrackView) : T
 
 -- the track of an object with these parameters, among so many, before its first entry
 abbrev pub first_track : List Param → ℕ → TrackView
-first_track params objects = record { params = filter_map first_value params; follower = None; calls = replicate objects [] }
+first_track params objects = record {
+  params = filter_map first_value params;
+  follower = None;
+  calls = replicate objects [];
+}
 
 -- a track of which nothing is known
 abbrev pub no_track : TrackView

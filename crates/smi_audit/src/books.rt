@@ -41,7 +41,8 @@ pub(crate) fn add_start(
     requires within { o < length ledger.old.domain.objects }
     requires known { IsKnown (length ledger.old.domain.objects) sender.now }
     requires closed { says.open_at o ledger.old.journal ≡ None }
-    ensures journal { OnOk result (ledger.new.journal ≡ ledger.old.journal ++ entry.Start o sender.now number action args.now ∷ []) }
+    ensures journal { OnOk result (ledger.new.journal
+        ≡ ledger.old.journal ++ entry.Start o sender.now number action args.now ∷ []) }
     ensures domain { OnOk result (ledger.new.domain ≡ ledger.old.domain) }
 {
     let entered = letter(sender, number, action, args)?;
@@ -62,7 +63,8 @@ pub(crate) fn add_post(
 ) -> Result<(), AllocError>
     requires within { o < length ledger.old.domain.objects }
     requires target { target < length ledger.old.domain.objects }
-    ensures journal { OnOk result (ledger.new.journal ≡ ledger.old.journal ++ entry.Post o target verdict.now action args.now ∷ []) }
+    ensures journal { OnOk result (ledger.new.journal
+        ≡ ledger.old.journal ++ entry.Post o target verdict.now action args.now ∷ []) }
     ensures domain { OnOk result (ledger.new.domain ≡ ledger.old.domain) }
 {
     let args = args.share()?;

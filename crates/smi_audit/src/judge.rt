@@ -124,7 +124,8 @@ impl Judge {
     pub(crate) fn has_number(&self, o: ObjId, target: ObjId, verdict: &Verdict) -> bool
         requires within { o < length self.now.ledger.domain.objects }
         requires target { target < length self.now.ledger.domain.objects }
-        ensures { IsTrue result ↔ rules.HasNumber (length (says.posts_between o target self.now.ledger.journal)) verdict.now }
+        ensures { IsTrue result
+            ↔ rules.HasNumber (length (says.posts_between o target self.now.ledger.journal)) verdict.now }
     {
         match verdict {
             Verdict::Accepted(number) => *number == self.ledger.posted(o, target) as u64,

@@ -15,8 +15,12 @@ use Rattle.smi_commands.specs.declared.judgement.Judgement.TheVariants.{Good, Un
 abbrev pub judgement_text : Judgement → List ℕ
 judgement_text Good = codes "ok"
 judgement_text Unreadable = codes "unreadable"
-judgement_text (Read e) = codes "read " ++ decimal (read.number_of e.kind) ++ codes " " ++ read.name_of e.kind ++ codes " at " ++ decimal e.offset
-judgement_text (Check e) = codes "check " ++ decimal (faults.number_of e.kind) ++ codes " " ++ faults.name_of e.kind ++ codes " " ++ e.name
+judgement_text (Read e) =
+    codes "read " ++ decimal (read.number_of e.kind) ++ codes " " ++ read.name_of e.kind
+    ++ codes " at " ++ decimal e.offset
+judgement_text (Check e) =
+    codes "check " ++ decimal (faults.number_of e.kind) ++ codes " " ++ faults.name_of e.kind
+    ++ codes " " ++ e.name
 
 -- the exit status
 abbrev pub judgement_status : Judgement → ℕ
