@@ -105,6 +105,25 @@ pub front_reading : (source : Source) (at : ℕ) (text : List ℕ) (x : Front) �
     → reading source at text ≡ with_thing at (front_what x text) (reading source (at + front_size x) (drop (front_size x) text))
 front_reading source at text x s e = reading_first source at text _ (sym (front_first source text x s) ∙ stands_thing x text e)
 
+-- what stands at the front stands there by all its bytes
+front_stands_first : (source : Source) (text : List ℕ) (x : Front) → IsFront source text x → front_stands x ≡ true → StandsFirst source text (front_size x) (front_what x text)
+front_stands_first source text End s e = absurd (cc e)
+front_stands_first source text (Skip n) s e = s
+front_stands_first source text (AWord n) s e = s
+front_stands_first source text (AnInt value n) s e = s
+front_stands_first source text (AStr n) s e = s
+front_stands_first source text (ASign it) s e = s
+front_stands_first source text (ASession k) s e = s
+front_stands_first source text Bad s e = absurd (cc e)
+
+-- likewise in the text that it stands in, from its place to the place behind it
+pub stands_there : (source : Source) (text rest : List ℕ) (from at size : ℕ) (x : Front) (what : Option Lexeme) → IsFront source rest x → front_stands x ≡ true
+    → rest ≡ drop (at - from) text → size ≡ front_size x → front_what x rest ≡ what → StandsFirst source (drop (at - from) text) (at + size - at) what
+stands_there source text rest from at size x what front stands there sized told =
+    let first = subst (λ w. StandsFirst source rest (front_size x) w) told (front_stands_first source rest x front stands) in
+    let e : front_size x ≡ at + size - at = omega (arith, sized) in
+    subst (λ n. StandsFirst source (drop (at - from) text) n what) e (subst (λ t. StandsFirst source t (front_size x) what) there first)
+
 -- and that is some bytes of the text
 pub front_takes : (source : Source) (text : List ℕ) (x : Front) → IsFront source text x → front_stands x ≡ true → (0 < front_size x) × (front_size x ≤ length text)
 front_takes source text x s e = subst (λ t. Takes t text) (stands_thing x text e) (thing_takes source text (thing_of x text) (front_thing source text x s))

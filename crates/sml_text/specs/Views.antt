@@ -1,5 +1,6 @@
 -- What a token in the program stands for.
-use Rattle.std.specs.Prelude.{◌≤◌, ℕ, ◌+◌, List, length, take, drop, IsTrue}
+use Rattle.std.specs.Prelude.{◌≤◌, ℕ, ◌+◌, ◌-◌, List, length, take, drop, IsTrue, Some}
+use Rattle.sml_text.specs.declared.source.Source.{Source}
 use Rattle.sml_text.specs.declared.front.Front.{Front}
 use Rattle.sml_text.specs.declared.front.Front.TheVariants.{Word as AWord, Str as AStr, Session as ASession}
 use Rattle.sml_text.specs.declared.tokens.Lexeme.{Lexeme as Read}
@@ -7,6 +8,7 @@ use Rattle.sml_text.specs.declared.tokens.Lexeme.TheVariants.{Word as ReadWord, 
 use Rattle.sml_text.specs.declared.tokens.Token.{Token as ReadToken}
 use Rattle.sml_text.specs.Bytes.{is_word, is_string_byte, folded}
 use Rattle.sml_text.specs.Tokens.{Lexeme, Word, Int, Str, Sign, Session, Token, Each}
+use Rattle.sml_text.specs.Front.{StandsFirst}
 use Rattle.sml_text.specs.declared.limits.TheConstants.{LONGEST_STRING}
 
 -- a lexeme, whose words are folded
@@ -20,6 +22,11 @@ lexeme_of (ReadSession k) = Session k
 -- a token, likewise
 abbrev pub token_of : ReadToken → Token
 token_of t = record { lexeme = lexeme_of t.lexeme; at = t.at }
+
+-- in a text whose first byte is at a place, the bytes from the token's place to the place behind it are the token
+abbrev pub StandsAt : Source → ℕ → List ℕ → ReadToken → ℕ → Type 0
+StandsAt source at text token behind = (at ≤ token.at) × (token.at ≤ behind)
+    × StandsFirst source (drop (token.at - at) text) (behind - token.at) (Some (lexeme_of token.lexeme))
 
 -- the bytes that a token may hold
 abbrev pub IsLexeme : Read → Type 0

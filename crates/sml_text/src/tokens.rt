@@ -4,7 +4,7 @@ ghost use Rattle.std.specs.Prelude.{◌≡◌, ◌<◌, ◌+◌, ◌-◌, ◌^�
 ghost use Rattle.sml_text.specs.Tokens.{Token as Told, TokensOf, BadTokenOf};
 ghost use Rattle.sml_text.specs.Front.{front_what};
 ghost use Rattle.sml_text.specs.Stream.{tokens_from};
-ghost use Rattle.sml_text.specs.Views.{lexeme_of, token_of, IsLexeme, FrontFits};
+ghost use Rattle.sml_text.specs.Views.{lexeme_of, token_of, StandsAt, IsLexeme, FrontFits};
 
 use crate::front::{Front, front_at};
 use crate::source::{Sign, Source};
@@ -45,15 +45,17 @@ fn lexeme_at(front: Front, text: &[u8]) -> Option<Lexeme>
     }
 }
 
-/// The next token of a text whose first byte is at this place, with the text behind the token and
-/// its place; or None at the end of the text and at the first thing that is no token.
+/// The next token of a text whose first byte is at this place, with the text directly behind the token
+/// and its place; or None at the end of the text and at the first thing that is no token.
 ///
 /// The place and the length of the text may be 2^63 - 1 bytes together at most, so that no place is
 /// too large to be counted. The time grows with the bytes up to the end of the token. No memory is taken.
+#[tactic(auto, using(crate::proofs::Streams::stands_there))]
 pub fn next_token(source: Source, text: &[u8], at: usize) -> Option<(Token, &[u8], usize)>
     requires { at + length text.now < 2 ^ 63 }
     ensures next { MatchOption result (tokens_from source at text.now ≡ [])
         (λ x. tokens_from source at text.now ≡ token_of x.0 ∷ tokens_from source x.2 x.1.now) }
+    ensures token { IfSome result (λ x. StandsAt source at text.now x.0 x.2) }
     ensures within { IfSome result (λ x.
         (x.2 + length x.1.now ≡ at + length text.now) × (length x.1.now < length text.now)) }
     ensures behind { IfSome result (λ x. x.1.now ≡ drop (x.2 - at) text.now) }
