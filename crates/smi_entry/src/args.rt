@@ -7,29 +7,37 @@ use std::alloc::{AllocError, Global};
 use std::marker::Model;
 use std::sync::Arc;
 
-/// The arguments of a request in the order of the action's parameters. Their owners share them.
+/// The arguments of a request in the order of the action's parameters. Their owners share them. An empty list
+/// takes no memory, and nothing of it is shared.
 #[derive(Drop)]
 pub struct Args {
-    values: Arc<Vec<Value>, Global>,
+    values: Option<Arc<Vec<Value>, Global>>,
 }
 
 impl Model for Args {
     ghost use Rattle.std.specs.Prelude.{List};
     ghost use Rattle.std.specs.Arc.{arc_value};
     ghost use Rattle.sml_domain.specs.declared.value.Value.{Value as Val};
+    ghost use Rattle.smi_entry.specs.Shares.{shared_items};
 
     ghost Value = { List Val };
 
-    ghost view = { λ a. (arc_value a.values).items };
+    ghost view = { λ a. shared_items a.values (λ values. (arc_value values).items) };
 }
 
 impl Args {
-    /// The arguments of a list, whose values are moved and not copied.
+    /// The arguments of a list, whose values are moved and not copied. An empty list takes no memory. An
+    /// error means out of memory.
     pub fn new(alloc: Global, values: Vec<Value>) -> Result<Args, AllocError>
         ensures { IfOk result (λ a. a ≡ values.items) }
     {
+        if values.is_empty() {
+            return Ok(Args { values: None });
+        }
         match Arc::new(alloc, values) {
-            Ok(values) => Ok(Args { values }),
+            Ok(values) => Ok(Args {
+                values: Some(values),
+            }),
             Err(_) => Err(AllocError),
         }
     }
@@ -38,16 +46,22 @@ impl Args {
     pub fn values(&self) -> &[Value]
         ensures { result.now ≡ self.now }
     {
-        &self.values
+        match &self.values {
+            Some(values) => values,
+            None => &[],
+        }
     }
 
     /// The same arguments, shared. Only the count of their owners changes.
     pub fn share(&self) -> Result<Args, AllocError>
         ensures { IfOk result (λ a. a ≡ self.now) }
     {
-        Ok(Args {
-            values: Arc::try_clone(&self.values)?,
-        })
+        match &self.values {
+            Some(values) => Ok(Args {
+                values: Some(Arc::try_clone(values)?),
+            }),
+            None => Ok(Args { values: None }),
+        }
     }
 }
 
