@@ -1,14 +1,15 @@
 //! The fields of a task, and its steps.
-ghost use Rattle.std.specs.Prelude.{◌≡◌, ◌≤◌, ◌+◌, ◌++◌, IsSome, IsTrue, is_some, None, Some, length, slice_set, vec_capacity, vec_len};
+ghost use Rattle.std.specs.Prelude.{◌≡◌, ◌≤◌, ◌+◌, ◌++◌, [], IsSome, IsTrue, is_some, None, Some, length, slice_set, vec_capacity, vec_len};
 ghost use Rattle.sml_domain.specs.Lookups.{block_at, program_at};
-ghost use Rattle.sml_domain.specs.Places.{left_at};
-ghost use Rattle.smi_interp.specs.Turn.{readings_of};
+ghost use Rattle.smi_meaning.specs.Meaning.{DidSend};
+ghost use Rattle.smi_interp.specs.Turn.{HasAVerdictEach, move_of, posted_of, readings_of};
+ghost use Rattle.smi_interp.specs.Cursor.{left_in};
 
 use crate::contact::{Contact, Objects, Posts};
 use crate::cursor::{Place, branch_of, contact_at, make_room, next_of, settle};
 use crate::turn::{Move, TurnRecord};
-use smi_entry::args::Reading;
-use smi_entry::entry::Verdict;
+use smi_entry::args::{Args, Reading};
+use smi_entry::entry::{Sender, Verdict};
 use smi_entry::letter::Letter;
 use sml_domain::domain::Domain;
 use sml_domain::ids::{ActionId, BlockId, ObjId, ParamId, StateId};
@@ -37,16 +38,6 @@ pub struct Run {
     pub alloc: Global,
 }
 
-/// What a task is made of before it begins, with its growths made.
-#[derive(Drop)]
-pub struct Parts {
-    pub domain: Arc<Domain, Global>,
-    pub object: ObjId,
-    pub start: Vec<Value>,
-    pub params: Vec<Value>,
-    pub alloc: Global,
-}
-
 impl Run {
     ghost use Rattle.std.specs.Prelude.{◌≡◌, ◌<◌, ◌++◌, ◌∷◌, [], IfOk, IfSome, IsSomeAnd, IsTrue, None, OnErr, OnOk, Some, is_some, length, vec_capacity, vec_len};
     ghost use Rattle.sml_domain.specs.Lookups.{block_at};
@@ -57,34 +48,60 @@ impl Run {
     ghost use Rattle.smi_interp.specs.Turn.{posted_of, readings_of};
     ghost use Rattle.smi_interp.specs.Cursor.{HasRoom, Waits};
     ghost use Rattle.smi_interp.specs.Task.{IsNext, LeftAsks, WantsStates, WantsVerdicts, begun, shown, with_move, with_states, with_verdicts};
-    ghost use Rattle.smi_interp.specs.Run.{IsSound, contact_here, here, task_of};
+    ghost use Rattle.smi_interp.specs.Run.{IsBlank, IsSound, contact_here, here, task_of};
 
-    /// A task that made no move, at the beginning of the block that a state declares for the action.
-    pub fn begin(parts: Parts, state: StateId, letter: Letter) -> Run
-        requires declared { IsTrue (is_some (block_at (arc_value parts.domain) parts.object state letter.action)) }
-        requires same { parts.start.items ≡ parts.params.items }
-        ensures sound { IsSound result }
-        ensures task { task_of result ≡ begun (arc_value parts.domain) parts.object state letter parts.params.items }
+    /// A task that is not begun, of an object with these parameters. The arguments stand in its letter until it is.
+    pub fn blank(
+        alloc: Global,
+        domain: Arc<Domain, Global>,
+        object: ObjId,
+        start: Vec<Value>,
+        params: Vec<Value>,
+        args: Args,
+    ) -> Run
+        requires { start.items ≡ params.items }
+        ensures blank { IsBlank result }
+        ensures domain { arc_value result.domain ≡ arc_value domain }
+        ensures object { result.turn.object ≡ object }
+        ensures params { result.params.items ≡ params.items }
     {
-        let alloc = parts.alloc;
-        let block = block_of(&parts.domain, parts.object, state, letter.action);
         Run {
-            domain: parts.domain,
+            domain,
             turn: TurnRecord {
-                object: parts.object,
-                state,
-                params: parts.start,
-                letter,
+                object,
+                state: StateId::new(0),
+                params: start,
+                letter: Letter {
+                    sender: Sender::Object(object),
+                    number: 0,
+                    action: ActionId::new(0),
+                    args,
+                },
                 moves: Vec::new(alloc),
             },
-            params: parts.params,
-            at: Place { block, index: 0 },
+            params,
+            at: Place {
+                block: BlockId::new(0),
+                index: 0,
+            },
             later: Vec::new(alloc),
             pending: None,
             verdicts: Vec::new(alloc),
             readings: Vec::new(alloc),
             alloc,
         }
+    }
+
+    /// Begins, with no move made, at the block that a state declares for the action of a letter.
+    pub fn open(&mut self, state: StateId, letter: Letter)
+        requires blank { IsBlank self.old }
+        requires declared { IsTrue (is_some (block_at (arc_value self.old.domain) self.old.turn.object state letter.action)) }
+        ensures sound { IsSound self.new }
+        ensures task { task_of self.new ≡ begun (arc_value self.old.domain) self.old.turn.object state letter self.old.params.items }
+    {
+        self.at = first_place(&self.domain, self.turn.object, state, letter.action);
+        self.turn.state = state;
+        put_letter(&mut self.turn.letter, letter);
     }
 
     /// The next move, or the contact that waits.
@@ -162,11 +179,10 @@ impl Run {
         ensures sound { IsSound self.new }
         ensures sent { task_of self.new ≡ with_move (task_of self.old) (DidSend (posted_of posts verdicts.now)) }
     {
-        add_verdicts(&mut self.verdicts, verdicts);
-        let verdicts = mem::replace(&mut self.verdicts, Vec::new(self.alloc));
+        let room = mem::replace(&mut self.verdicts, Vec::new(self.alloc));
         self.turn
             .moves
-            .push_reserved(Move::Sent { posts, verdicts });
+            .push_reserved(sent_move(room, posts, verdicts));
         self.at = next_of(&self.domain, self.at);
     }
 
@@ -234,17 +250,24 @@ impl Run {
     }
 }
 
-// The block that a state declares for an action.
-fn block_of(domain: &Domain, object: ObjId, state: StateId, action: ActionId) -> BlockId
+// Where the block that a state declares for an action begins.
+fn first_place(domain: &Domain, object: ObjId, state: StateId, action: ActionId) -> Place
     requires { IsTrue (is_some (block_at domain.now object state action)) }
-    ensures tree { Some (left_at domain.now.blocks result 0) ≡ program_at domain.now object state action }
+    ensures { Some (left_in domain.now result) ≡ program_at domain.now object state action }
 {
     let Some(block) = domain.block(object, state, action) else {
         unreachable!();
     };
     // What is left of a block at its beginning is its tree.
     let _instrs = domain.instructions(block);
-    block
+    Place { block, index: 0 }
+}
+
+// Puts a letter in the place of another.
+fn put_letter(place: &mut Letter, letter: Letter)
+    ensures { place.new ≡ letter }
+{
+    *place = letter;
 }
 
 // Gives a parameter a value. In a domain no place beyond the end is set.
@@ -270,6 +293,22 @@ fn take_contact(pending: &mut Option<Contact>) -> Contact
     match pending.take() {
         Some(contact) => contact,
         None => unreachable!(),
+    }
+}
+
+// A `do` that sent its posts and was answered by these verdicts, which are kept in the room for them.
+fn sent_move(room: Vec<Verdict>, posts: Posts, verdicts: &[Verdict]) -> Move
+    requires room { vec_len room + length verdicts.now ≤ vec_capacity room }
+    requires empty { room.items ≡ [] }
+    requires each { length verdicts.now ≡ length posts }
+    ensures each { HasAVerdictEach result }
+    ensures is { move_of result ≡ DidSend (posted_of posts verdicts.now) }
+{
+    let mut told = room;
+    add_verdicts(&mut told, verdicts);
+    Move::Sent {
+        posts,
+        verdicts: told,
     }
 }
 

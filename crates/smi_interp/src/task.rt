@@ -2,8 +2,9 @@
 ghost use Rattle.std.specs.Prelude.{◌≡◌, IfOk};
 
 use crate::contact::Contact;
-use crate::run::{Parts, Run};
+use crate::run::Run;
 use crate::turn::TurnRecord;
+use smi_entry::args::Args;
 use smi_entry::entry::Verdict;
 use smi_entry::envelope::Envelope;
 use smi_entry::letter::Letter;
@@ -14,10 +15,10 @@ use std::alloc::{AllocError, Global};
 use std::marker::Model;
 use std::sync::Arc;
 
-/// What a task is made of, with its growths made: so that a task begins without memory.
+/// A task that is not begun. All that it is made of is there, so that it begins without memory.
 #[derive(Drop)]
 pub struct Ready {
-    parts: Parts,
+    run: Box<Run, Global>,
 }
 
 impl Model for Ready {
@@ -26,18 +27,19 @@ impl Model for Ready {
     ghost use Rattle.std.specs.Coded.{codes};
     ghost use Rattle.sml_domain.specs.Codes.{formula_code};
     ghost use Rattle.smi_interp.specs.Task.{ReadyView};
+    ghost use Rattle.smi_interp.specs.Run.{IsBlank};
 
     ghost Value = { ReadyView };
 
     ghost coded = { Prim.hlevel (codes, formula_code) };
 
     ghost view = { λ r. record {
-      domain = arc_value r.parts.domain;
-      object = r.parts.object;
-      params = r.parts.params.items;
+      domain = arc_value r.run.value.domain;
+      object = r.run.value.turn.object;
+      params = r.run.value.params.items;
     } };
 
-    ghost invariant = { λ r. r.parts.start.items ≡ r.parts.params.items };
+    ghost invariant = { λ r. IsBlank r.run.value };
 }
 
 // The same values, whose texts are shared.
@@ -57,8 +59,8 @@ impl Ready {
     ghost use Rattle.sml_domain.specs.Lookups.{block_at};
     ghost use Rattle.smi_interp.specs.Task.{begun};
 
-    /// Makes the growths of a task of an object with these parameters, which are in the order of its
-    /// class's list. An error is want of memory. The cost is the count of the parameters.
+    /// Takes the memory of a task of an object with these parameters, which are in the order of its
+    /// class's list. An error means out of memory. The cost is the count of the parameters.
     pub fn new(
         alloc: Global,
         domain: Arc<Domain>,
@@ -69,15 +71,12 @@ impl Ready {
     {
         let start = shared_values(alloc, params)?;
         let params = shared_values(alloc, params)?;
-        Ok(Ready {
-            parts: Parts {
-                domain,
-                object,
-                start,
-                params,
-                alloc,
-            },
-        })
+        let args = Args::new(alloc, Vec::new(alloc))?;
+        let blank = Run::blank(alloc, domain, object, start, params, args);
+        match Box::new(alloc, blank) {
+            Ok(run) => Ok(Ready { run }),
+            Err(_) => Err(AllocError),
+        }
     }
 
     /// A task that made no move: the action of an envelope, which the object's class declares in a
@@ -94,10 +93,9 @@ impl Ready {
         requires { IsTrue (is_some (block_at self.domain self.object state letter.action)) }
         ensures { result ≡ begun self.domain self.object state letter self.params }
     {
-        let Ready { parts } = self;
-        Task {
-            run: Run::begin(parts, state, letter),
-        }
+        let Ready { mut run } = self;
+        run.open(state, letter);
+        Task { run }
     }
 }
 
@@ -108,7 +106,7 @@ impl Ready {
 /// also for the answer.
 #[derive(Drop)]
 pub struct Task {
-    run: Run,
+    run: Box<Run, Global>,
 }
 
 impl Model for Task {
@@ -121,14 +119,14 @@ impl Model for Task {
 
     ghost coded = { Prim.hlevel (codes, formula_code) };
 
-    ghost view = { λ t. task_of t.run };
+    ghost view = { λ t. task_of t.run.value };
 
-    ghost invariant = { λ t. IsSound t.run };
+    ghost invariant = { λ t. IsSound t.run.value };
 }
 
 impl Task {
-    ghost use Rattle.std.specs.Prelude.{◌≡◌, IfOk, IfSome, IsSomeAnd, OnErr, length, option_map};
-    ghost use Rattle.smi_interp.specs.Turn.{turn_of};
+    ghost use Rattle.std.specs.Prelude.{◌≡◌, All, IfOk, IfSome, IsSomeAnd, OnErr, length, option_map};
+    ghost use Rattle.smi_interp.specs.Turn.{HasAVerdictEach, turn_of};
     ghost use Rattle.smi_interp.specs.Cursor.{Waits};
     ghost use Rattle.smi_interp.specs.Task.{EndsWhole, IsNext, IsUnderWay, LeftAsks, WantsStates, WantsVerdicts, shown, with_states, with_verdicts};
 
@@ -180,6 +178,8 @@ impl Task {
     /// The record of the turn: the moves so far with their verdicts and readings.
     pub fn turn(&self) -> &TurnRecord
         ensures is { turn_of result.now ≡ self.now.turn }
+        // The verdicts on a `do` are as many as its posts.
+        ensures each { All HasAVerdictEach result.now.moves.items }
         ensures under_way { IsUnderWay self.now }
     {
         &self.run.turn
@@ -191,6 +191,6 @@ impl Task {
         ensures under_way { IsUnderWay self }
     {
         let Task { run } = self;
-        run.params
+        Box::into_inner(run).params
     }
 }
