@@ -106,6 +106,20 @@ impl Ledger {
         self.journal.entries()
     }
 
+    /// The journal, without its books. It costs what giving up the books costs: the square of the count of objects.
+    pub fn into_journal(self) -> Journal
+        ensures { result.entries ≡ self.journal }
+    {
+        let Ledger {
+            domain: _,
+            journal,
+            spare: _,
+            slots: _,
+            starts: _,
+        } = self;
+        journal
+    }
+
     // The slot of an object.
     fn slot(&self, o: ObjId) -> &Slot
         requires { o < length self.now.domain.objects }
