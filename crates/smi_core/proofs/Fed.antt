@@ -62,9 +62,13 @@ module _ {S : Type 0} (makes : S → List ℕ → List ℕ → S → Type 0) whe
       (m3, last, [], subst Q (p.2 ∙ sym (append-nil line)) (subst P p.1 q), (refl, refl), ap (λ o. o ++ last) p.0 ∙ sym (append-nil last))
   fed m line (x ∷ xs) out m2 line2 last m3 p q = fed_at (x == 10) m line x xs out m2 line2 last m3 (λ n l o f. fed n l xs o m2 line2 last m3 f q) p
 
-  -- the lines that were ended among the bytes fed are the first lines
+  -- the lines that were ended among the bytes fed are the first lines, and one stands behind them
   abbrev pub FedLines : S → List (List ℕ) → List ℕ → S → Type 0
-  FedLines m all out m2 = (ls : List (List ℕ)) × (more : List (List ℕ)) × (all ≡ ls ++ more) × Outputs makes m ls out m2
+  FedLines m all out m2 = (ls : List (List ℕ)) × (next : List ℕ) × (more : List (List ℕ)) × (all ≡ ls ++ next ∷ more) × Outputs makes m ls out m2
+
+  no_lines : (m : S) (front : List ℕ) (lines : List (List ℕ)) → FedLines m (onto front lines) [] m
+  no_lines m front [] = ([], front, [], refl, (refl, refl))
+  no_lines m front (l ∷ ls) = ([], front ++ l, ls, refl, (refl, refl))
 
   fed_lines_at : (b : Bool) (m : S) (line : List ℕ) (x : ℕ) (xs ys out : List ℕ) (m2 : S) (left : List ℕ)
       → ((n : S) (l o : List ℕ) → Feeds makes n l xs o m2 left → FedLines n (onto l (lines_of (xs ++ ys))) o m2)
@@ -74,13 +78,14 @@ module _ {S : Type 0} (makes : S → List ℕ → List ℕ → S → Type 0) whe
       let k = go p.0 [] p.2 p.4 in (
         line ∷ k.0,
         k.1,
-        ap (λ l. l ∷ lines_of (xs ++ ys)) (append-nil line) ∙ ap (λ ls. line ∷ ls) (sym (onto_nothing (xs ++ ys)) ∙ k.2),
-        (p.0, p.1, p.2, p.3, k.3, p.5),
+        k.2,
+        ap (λ l. l ∷ lines_of (xs ++ ys)) (append-nil line) ∙ ap (λ ls. line ∷ ls) (sym (onto_nothing (xs ++ ys)) ∙ k.3),
+        (p.0, p.1, p.2, p.3, k.4, p.5),
       )
   fed_lines_at false m line x xs ys out m2 left go p = subst (λ ls. FedLines m ls out m2) (onto_front line x (lines_of (xs ++ ys))) (go m (line ++ x ∷ []) out p)
 
   pub fed_lines : (m : S) (line xs ys out : List ℕ) (m2 : S) (left : List ℕ) → Feeds makes m line xs out m2 left → FedLines m (onto line (lines_of (xs ++ ys))) out m2
-  fed_lines m line [] ys out m2 left p = ([], onto line (lines_of ys), refl, (p.0, p.1))
+  fed_lines m line [] ys out m2 left p = subst (λ n. FedLines m (onto line (lines_of ys)) out n) (sym p.1) (subst (λ o. FedLines m (onto line (lines_of ys)) o m) (sym p.0) (no_lines m line (lines_of ys)))
   fed_lines m line (x ∷ xs) ys out m2 left p = fed_lines_at (x == 10) m line x xs ys out m2 left (λ n l o f. fed_lines n l xs ys o m2 left f) p
 
   -- the lines that were ended among all the bytes are all but the last

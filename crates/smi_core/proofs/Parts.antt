@@ -87,16 +87,20 @@ module _ {S : Type 0} (makes : S → List ℕ → List ℕ → S → Type 0) whe
       let P : Bool → Type 0 = λ c. cond c ((mid : S) × (one : List ℕ) × (rest : List ℕ) × makes m line one mid × Feeds makes mid [] [] rest m2 [] × (h.1 ++ h.2 ≡ one ++ rest)) (Feeds makes m (line ++ b ∷ []) [] (h.1 ++ h.2) m2 []) in
       record { fed = b ∷ []; unfed = []; out = h.1; unwritten = h.2; left = []; split = refl; feeds = subst P (sym is) (m2, h.1 ++ h.2, [], h.3, (refl, refl, refl), sym (append-nil (h.1 ++ h.2))); written = h.4; whole = inr h.0 }
 
-  pub first_lines : (m : S) (text : List ℕ) (fault fault2 : Type 0) (old new : Option (List ℕ)) (m2 : S) → (fault → fault2) → Halted makes m [] text fault old new m2 → FirstLines makes m text fault2 old new m2
-  first_lines m text fault fault2 old new m2 told h =
+  some_more : (ended : Type 0) (next : List ℕ) (more : List (List ℕ)) → next ∷ more ≡ [] → ended
+  some_more ended next more e = absurd (cc e)
+
+  pub first_lines : (m : S) (text : List ℕ) (ended fault fault2 : Type 0) (old new : Option (List ℕ)) (m2 : S) → (fault → fault2) → Halted makes m [] text fault old new m2 → FirstLines makes m text ended fault2 old new m2
+  first_lines m text ended fault fault2 old new m2 told h =
       let k = fed_lines makes m [] h.fed h.unfed (h.out ++ h.unwritten) m2 h.left h.feeds in
       record {
         lines = k.0;
-        more = k.1;
-        split = ap lines_of h.split ∙ (sym (onto_nothing makes (h.fed ++ h.unfed)) ∙ k.2);
+        more = k.1 ∷ k.2;
+        split = ap lines_of h.split ∙ (sym (onto_nothing makes (h.fed ++ h.unfed)) ∙ k.3);
+        ends = some_more ended k.1 k.2;
         out = h.out;
         unwritten = h.unwritten;
-        outputs = k.3;
+        outputs = k.4;
         written = h.written;
         whole = told_still fault fault2 told h.whole;
       }
@@ -114,11 +118,11 @@ module _ {S : Type 0} (makes : S → List ℕ → List ℕ → S → Type 0) whe
   )
 
   -- the last line was not made, or not written whole
-  pub torn : (m : S) (text : List ℕ) (fault fault2 : Type 0) (old mid new : Option (List ℕ)) (m2 m3 : S) (kept : List ℕ) (over : Bool) → (fault → fault2) → (w : Went makes m [] text old mid m2 kept over)
-      → Torn makes m2 w.left fault mid new m3 → FirstLines makes m text fault2 old new m3
-  torn m text fault fault2 old mid new m2 m3 kept over told w (inl h) =
+  pub torn : (m : S) (text : List ℕ) (ended fault fault2 : Type 0) (old mid new : Option (List ℕ)) (m2 m3 : S) (kept : List ℕ) (over : Bool) → ended → (fault → fault2) → (w : Went makes m [] text old mid m2 kept over)
+      → Torn makes m2 w.left fault mid new m3 → FirstLines makes m text ended fault2 old new m3
+  torn m text ended fault fault2 old mid new m2 m3 kept over end told w (inl h) =
       let out = appends_more old mid new w.out [] w.written h.1 in
-      first_lines m text fault fault2 old new m3 told (record {
+      first_lines m text ended fault fault2 old new m3 told (record {
         fed = text;
         unfed = [];
         out = w.out;
@@ -129,10 +133,11 @@ module _ {S : Type 0} (makes : S → List ℕ → List ℕ → S → Type 0) whe
         written = subst (Appends old new) (append-nil w.out) out;
         whole = inl refl;
       })
-  torn m text fault fault2 old mid new m2 m3 kept over told w (inr h) = record {
+  torn m text ended fault fault2 old mid new m2 m3 kept over end told w (inr h) = record {
     lines = lines_of text;
     more = [];
     split = sym (append-nil (lines_of text));
+    ends = λ _. end;
     out = w.out ++ h.1;
     unwritten = h.2;
     outputs = subst (λ o. Outputs makes m (lines_of text) o m3) (sym (append_assoc w.out h.1 h.2)) (subst (λ ls. Outputs makes m ls (w.out ++ (h.1 ++ h.2)) m3) (onto_nothing makes text) (fed makes m [] text w.out m2 w.left (h.1 ++ h.2) m3 w.feeds h.3));

@@ -296,11 +296,11 @@ impl<R: Read> Input for R {
 ///
 /// Lines that are no steps, and steps that are refused, are told in the output and end nothing. `Read`
 /// comes where the reader failed, `Write` where the writer failed or took nothing, `TooLong` past
-/// `LONGEST_SCHEDULE` bytes, `Memory` where an allocation failed, of a step too. After a fault the first lines
-/// of what was read are made and what they write is written, but for an end of it at `Write`; a line
-/// that was cut off by the fault is not made. It is read in parts of 4,096 bytes; each turn reads a byte
-/// or ends. Memory is taken for one line and for the journal. Every `Read` is an `Input` and every
-/// `Write` a `Sink`.
+/// `LONGEST_SCHEDULE` bytes, `Memory` where an allocation failed, of a step too. After each of them the first
+/// lines of what was read are made and what they write is written, but for an end of it at `Write`. Every
+/// line that is made is whole: a line feed ends it, or the end of the text does. So a piece of a line that a
+/// fault cut off is not made. It is read in parts of 4,096 bytes; each turn reads a byte or ends. Memory is
+/// taken for one line and for the journal. Every `Read` is an `Input` and every `Write` a `Sink`.
 ///
 /// `schedule_tests` has this example as `first_calls::steps_and_runs`; L is a lamp that is off:
 ///
@@ -319,7 +319,8 @@ pub fn run_schedule<R: Input, W: Sink>(
     ensures ok { OnOk result ((text : List ℕ) × Consumes (R.remaining reader.old) (R.remaining reader.new) text × IsAtEnd (R.remaining reader.new) × (length text ≤ LONGEST_SCHEDULE)
         × ((out : List ℕ) × Appends (W.contents writer.old) (W.contents writer.new) out × Outputs LineWrites core.old (lines_of text) out core.new)) }
     ensures err { OnErr result ((text : List ℕ) × Consumes (R.remaining reader.old) (R.remaining reader.new) text
-        × FirstLines LineWrites core.old text (result ≡ Err ScheduleFault.Write) (W.contents writer.old) (W.contents writer.new) core.new
+        × FirstLines LineWrites core.old text (IsAtEnd (R.remaining reader.new)) (result ≡ Err ScheduleFault.Write)
+        (W.contents writer.old) (W.contents writer.new) core.new
         × ((length text ≤ LONGEST_SCHEDULE) ⊎ (result ≡ Err ScheduleFault.TooLong))) }
     ensures too_long { result ≡ Err ScheduleFault.TooLong → (text : List ℕ) × (more : List ℕ) × Consumes (R.remaining reader.old) (R.remaining reader.new) (text ++ more) × (LONGEST_SCHEDULE < length (text ++ more))
         × WholeLines LineWrites core.old text (W.contents writer.old) (W.contents writer.new) core.new }
