@@ -1,3 +1,4 @@
 pub mod Status
 pub mod Judgement
 pub mod Ruling
+pub mod Paths

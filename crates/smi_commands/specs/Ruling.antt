@@ -29,4 +29,6 @@ IsNotJudged d path bytes (fault.Check _ _) = ⊥
 IsNotJudged d path bytes fault.WrongNumbers = ⊥
 IsNotJudged d path bytes (fault.Unreadable _ _) = ⊥
 IsNotJudged d path bytes (fault.TooLong _) = ⊥
+IsNotJudged d path bytes (fault.Overwrites _) = ⊥
 IsNotJudged d path bytes fault.Output = ⊥
+IsNotJudged d path bytes (fault.JournalUnwritten _ _) = ⊥

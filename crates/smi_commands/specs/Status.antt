@@ -4,7 +4,8 @@ use Rattle.std.specs.Fmt.{decimal}
 use Rattle.sml_read.specs.Refusal.{number_of, name_of}
 use Rattle.sml_faults.specs.KindText as check
 use Rattle.smi_commands.specs.declared.fault.Fault.{Fault}
-use Rattle.smi_commands.specs.declared.fault.Fault.TheVariants.{Read, Check, WrongNumbers, Unreadable, TooLong, BadHeader, BadLine, Output, Memory}
+use Rattle.smi_commands.specs.declared.fault.Fault.TheVariants.{Read, Check, WrongNumbers, Unreadable, TooLong}
+use Rattle.smi_commands.specs.declared.fault.Fault.TheVariants.{BadHeader, BadLine, Overwrites, Output, JournalUnwritten, Memory}
 
 -- the exit status of a fault
 abbrev pub fault_status : Fault → ℕ
@@ -15,7 +16,9 @@ fault_status (Unreadable _ _) = 1
 fault_status (TooLong _) = 1
 fault_status (BadHeader _) = 1
 fault_status (BadLine _ _) = 1
+fault_status (Overwrites _) = 2
 fault_status Output = 1
+fault_status (JournalUnwritten _ _) = 1
 fault_status Memory = 3
 
 -- the line of a fault
@@ -29,5 +32,7 @@ fault_line (Unreadable file _) = Some (file.now ++ codes " unreadable")
 fault_line (TooLong file) = Some (file.now ++ codes " too long")
 fault_line (BadHeader file) = Some (file.now ++ codes " bad header")
 fault_line (BadLine file n) = Some (file.now ++ codes " bad line " ++ decimal n)
+fault_line (Overwrites file) = Some (file.now ++ codes " is read, so that no journal is written to it")
 fault_line Output = Some (codes "output fault")
+fault_line (JournalUnwritten _ _) = Some (codes "output fault")
 fault_line Memory = Some (codes "memory")

@@ -39,7 +39,8 @@ pub const LONGEST_JOURNAL: usize = 67_108_864;
 /// and checked before the journal is opened, and the journal is read whole before it is judged.
 ///
 /// What stands against a line goes to `errors`, where it is asked for, once the line of the judge is written. The
-/// journal is then read and judged once more, up to that line.
+/// journal is then read and judged once more, up to that line. What is read is handed to `domain_of_bytes` and
+/// `judge_bytes`.
 pub fn run_audit<'a, R: Files + AllocGlobal, I: Read, W: Write, E: Write>(
     rt: &R,
     options: &AuditOptions<'a>,
@@ -57,30 +58,69 @@ pub fn run_audit<'a, R: Files + AllocGlobal, I: Read, W: Write, E: Write>(
         Ok(bytes) => bytes,
         Err(fault) => return Err(fault),
     };
-    let Ok(shared) = Arc::try_clone(&domain) else {
-        return Err(Fault::Memory);
-    };
-    let ruling = match judge_text(rt.alloc(), shared, options.journal, bytes.as_slice()) {
+    let judged = judge_bytes(
+        rt.alloc(),
+        &domain,
+        options,
+        bytes.as_slice(),
+        output,
+        errors,
+    );
+    drop(domain);
+    drop(bytes);
+    judged
+}
+
+/// Judges the bytes of a journal by a domain, writes the line of what the judge says to its end, and gives the exit
+/// status. What stands against a line goes to `errors` behind that, where the options ask for it: then being out of
+/// memory is told there too, and the status stays that of the journal, as its line is written.
+///
+/// The cost is that of judging, and once more where it is explained. The error is the fault of the journal, by its
+/// path, `Output` or `Memory`.
+pub fn judge_bytes<'a, W: Write, E: Write>(
+    heap: Global,
+    domain: &Arc<Domain>,
+    options: &AuditOptions<'a>,
+    bytes: &[u8],
+    output: &mut W,
+    errors: &mut E,
+) -> Result<u8, Fault<'a>>
+    ensures judged { IfOk result (λ status. (judgement : Judgement) × Judges (arc_value domain.now) bytes.now judgement
+        × Wrote (W.contents output.old) (W.contents output.new) (ruling_text judgement ++ codes "\n")
+        × (status ≡ ruling_status judgement)) }
+    ensures range { IfOk result (λ status. status ≤ 4) }
+{
+    let ruling = match judge_text(heap, domain, options.journal, bytes) {
         Ok(ruling) => ruling,
         Err(fault) => return Err(fault),
     };
-    let status = match tell_all(rt.alloc(), &ruling, output) {
-        Ok(status) => status,
-        Err(fault) => return Err(fault),
-    };
-    if options.explain
-        && explain_ruling(rt.alloc(), domain, bytes.as_slice(), &ruling, errors).is_err()
-    {
-        return Err(Fault::Memory);
+    if let Err(fault) = tell_all(heap, &ruling, output) {
+        return Err(fault);
     }
-    Ok(status)
+    if options.explain {
+        tell_against(heap, domain, bytes, &ruling, errors);
+    }
+    Ok(ruling.status())
+}
+
+// Writes what stands against the line that may not stand, where there is one, or that there is no memory for it.
+fn tell_against<E: Write>(
+    heap: Global,
+    domain: &Arc<Domain>,
+    bytes: &[u8],
+    ruling: &Ruling,
+    errors: &mut E,
+) {
+    if explain_ruling(heap, domain, bytes, ruling, errors).is_err() {
+        let _ = Fault::Memory.tell(errors);
+    }
 }
 
 // Writes what stands against the line that may not stand, where there is one. A fault of the writer changes
 // nothing.
 fn explain_ruling<E: Sink>(
     heap: Global,
-    domain: Arc<Domain>,
+    domain: &Arc<Domain>,
     bytes: &[u8],
     ruling: &Ruling,
     errors: &mut E,
@@ -88,19 +128,20 @@ fn explain_ruling<E: Sink>(
     let Judgement::Illegal { line, rule } = ruling.judgement else {
         return Ok(());
     };
+    let Ok(journal) = read_journal(heap, domain, bytes) else {
+        return Err(AllocError);
+    };
+    let shared = Arc::try_clone(domain)?;
     let mut failed = false;
-    match read_journal(heap, &domain, bytes) {
-        Ok(journal) => explain(
-            heap,
-            domain,
-            journal.entries(),
-            line,
-            rule,
-            errors,
-            &mut failed,
-        ),
-        Err(_) => Err(AllocError),
-    }
+    explain(
+        heap,
+        shared,
+        journal.entries(),
+        line,
+        rule,
+        errors,
+        &mut failed,
+    )
 }
 
 // The bytes of a journal.
@@ -131,44 +172,46 @@ fn within_limit<'a>(journal: &'a str, bytes: Vec<u8>) -> Result<Vec<u8>, Fault<'
 // What the judge says of the bytes of a journal.
 fn judge_text<'a>(
     heap: Global,
-    domain: Arc<Domain>,
+    domain: &Arc<Domain>,
     journal: &'a str,
     bytes: &[u8],
 ) -> Result<Ruling, Fault<'a>>
-    ensures judged { IfOk result (λ ruling. Judges (arc_value domain) bytes.now ruling.judgement) }
-    ensures err { IfErr result (IsNotJudged (arc_value domain) journal.now bytes.now) }
+    ensures judged { IfOk result (λ ruling. Judges (arc_value domain.now) bytes.now ruling.judgement) }
+    ensures err { IfErr result (IsNotJudged (arc_value domain.now) journal.now bytes.now) }
 {
-    match audit(heap, domain, bytes) {
+    let Ok(shared) = Arc::try_clone(domain) else {
+        return Err(Fault::Memory);
+    };
+    match audit(heap, shared, bytes) {
         Ok(judgement) => Ok(Ruling { judgement }),
         Err(error) => Err(Fault::of_journal(journal, error)),
     }
 }
 
-// Writes the line of a ruling to its end, and gives its status.
-fn tell_all<W: Write>(heap: Global, ruling: &Ruling, output: &mut W) -> Result<u8, Fault<'static>>
-    ensures { IfOk result (λ status. status ≤ 4) }
+// Writes the line of a ruling to its end.
+fn tell_all<W: Write>(heap: Global, ruling: &Ruling, output: &mut W) -> Result<(), Fault<'static>>
+    ensures { OnOk result (Wrote (W.contents output.old) (W.contents output.new)
+        (ruling_text ruling.now.judgement ++ codes "\n")) }
 {
-    let status = match tell_ruling(heap, ruling, output) {
-        Ok(status) => status,
-        Err(fault) => return Err(fault),
-    };
+    if let Err(fault) = tell_ruling(heap, ruling, output) {
+        return Err(fault);
+    }
     match output.flush() {
-        Ok(()) => Ok(status),
+        Ok(()) => Ok(()),
         Err(_) => Err(Fault::Output),
     }
 }
 
-// Writes the line of a ruling, and gives its status.
-fn tell_ruling<W: Sink>(heap: Global, ruling: &Ruling, writer: &mut W) -> Result<u8, Fault<'static>>
-    ensures status { IfOk result (λ status. status ≡ ruling_status ruling.now.judgement) }
-    ensures line { OnOk result (Wrote (W.contents writer.old) (W.contents writer.new)
+// Writes the line of a ruling.
+fn tell_ruling<W: Sink>(heap: Global, ruling: &Ruling, writer: &mut W) -> Result<(), Fault<'static>>
+    ensures { OnOk result (Wrote (W.contents writer.old) (W.contents writer.new)
         (ruling_text ruling.now.judgement ++ codes "\n")) }
 {
     let Ok(line) = format!(in heap; "{ruling}\n") else {
         return Err(Fault::Memory);
     };
     match put(writer, line.as_bytes()) {
-        Ok(()) => Ok(ruling.status()),
+        Ok(()) => Ok(()),
         Err(_) => Err(Fault::Output),
     }
 }

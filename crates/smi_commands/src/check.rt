@@ -13,7 +13,8 @@ use std::io::{BufWriter, Read, Write};
 
 /// Tells of each file whether it is well-formed, or why not, and gives the exit status. A refused or
 /// unreadable file is told, and the next follows; a fault of the output, or being out of memory, ends it.
-/// Why a file is unreadable goes to `errors`. Each tree lies in an arena that is emptied for the next file.
+/// Why a file is unreadable goes to `errors`. Each tree lies in an arena that is emptied for the next file. The
+/// text of each file is handed to `judge`, and the line is that of its judgement.
 pub fn run_check<R: Files + AllocGlobal, I: Read, W: Write, E: Write>(
     rt: &R,
     files: &[&str],

@@ -32,8 +32,12 @@ pub enum Fault<'a> {
     BadHeader(&'a str),
     /// A line of the journal is no entry's. Lines count from 1.
     BadLine(&'a str, u64),
-    /// Standard output, or the file of the journal, cannot be written.
+    /// The journal would be written over this file, which is read.
+    Overwrites(&'a str),
+    /// Standard output cannot be written.
     Output,
+    /// The file of the journal cannot be made or written, for this cause where the system told one.
+    JournalUnwritten(&'a str, Option<io::Error>),
     /// Out of memory.
     Memory,
 }
@@ -47,8 +51,9 @@ impl<'a> Fault<'a> {
         match *self {
             Fault::Read(..) | Fault::Check(..) | Fault::BadHeader(_) | Fault::BadLine(..) =>
                 REFUSED,
-            Fault::Unreadable(..) | Fault::TooLong(_) | Fault::Output => REFUSED,
-            Fault::WrongNumbers => WRONG_WORDS,
+            Fault::Unreadable(..) | Fault::TooLong(_) => REFUSED,
+            Fault::Output | Fault::JournalUnwritten(..) => REFUSED,
+            Fault::WrongNumbers | Fault::Overwrites(_) => WRONG_WORDS,
             Fault::Memory => NO_MEMORY,
         }
     }
@@ -60,8 +65,11 @@ impl<'a> Fault<'a> {
         ensures range { result ≤ 3 }
     {
         let _ = writeln!(errors, "{self}");
-        if let Fault::Unreadable(file, Some(cause)) = self {
-            tell_cause(file, cause, errors);
+        match self {
+            Fault::Unreadable(file, Some(cause)) | Fault::JournalUnwritten(file, Some(cause)) => {
+                tell_cause(file, cause, errors);
+            }
+            _ => {}
         }
         self.status()
     }
@@ -155,7 +163,10 @@ impl fmt::Display for Fault<'_> {
             Fault::TooLong(file) => write!(f, "{file} too long"),
             Fault::BadHeader(file) => write!(f, "{file} bad header"),
             Fault::BadLine(file, number) => write!(f, "{file} bad line {number}"),
-            Fault::Output => f.write_str("output fault"),
+            Fault::Overwrites(file) => {
+                write!(f, "{file} is read, so that no journal is written to it")
+            }
+            Fault::Output | Fault::JournalUnwritten(..) => f.write_str("output fault"),
             Fault::Memory => f.write_str("memory"),
         }
     }
@@ -163,8 +174,8 @@ impl fmt::Display for Fault<'_> {
 
 impl Error for Fault<'_> {}
 
-/// Writes why a file cannot be opened or read, in the words of the system. A fault of the writer changes
-/// nothing.
+/// Writes why a file cannot be opened, read or written, in the words of the system. A fault of the writer
+/// changes nothing.
 pub fn tell_cause<E: Write>(file: &str, cause: &io::Error, errors: &mut E) {
     let _ = writeln!(errors, "{file}: {cause}");
 }

@@ -19,13 +19,19 @@ pub fn load_domain<'a, R: Files + AllocGlobal, I: Read>(
     file: &'a str,
 ) -> Result<Arc<Domain>, Fault<'a>> {
     match load_text(rt, input, file) {
-        Ok(text) => domain_of(rt.alloc(), file, text.as_slice()),
+        Ok(text) => domain_of_bytes(rt.alloc(), file, text.as_slice()),
         Err(error) => Err(Fault::of_input(file, &error)),
     }
 }
 
-// The domain of the text of a file.
-fn domain_of<'a>(heap: Global, file: &'a str, text: &[u8]) -> Result<Arc<Domain>, Fault<'a>>
+/// The domain of the text of a file, which is read and checked. It is shared, as cores and judges keep it.
+///
+/// The cost is that of reading and of checking. The error is the fault of the file, by its path, or `Memory`.
+pub fn domain_of_bytes<'a>(
+    heap: Global,
+    file: &'a str,
+    text: &[u8],
+) -> Result<Arc<Domain>, Fault<'a>>
     ensures { IfOk result (λ shared. IsDomainOfText text.now (arc_value shared)) }
 {
     match sml_checkable::domain_of(heap, text) {

@@ -14,7 +14,7 @@ use std::fs::Files;
 use std::io::{BufWriter, Read, Write};
 
 /// Prints the canonical text of a domain file, which is read and not checked. At a fault of the
-/// output a prefix of the text is written.
+/// output a prefix of the text is written. What is read is handed to `print_text`.
 pub fn run_print<'a, R: Files + AllocGlobal, I: Read, W: Write>(
     rt: &R,
     file: &'a str,
@@ -63,8 +63,11 @@ fn print_in_arena<'a, W: Write>(
     }
 }
 
-// Prints the canonical text of the file that a text says.
-fn print_text<'a, A: Allocator + Clone, W: Write>(
+/// Prints the canonical text of the file that a text says. The tree lies in memory of `alloc`.
+///
+/// The cost is that of reading and the length of what is written. The error is the fault of the text, by the path of
+/// its file, `Output` or `Memory`. At `Output` a prefix is written.
+pub fn print_text<'a, A: Allocator + Clone, W: Write>(
     alloc: A,
     file: &'a str,
     text: &[u8],

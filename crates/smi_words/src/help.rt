@@ -19,7 +19,8 @@ pub const STATUSES: &str = "\
 All texts are ASCII, without a byte order mark. `-` in the place of a file that is read is standard input,
 which stands once on a command line; a file of that name is `./-`.
 
-Where a file is `unreadable`, a further line on standard error has why, in the words of the system.
+Where a file is `unreadable`, or the journal of `step` cannot be written, a further line on standard error
+has why, in the words of the system.
 
 Exit status: 0 done, also where single steps were refused; 1 an input was refused, or a file could
 not be read or the output not be written; 2 a wrong command line; 3 not enough memory; 4 a journal

@@ -6,6 +6,7 @@ use crate::place::Place;
 use std::alloc::AllocError;
 use std::fs::Files;
 use std::io::{ErrorKind, Write};
+use std::os::unix::fs::symlink;
 use std::{fs, io, str};
 
 /// Does what a line says.
@@ -50,6 +51,10 @@ fn handle<R: Files + AllocGlobal>(rt: &R, line: &str, place: &mut Place) -> io::
         // adds a line to the text at hand, filled with blanks: LENGTH LINE
         "filled" => add_filled(rest, place),
         "folder" => fs::create_dir(rt, rest),
+        // gives a file a further path: PATH LINK
+        "link" => link(rt, rest),
+        // makes a path that stands for another: PATH LINK
+        "symlink" => point(rt, rest),
         "remove" => fs::remove_file(rt, rest),
         "show" => show(rt, rest, place),
         // tells what is said of words of a command line that could not be had
@@ -64,6 +69,16 @@ fn handle<R: Files + AllocGlobal>(rt: &R, line: &str, place: &mut Place) -> io::
 fn write<R: Files + AllocGlobal>(rt: &R, path: &str, place: &mut Place) -> io::Result<()> {
     place.is_open = false;
     fs::write(rt, path, place.text.as_slice())
+}
+
+fn link<R: Files>(rt: &R, words: &str) -> io::Result<()> {
+    let (path, link) = words.split_once(' ').unwrap_or((words, ""));
+    fs::hard_link(rt, path, link)
+}
+
+fn point<R: Files>(rt: &R, words: &str) -> io::Result<()> {
+    let (path, link) = words.split_once(' ').unwrap_or((words, ""));
+    symlink(rt, path, link)
 }
 
 fn number(word: &str) -> io::Result<usize> {

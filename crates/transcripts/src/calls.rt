@@ -34,13 +34,13 @@ fn run<R: Files + AllocGlobal, W: Write>(
     Ok(drive_from(rt, words.as_slice(), &mut &*text, output, errors))
 }
 
-// Tells a status, and what was written for errors. (What is said of wrong words is the parser's own, and no part of
-// a format.)
+// Tells a status, and what was written for errors. (What the parser says of wrong words is its own, and no part of a
+// format.)
 fn tell(alloc: Global, place: &mut Place, status: u8, errors: &[u8]) -> io::Result<()> {
-    if status != 2 {
-        place.tell_errors(errors)?;
-    } else if !errors.is_empty() {
+    if status == 2 && errors.starts_with(b"error: ") {
         place.tell_errors(b"(wrong words)\n")?;
+    } else {
+        place.tell_errors(errors)?;
     }
     let told = format!(in alloc; "{status}")?;
     place.tell_line("  = ", told.as_str())?;

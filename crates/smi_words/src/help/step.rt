@@ -9,7 +9,8 @@ pub const CAPACITY: &str = "How many requests wait at an object at most, 1 to 10
 
 pub const STARTS: &str = "How many actions are started at most, 1 to 1000000";
 
-pub const KEPT_JOURNAL: &str = "Writes the journal to this file, when the schedule is done";
+pub const KEPT_JOURNAL: &str =
+    "Writes the journal to this file, when the schedule is done; a file that is read is refused";
 
 pub const STEP_MORE: &str = "\
 FILE, the domain file, has at most 1048576 bytes of ASCII, without a byte order mark. `!` begins a
@@ -109,15 +110,19 @@ With the domain above, the schedule on the left writes what is on the right:
   kill HV @2                   kill HV @2
   start HV                     refused Dead
 
-With `--journal PATH` the journal is written to PATH when the whole schedule is done, over what stands
-there: the line `smi-journal 1`, and then the lines above but `accept`, `set`, `still` and `refused`.
-`smirun audit FILE PATH` judges it.
+With `--journal PATH` the file PATH is made, or what stands there is deleted, before the first step; the
+journal is written to it when the whole schedule is done: the line `smi-journal 1`, and then the lines
+above but `accept`, `set`, `still` and `refused`. `smirun audit FILE PATH` judges it. Where PATH is FILE or
+SCHEDULE, by this path or another, the command line is a wrong one, and nothing is read or written.
+
+Where SCHEDULE is -, what the lines that were read write is written before more is read.
 
 A file that is refused is told on standard error, by FILE and one of: `read NO KIND at OFFSET` (no text
 of the language), `check NO KIND NAME` (not well-formed; `smirun check --help` has the kinds),
-`unreadable` (a second line has why), `too long` (the schedule). `output fault` says that the output or
-the journal cannot be written, `memory` that there is not enough memory. What the steps before a fault
-write is written, and no journal.
+`unreadable` (a second line has why), `too long` (the schedule). `output fault` says that the output cannot
+be written, or that the journal cannot be made or written (then a second line has PATH and why), `memory`
+that there is not enough memory. What the steps before a fault write is written, and nothing of the
+journal. No step is made where the journal cannot be made.
 
 The time grows with the length of the schedule and of what it writes: a million steps take about a second.
 No step looks through the journal. A `request` costs what its arguments and the parameters of its action
