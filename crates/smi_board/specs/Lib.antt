@@ -5,3 +5,4 @@ pub mod Reading
 pub mod Refusals
 pub mod Starts
 pub mod Turns
+pub mod Closed

@@ -2,6 +2,7 @@
 #![tactic(auto)]
 
 pub mod board;
+pub mod close;
 mod closing;
 pub mod contacts;
 mod ending;
