@@ -8,6 +8,7 @@ mod boards;
 mod envelopes;
 mod ledgers;
 mod made_text;
+mod mailboxes;
 mod moves;
 mod patterns;
 mod task;
@@ -18,6 +19,8 @@ mod timing;
 use crate::made_text::{LEAST_CLASSES, MOST_CLASSES};
 use anyhow::{Context, Result, bail};
 use std::fs::Files;
+use std::sync::Wait;
+use std::thread::Threads;
 use std::time::Clock;
 use std::{env, fs, slice};
 
@@ -33,6 +36,7 @@ usage: read_bench time ROUNDS         over made texts: one of 1 MiB, and sixteen
        read_bench ledgers             over ledgers with a thousand and with a million entries
        read_bench moves               over tasks of small and of long actions
        read_bench boards              over boards with a thousand and with a million entries
+       read_bench mailboxes           over mailboxes, with one thread and with more
 
 The least time of so many rounds is printed, with the speed in MB/s (a million bytes a second, of the
 texts that were read): of reading into memory of Global and into an arena, of looking for a fault, of
@@ -40,14 +44,18 @@ checking, which looks for a fault and makes the domain, and of printing. A made 
 4 KiB, and 20 KiB more for each class, and CLASSES is 3 to 51. Of ledgers the time of one call is
 printed, beside that of a push on a plain list of entries in the same run: the entries and look-ups
 of 64 objects, each after so many entries. Of tasks the time of a move is printed, with its answer. Of
-boards the time of an entry is printed, where two supplies are switched on over and over.";
+boards the time of an entry is printed, where two supplies are switched on over and over. Of mailboxes
+the time of a request is printed, which is posted and taken.";
 
 fn main(rt: HostRuntime) -> Result<()> {
     let words: Vec<String> = env::args(&rt)?.collect(rt.alloc())?;
     drive_words(&rt, &words)
 }
 
-fn drive_words<R: Files + Clock + Print + AllocGlobal>(rt: &R, words: &[String]) -> Result<()> {
+fn drive_words<R: Files + Clock + Print + AllocGlobal + Threads + Wait + Copy + Send + Sync + Drop>(
+    rt: &R,
+    words: &[String],
+) -> Result<()> {
     let mut texts = Vec::new(rt.alloc());
     for word in words {
         texts.push(word.as_str())?;
@@ -56,7 +64,10 @@ fn drive_words<R: Files + Clock + Print + AllocGlobal>(rt: &R, words: &[String])
 }
 
 // Does what the words ask for, the program's name first.
-fn drive<R: Files + Clock + Print + AllocGlobal>(rt: &R, words: &[&str]) -> Result<()> {
+fn drive<R: Files + Clock + Print + AllocGlobal + Threads + Wait + Copy + Send + Sync + Drop>(
+    rt: &R,
+    words: &[&str],
+) -> Result<()> {
     match words {
         [] | [_] => tell_made_texts(rt),
         [_, word] => drive_one(rt, word),
@@ -66,12 +77,16 @@ fn drive<R: Files + Clock + Print + AllocGlobal>(rt: &R, words: &[&str]) -> Resu
     }
 }
 
-fn drive_one<R: Clock + Print + AllocGlobal>(rt: &R, word: &str) -> Result<()> {
+fn drive_one<R: Clock + Print + AllocGlobal + Threads + Wait + Copy + Send + Sync + Drop>(
+    rt: &R,
+    word: &str,
+) -> Result<()> {
     match word {
         "--help" => tell_usage(rt),
         "ledgers" => ledgers::report(rt),
         "moves" => moves::report(rt),
         "boards" => boards::report(rt),
+        "mailboxes" => mailboxes::report(rt),
         _ => refuse(),
     }
 }

@@ -12,4 +12,6 @@ mod crowd;
 #[cfg(test)]
 mod envelopes;
 #[cfg(test)]
+mod memory;
+#[cfg(test)]
 mod texts;
