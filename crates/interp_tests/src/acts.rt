@@ -219,13 +219,30 @@ pub fn resumes(board: &mut Board<PlainMail>, o: ObjId, moves: &[Made]) -> bool
         Some(Work::Resume(task)) => {
             task.turn().object.get() == o.get() && follows(board, task, moves)
         }
+        Some(Work::Start(_)) => false,
         None => false,
     }
 }
 
-/// Whether no task goes on.
+/// Whether an object is handed out next, to start a request.
+pub fn offers(board: &mut Board<PlainMail>, o: ObjId) -> bool
+    ensures { board.new.domain ≡ board.old.domain }
+{
+    let work = board.next();
+    let is_offered = match &work {
+        Some(Work::Start(next)) => next.get() == o.get(),
+        _ => false,
+    };
+    drop(work);
+    is_offered
+}
+
+/// Whether no task goes on. An object that is handed out instead starts nothing.
 pub fn rests(board: &mut Board<PlainMail>) -> bool
     ensures { board.new.domain ≡ board.old.domain }
 {
-    board.next().is_none()
+    let work = board.next();
+    let goes_on = matches!(&work, Some(Work::Resume(_)));
+    drop(work);
+    !goes_on
 }

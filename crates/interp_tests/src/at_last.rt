@@ -194,6 +194,7 @@ fn resumes(board: &mut Board<PlainMail>) -> bool
 {
     match board.next() {
         Some(Work::Resume(task)) => goes_on(board, task),
+        Some(Work::Start(_)) => false,
         None => false,
     }
 }

@@ -6,7 +6,7 @@ ghost use Rattle.smi_entry.specs.Fits.{letter_fits};
 ghost use Rattle.smi_mail.specs.Boxes.{sent_at, taken_at};
 ghost use Rattle.smi_board.specs.Refusals.{is_operator};
 
-use crate::acts::{Made, acts, rests, resumes, start};
+use crate::acts::{Made, acts, offers, rests, resumes, start};
 use crate::lines::{Asked, Line, are_lines, is_letter};
 use crate::walk::{Plain, are_values, values_of};
 use smi_board::board::Board;
@@ -54,6 +54,14 @@ pub enum Call {
     Resume(&'static [Made]),
     /// No task goes on.
     Rest,
+    /// The object is woken.
+    Wake,
+    /// The object is handed out next, to start a request.
+    Offered,
+    /// Whether something comes next.
+    Comes(bool),
+    /// Whether the board is quiet.
+    Quiet(bool),
     /// The object's state, its parameters, and the place of its kill.
     Look(usize, &'static [Plain], Option<u64>),
 }
@@ -198,6 +206,15 @@ fn is_like(
         && are_values(board.params(o), params)
 }
 
+// Wakes an object, which nothing refuses.
+fn wakes(board: &mut Board<PlainMail>, o: ObjId) -> bool
+    requires { o < length board.old.domain.objects }
+    ensures { board.new.domain ≡ board.old.domain }
+{
+    board.wake(o);
+    true
+}
+
 // Whether a board answers a call about an object of its domain as it must.
 fn answers(
     alloc: Global,
@@ -219,6 +236,10 @@ fn answers(
         Call::Act(moves) => acts(board, o, moves),
         Call::Resume(moves) => resumes(board, o, moves),
         Call::Rest => rests(board),
+        Call::Wake => wakes(board, o),
+        Call::Offered => offers(board, o),
+        Call::Comes(told) => board.has_next() == told,
+        Call::Quiet(told) => board.quiet() == told,
         Call::Look(state, params, dead_at) => is_like(board, o, state, params, dead_at),
     }
 }

@@ -41,6 +41,8 @@ const PERFORMS: Call = Call::Start(Ok(Opened::Perform(0, NONE)));
 
 const ENDS_IN_1: Call = Call::Answer(1, Ok(()));
 
+const IS_EMPTY: Call = Call::Start(Err(StartError::Empty));
+
 /// Both supplies are switched on, and then the run is ready.
 pub const READY: Run = Run {
     text: SUPPLIES,
@@ -70,6 +72,71 @@ pub const READY: Run = Run {
         Line::End(HV2, 1),
         Line::Seen(RUN, &[(HV1, 1), (HV2, 1)]),
         Line::End(RUN, 3),
+    ],
+};
+
+/// A worker does what comes next until nothing does. A request wakes no object; posts wake their targets, and
+/// an end its object. A task goes on before an object starts. What is open, killed or empty is let go.
+pub const WORKED: Run = Run {
+    text: SUPPLIES,
+    capacity: 16,
+    most: 100,
+    calls: &[
+        (RUN, Call::Quiet(true)),
+        (RUN, Call::Request(THIRD, Ok(0))),
+        (RUN, Call::Request(THIRD, Ok(1))),
+        (RUN, Call::Comes(false)),
+        (RUN, Call::Quiet(true)),
+        (RUN, Call::Wake),
+        (RUN, Call::Wake),
+        (RUN, Call::Comes(true)),
+        (RUN, Call::Quiet(false)),
+        (RUN, Call::Offered),
+        (RUN, Call::Act(&[Posted, Waiting])),
+        (HV1, Call::Offered),
+        (HV1, PERFORMS),
+        (HV2, Call::Offered),
+        (HV2, PERFORMS),
+        // Both devices are out.
+        (HV1, Call::Wake),
+        (RUN, Call::Comes(false)),
+        (RUN, Call::Quiet(false)),
+        (HV1, ENDS_IN_1),
+        (HV1, Call::Offered),
+        (HV1, IS_EMPTY),
+        (RUN, Call::Comes(false)),
+        (RUN, Call::Quiet(false)),
+        (HV2, ENDS_IN_1),
+        (RUN, Call::Resume(&[Seen, Ended])),
+        (HV2, Call::Offered),
+        (HV2, IS_EMPTY),
+        (RUN, Call::Offered),
+        (RUN, Call::Start(Ok(Opened::Skipped))),
+        (RUN, Call::Offered),
+        (RUN, IS_EMPTY),
+        (RUN, Call::Comes(false)),
+        (RUN, Call::Quiet(true)),
+        (HV1, Call::Wake),
+        (HV2, Call::Wake),
+        (HV1, Call::Kill(1, Ok(12))),
+        (HV2, Call::Offered),
+        (HV2, IS_EMPTY),
+        (RUN, Call::Quiet(true)),
+    ],
+    journal: &[
+        Line::Start(RUN, THIRD, 0),
+        Line::Post(RUN, (HV1, Accepted(0), SWITCH_ON, NONE)),
+        Line::Post(RUN, (HV2, Accepted(0), SWITCH_ON, NONE)),
+        Line::Wait(RUN),
+        Line::Take(HV1, RUN, 0, SWITCH_ON, NONE),
+        Line::Take(HV2, RUN, 0, SWITCH_ON, NONE),
+        Line::End(HV1, 1),
+        Line::End(HV2, 1),
+        Line::Seen(RUN, &[(HV1, 1), (HV2, 1)]),
+        Line::End(RUN, 3),
+        Line::Start(RUN, THIRD, 1),
+        Line::Skip(RUN),
+        Line::Kill(HV1, 1),
     ],
 };
 

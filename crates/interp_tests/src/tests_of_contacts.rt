@@ -3,7 +3,7 @@
 use crate::boards::{Run, is_kept};
 use crate::sends::{
     CAPACITY_ONE, FIRST_STATE_IS_DEAD, FOR_EACH_OTHER, HANDED_BACK, KILLED_RUN, KILLED_SUPPLY,
-    READY, SETS, TO_ITSELF, TO_TEN, TWO_WAITS,
+    READY, SETS, TO_ITSELF, TO_TEN, TWO_WAITS, WORKED,
 };
 use crate::strangers::{SECOND_TASKS, refuses_killed, refuses_second_task};
 use std::test::*;
@@ -25,6 +25,12 @@ fn runs_are_configured(rt: HostRuntime) {
     for run in CONFIGURED {
         assert!(rt; is_kept(rt.alloc(), *run));
     }
+}
+
+// What comes next, as a worker asks for it, until all is quiet.
+#[test]
+fn a_worker(rt: HostRuntime) {
+    assert!(rt; is_kept(rt.alloc(), WORKED));
 }
 
 #[test]

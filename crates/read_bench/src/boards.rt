@@ -172,6 +172,7 @@ fn switches_on(board: &mut Board<PlainMail>, number: usize) -> bool {
 fn resumes(board: &mut Board<PlainMail>) -> bool {
     match board.next() {
         Some(Work::Resume(task)) => goes_on(board, task),
+        Some(Work::Start(_)) => false,
         None => false,
     }
 }

@@ -1,5 +1,5 @@
 -- A task that was kept goes on.
-use Rattle.std.proofs.Common.{◌≡◌, ◌<◌, ℕ, true, List, Option, Some, None, length, sym, ap, ◌∙◌, subst}
+use Rattle.std.proofs.Common.{◌≡◌, ◌<◌, ℕ, true, List, Option, Some, None, length, refl, sym, ap, ◌∙◌, subst}
 use Rattle.std.specs.Prelude.{IfNone, IfSome, MatchOption, slice_set}
 use Rattle.std.specs.Option.{IsSomeAnd}
 use Rattle.std.proofs.lemmas.Bool.{true≢false}
@@ -10,7 +10,7 @@ use Rattle.smi_interp.specs.Task.{TaskView}
 use Rattle.smi_board.specs.declared.resuming.Work.{Work}
 use Rattle.smi_board.specs.declared.resuming.Work.TheVariants.{Resume}
 use Rattle.smi_board.specs.Boards.{BoardView, kept_at, own_at}
-use Rattle.smi_board.specs.Contacts.{Resumes, ResumesTaskOf}
+use Rattle.smi_board.specs.Contacts.{GivesWork, ResumesTaskOf}
 use Rattle.smi_board.specs.Turns.{EachKept, IsOf, can_go_on}
 
 -- what is handed out is the task that was kept, if one was
@@ -18,20 +18,21 @@ abbrev Hands : Option TaskView → Option Work → Type 0
 Hands t r = MatchOption t (r ≡ None) (λ x. IsSomeAnd r (λ y. y ≡ Resume x))
 
 pub resumed : {M : Type 0} (b b2 : BoardView M) (o : ℕ) (t : Option TaskView) (r : Option Work)
-    → t ≡ kept_at b.kept o → can_go_on o b.journal (kept_at b.kept o) ≡ true → b2 ≡ record b { kept = slice_set b.kept o None } → Hands t r → IfSome r (Resumes b b2)
+    → t ≡ kept_at b.kept o → can_go_on o b.journal (kept_at b.kept o) ≡ true
+    → b2 ≡ record b { kept = slice_set b.kept o None } → Hands t r → IfSome r (GivesWork b b2)
 resumed {M} b b2 o t r is goes after hands = by_case t r is hands
   where
-    by_case : (t : Option TaskView) (r : Option Work) → t ≡ kept_at b.kept o → Hands t r → IfSome r (Resumes b b2)
-    by_case None r is none = subst (λ x. IfSome x (Resumes b b2)) (sym none) tt
+    by_case : (t : Option TaskView) (r : Option Work) → t ≡ kept_at b.kept o → Hands t r → IfSome r (GivesWork b b2)
+    by_case None r is none = subst (λ x. IfSome x (GivesWork b b2)) (sym none) tt
     by_case (Some x) None is none = absurd none
-    by_case (Some x) (Some y) is one = record {
+    by_case (Some x) (Some y) is one = subst (GivesWork b b2) (sym one) (record {
       object = o;
       task = x;
-      resumed = one;
+      resumed = refl;
       was_kept = sym is;
       goes = ap (can_go_on o b.journal) is ∙ goes;
       after = after;
-    }
+    })
 
 -- it is a task of its object
 pub resumed_of : (d : Domain) (J : List Entry) (params : List (List Value)) (kept : List (Option TaskView)) (o : ℕ) (t : Option TaskView) (r : Option Work)
@@ -46,7 +47,8 @@ resumed_of d J params kept o t r h lt is hands = by_case t r is hands
         subst (ResumesTaskOf d) (sym one) (here.domain, subst (λ n. n < length d.objects) (sym here.object) lt)
 
 -- there is one
-pub not_none : (P : Type 0) (J : List Entry) (o : ℕ) (k t : Option TaskView) (r : Option Work) → can_go_on o J k ≡ true → t ≡ k → Hands t r → IfNone r P
+pub not_none : (P : Type 0) (J : List Entry) (o : ℕ) (k t : Option TaskView) (r : Option Work) → can_go_on o J k ≡ true
+    → t ≡ k → Hands t r → IfNone r P
 not_none P J o k t r goes is hands = by_case t r is hands
   where
     by_case : (t : Option TaskView) (r : Option Work) → t ≡ k → Hands t r → IfNone r P

@@ -14,11 +14,13 @@ use Rattle.smi_interp.specs.declared.contact.Contact.{Contact}
 use Rattle.smi_interp.specs.declared.contact.Contact.TheVariants.{Local, Send, Read, End}
 use Rattle.smi_interp.specs.Task.{TaskView, outcome_of, with_states, with_verdicts}
 use Rattle.smi_board.specs.Boards.{BoardView, kept_at}
-use Rattle.smi_board.specs.Posting.{Lists, AreJudged}
+use Rattle.smi_board.specs.Posting.{Lists, AreJudged, target_of}
 use Rattle.smi_board.specs.Reading.{states_now, waited}
+use Rattle.smi_board.specs.Rings.{with_one}
 use Rattle.smi_board.specs.Turns.{can_go_on}
+use Rattle.smi_board.specs.Waking.{can_start, first_woken, behind_first, with_all}
 use Rattle.smi_board.specs.declared.resuming.Work.{Work}
-use Rattle.smi_board.specs.declared.resuming.Work.TheVariants.{Resume}
+use Rattle.smi_board.specs.declared.resuming.Work.TheVariants.{Resume, Start}
 use Rattle.smi_board.specs.declared.contacts.Reply.{Reply}
 use Rattle.smi_board.specs.declared.contacts.Reply.TheVariants as reply
 use Rattle.smi_board.specs.declared.errors.ContactError.{ContactError}
@@ -48,16 +50,17 @@ IsEnding None = ⊥
 
 -- ---- replies
 
--- the action ends: in this state, or in the one that was; the task's parameters are the object's
+-- the action ends: in this state, or in the one that was; the task's parameters are the object's, which is woken
 pub record Ends {M : Type 0} (t : TaskView) (s : Option ℕ) (b b2 : BoardView M) (r : Reply) : Type 0 where
   pub answers : r ≡ reply.Ended
   pub after : b2 ≡ record b {
     journal = b.journal ++ entry.End t.turn.object
         (ends.State (state_left (state_of b.domain t.turn.object b.journal) (outcome_of s))) ∷ [];
     params = slice_set b.params t.turn.object t.params;
+    woken = with_one t.turn.object b.woken;
   }
 
--- the posts are judged one after another, and the task is told their verdicts
+-- the posts are judged one after another, and the task is told their verdicts; their targets are woken
 pub record Posts {M : Type 0} (t : TaskView) (posts : List Post) (b : BoardView M) (m : Lists) (b2 : BoardView M)
     (m2 : Lists) (r : Reply) : Type 0 where
   pub verdicts : List Verdict
@@ -65,6 +68,7 @@ pub record Posts {M : Type 0} (t : TaskView) (posts : List Post) (b : BoardView 
   pub judged : AreJudged t.turn.object m b.journal posts verdicts m2 b2.journal
   pub params_same : b2.params ≡ b.params
   pub kept_same : b2.kept ≡ b.kept
+  pub wakes : b2.woken ≡ with_all (map target_of posts) b.woken
 
 -- the objects are read in the states in which they are, and the task is told these
 pub record Sees {M : Type 0} (t : TaskView) (objects : List ℕ) (b b2 : BoardView M) (r : Reply) : Type 0 where
@@ -101,6 +105,20 @@ pub record Resumes {M : Type 0} (b b2 : BoardView M) (w : Work) : Type 0 where
   pub goes : can_go_on object b.journal (Some task) ≡ true
   pub after : b2 ≡ record b { kept = slice_set b.kept object None }
 
+-- the first woken object that can start a request is handed out, where no task can go on; it and those before it, which
+-- can not, are woken no more
+pub record HandsOut {M : Type 0} (b b2 : BoardView M) (o : ℕ) : Type 0 where
+  pub none_goes : (x : ℕ) → can_go_on x b.journal (kept_at b.kept x) ≡ false
+  pub first : first_woken b.journal b.woken ≡ Some o
+  pub within : o < length b.domain.objects
+  pub can : can_start b.journal o ≡ true
+  pub after : b2 ≡ record b { woken = behind_first b.journal b.woken }
+
+-- a task goes on, or an object is handed out
+abbrev pub GivesWork : {M : Type 0} → BoardView M → BoardView M → Work → Type 0
+GivesWork b b2 (Resume t) = Resumes b b2 (Resume t)
+GivesWork b b2 (Start o) = HandsOut b b2 o
+
 -- ---- tasks stay those of a domain and an object
 
 -- the task is one of the domain's object
@@ -123,3 +141,4 @@ RepliesTaskOf d o reply.Ended = Unit {0}
 -- and one that goes on
 abbrev pub ResumesTaskOf : Domain → Work → Type 0
 ResumesTaskOf d (Resume t) = (t.domain ≡ d) × (t.turn.object < length d.objects)
+ResumesTaskOf d (Start o) = Unit {0}

@@ -13,6 +13,8 @@ mod params;
 mod reading;
 pub mod request;
 pub mod resuming;
+mod ring;
 mod sending;
 pub mod starting;
 mod turns;
+mod waking;

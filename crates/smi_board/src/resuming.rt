@@ -1,13 +1,15 @@
 //! What can go on.
-ghost use Rattle.std.specs.Prelude.{◌≡◌, ◌<◌, ℕ, IfNone, IfSome, None, false, length, slice_set, true};
+ghost use Rattle.std.specs.Prelude.{◌≡◌, ◌<◌, ℕ, [], IfNone, IfSome, None, false, length, slice_set, true};
 ghost use Rattle.smi_interp.specs.Task.{IsNext, LeftAsks};
 ghost use Rattle.smi_board.specs.Boards.{kept_at};
-ghost use Rattle.smi_board.specs.Contacts.{Resumes, ResumesTaskOf};
+ghost use Rattle.smi_board.specs.Contacts.{GivesWork, ResumesTaskOf};
 ghost use Rattle.smi_board.specs.Turns.{can_go_on};
+ghost use Rattle.smi_board.specs.Waking.{NothingNext};
 
 use crate::board::Board;
 use crate::kept::let_go;
 use crate::reading::are_clear;
+use crate::waking::take_first;
 use smi_interp::contact::Contact;
 use smi_interp::task::Task;
 use smi_mail::mail::Mail;
@@ -16,6 +18,8 @@ use sml_domain::ids::ObjId;
 /// What can be done next.
 #[derive(Drop)]
 pub enum Work {
+    /// An object that was woken may start a request.
+    Start(ObjId),
     /// A task that was kept goes on.
     Resume(Task),
 }
@@ -47,42 +51,47 @@ impl<M: Mail> Board<M> {
         }
     }
 
-    // The first object whose kept task can go on.
-    fn first_to_go_on(&self) -> Option<ObjId>
+    // An object whose kept task can go on. Only those are looked at of which a task was kept at any time, and of
+    // these only those that were not looked at since the board last changed.
+    pub(crate) fn first_to_go_on(&self) -> Option<ObjId>
         ensures within { IfSome result (λ o. o < length self.now.domain.objects) }
         ensures goes { IfSome result (λ o. can_go_on o self.now.journal (kept_at self.now.kept o) ≡ true) }
-        ensures first { IfSome result (λ o. (x : ℕ) → x < o →
-            can_go_on x self.now.journal (kept_at self.now.kept x) ≡ false) }
-        ensures none { IfNone result ((x : ℕ) → can_go_on x self.now.journal (kept_at self.now.kept x) ≡ false) }
+        ensures none { IfNone result ((o : ℕ) → can_go_on o self.now.journal (kept_at self.now.kept o) ≡ false) }
     {
-        let objects = self.kept.len();
-        for o in self.looked..objects {
-            if self.can_go_on(ObjId::new(o)) {
-                return Some(ObjId::new(o));
+        let shelf = &self.shelf;
+        let count = shelf.len();
+        for place in self.looked..count {
+            let o = shelf.at(place);
+            if self.can_go_on(o) {
+                return Some(o);
             }
         }
         None
     }
 
-    /// A kept task that can go on, since all that it waits to read is clear, or it waits for nothing. It is
-    /// kept no more. None exactly where there is no such task. Takes no memory.
+    /// A kept task that can go on, since all that it waits to read is clear, or it waits for nothing: it is
+    /// kept no more. Where there is none, the object that was woken first of those that are neither killed
+    /// nor open: it is handed out, to be started, and woken no more until it is woken again; those before it
+    /// are let go, since an end wakes its object and a kill is for ever. Where there is none of these either,
+    /// None. Takes no memory.
     ///
-    /// The cost is the count of the objects and of what their kept tasks wait to read, but for those that an
-    /// earlier call looked at since the board last changed: where nothing changed it is constant.
+    /// No object is passed over for ever: a task goes on only so often as its action has `if`s, so that
+    /// tasks stand in the way of woken objects for a while only, and these are handed out in their order.
+    ///
+    /// The cost is the count of the objects of which a task was kept at any time, and of what those tasks
+    /// that are kept wait to read. Where no task could go on, and the board did not change since, the next
+    /// call looks at none of them. Each object that was woken costs a constant time more, once.
     pub fn next(&mut self) -> Option<Work>
-        ensures resumes { IfSome result (Resumes self.old self.new) }
+        ensures gives { IfSome result (GivesWork self.old self.new) }
         ensures task { IfSome result (ResumesTaskOf self.old.domain) }
-        ensures none { IfNone result ((o : ℕ) → can_go_on o self.old.journal (kept_at self.old.kept o) ≡ false) }
-        ensures same { IfNone result (self.new ≡ self.old) }
+        ensures nothing { IfNone result (NothingNext self.old) }
+        ensures none { IfNone result (self.new ≡ record self.old { woken = [] }) }
     {
         match self.first_to_go_on() {
-            Some(o) => {
-                self.looked = o.get();
-                let_go(&mut self.kept, o).map(Work::Resume)
-            }
+            Some(o) => let_go(&mut self.kept, o).map(Work::Resume),
             None => {
-                self.looked = self.kept.len();
-                None
+                self.looked = self.shelf.len();
+                take_first(&mut self.woken, &self.ledger).map(Work::Start)
             }
         }
     }

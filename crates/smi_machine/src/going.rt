@@ -1,16 +1,17 @@
 //! How the open action of an object makes its next move.
-ghost use Rattle.std.specs.Prelude.{◌≡◌, ◌<◌, ◌≤◌, ◌-◌, ℕ, IsSome, List, false, length, true};
+ghost use Rattle.std.specs.Prelude.{◌≡◌, ◌<◌, ◌≤◌, ◌-◌, ℕ, IfNone, IfSome, IsSome, List, false, length, true};
 ghost use Rattle.sml_domain.specs.Lookups.{associated_at};
 ghost use Rattle.smi_entry.specs.declared.entry.Entry.{Entry};
 ghost use Rattle.smi_entry.specs.Words as says;
 ghost use Rattle.smi_world.specs.declared.step.Answer.TheVariants.{Entries};
 ghost use Rattle.smi_board.specs.Boards.{kept_at};
+ghost use Rattle.smi_board.specs.Contacts.{Resumes};
 ghost use Rattle.smi_board.specs.Turns.{can_go_on};
 ghost use Rattle.smi_board.specs.declared.resuming.Work.TheVariants.{Resume};
 ghost use Rattle.smi_world.specs.declared.step.Step.TheVariants as step;
 ghost use Rattle.smi_machine.specs.Stepping.{Steps};
 ghost use Rattle.smi_machine.specs.Machines.{setup_of, world_of};
-ghost use Rattle.smi_machine.specs.Told.{Goes, changed_by, HaveTheirs, IsTaken, Takes, waited_from, with_task};
+ghost use Rattle.smi_machine.specs.Told.{Goes, changed_by, HaveTheirs, IsRested, IsTaken, Takes, waited_from, with_task};
 
 use crate::machine::Machine;
 use smi_board::contacts::Reply;
@@ -32,14 +33,6 @@ fn changed(contact: Contact) -> Option<Answer>
         Contact::Local { param, value } => Some(Answer::Changed { param, value }),
         _ => None,
     }
-}
-
-// The task that goes on.
-fn task_in(work: Work) -> Task
-    ensures { work ≡ Resume result }
-{
-    let Work::Resume(task) = work;
-    task
 }
 
 impl Machine {
@@ -113,6 +106,20 @@ impl Machine {
         }
     }
 
+    // A task that goes on. None also where an object may start, which the schedule decides: the board hands one
+    // out only where no kept task can go on.
+    fn next_task(&mut self) -> Option<Task>
+        ensures some { IfSome result (λ t. Resumes self.old.board self.new.board (Resume t)) }
+        ensures none { IfNone result (IsRested self.old.board self.new.board) }
+        ensures tasks { self.new.tasks.items ≡ self.old.tasks.items }
+    {
+        match self.board.next() {
+            Some(Work::Resume(task)) => Some(task),
+            Some(Work::Start(_)) => None,
+            None => None,
+        }
+    }
+
     // Takes the tasks that can go on out of the board.
     fn resume(&mut self)
         requires have { HaveTheirs self.old.board self.old.tasks.items }
@@ -122,8 +129,7 @@ impl Machine {
         ensures none { (o : ℕ) → can_go_on o self.new.board.journal (kept_at self.new.board.kept o) ≡ false }
     {
         self.told();
-        while let Some(work) = self.board.next() {
-            let task = task_in(work);
+        while let Some(task) = self.next_task() {
             let o = task.turn().object;
             keep(&mut self.tasks, o, Some(task));
             self.told();

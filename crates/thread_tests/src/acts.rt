@@ -124,6 +124,7 @@ pub fn resumes<M: Mail>(board: &mut Board<M>, moves: &[Made]) -> bool
 {
     match board.next() {
         Some(Work::Resume(task)) => follows(board, task, moves),
+        Some(Work::Start(_)) => false,
         None => false,
     }
 }
