@@ -1,5 +1,5 @@
 //! The program `read_bench`: how fast texts of domains are read, checked and printed, ledgers and boards kept,
-//! and tasks run.
+//! tasks run, and runs made in threads.
 #![tactic(auto)]
 
 ghost use Rattle.std.specs.Prelude.{◌≤◌, IfOk};
@@ -11,6 +11,7 @@ mod made_text;
 mod mailboxes;
 mod moves;
 mod patterns;
+mod runs;
 mod task;
 mod tenths;
 mod texts;
@@ -37,6 +38,7 @@ usage: read_bench time ROUNDS         over made texts: one of 1 MiB, and sixteen
        read_bench moves               over tasks of small and of long actions
        read_bench boards              over boards with a thousand and with a million entries
        read_bench mailboxes           over mailboxes, with one thread and with more
+       read_bench runs FILE           over runs in threads of the domain of FILE
 
 The least time of so many rounds is printed, with the speed in MB/s (a million bytes a second, of the
 texts that were read): of reading into memory of Global and into an arena, of looking for a fault, of
@@ -45,7 +47,10 @@ checking, which looks for a fault and makes the domain, and of printing. A made 
 printed, beside that of a push on a plain list of entries in the same run: the entries and look-ups
 of 64 objects, each after so many entries. Of tasks the time of a move is printed, with its answer. Of
 boards the time of an entry is printed, where two supplies are switched on over and over. Of mailboxes
-the time of a request is printed, which is posted and taken.";
+the time of a request is printed, which is posted and taken. Of runs the time of a post is printed, and
+with one, two and four workers that of an entry, with devices that answer at once and with devices that
+are busy for 100 microseconds. FILE has supplies with the states ON and OFF, and its object N0 can be
+asked for CONFIGURE.";
 
 fn main(rt: HostRuntime) -> Result<()> {
     let words: Vec<String> = env::args(&rt)?.collect(rt.alloc())?;
@@ -71,7 +76,7 @@ fn drive<R: Files + Clock + Print + AllocGlobal + Threads + Wait + Copy + Send +
     match words {
         [] | [_] => tell_made_texts(rt),
         [_, word] => drive_one(rt, word),
-        [_, word, rounds] => drive_two(rt, word, rounds),
+        [_, word, second] => drive_two(rt, word, second),
         [_, word, first, second] => drive_three(rt, word, first, second),
         _ => refuse(),
     }
@@ -91,9 +96,14 @@ fn drive_one<R: Clock + Print + AllocGlobal + Threads + Wait + Copy + Send + Syn
     }
 }
 
-fn drive_two<R: Clock + Print + AllocGlobal>(rt: &R, word: &str, rounds: &str) -> Result<()> {
+fn drive_two<R: Files + Clock + Print + AllocGlobal + Threads + Wait + Copy + Send + Sync + Drop>(
+    rt: &R,
+    word: &str,
+    second: &str,
+) -> Result<()> {
     match word {
-        "time" => time_made_texts(rt, rounds),
+        "time" => time_made_texts(rt, second),
+        "runs" => runs::report(rt, second),
         _ => refuse(),
     }
 }

@@ -1,0 +1,4 @@
+pub mod Receipts
+pub mod Told
+pub mod Reports
+pub mod Rests

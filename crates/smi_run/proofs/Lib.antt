@@ -1,0 +1,4 @@
+mod Accepting
+mod Counting
+mod Places
+mod Refusing

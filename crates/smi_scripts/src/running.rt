@@ -1,0 +1,240 @@
+//! Runs with a thread for each worker and each session.
+ghost use Rattle.std.specs.Prelude.{◌≡◌, ◌≤◌, ◌+◌, IfErr, IfOk, length, vec_len, vec_capacity};
+ghost use Rattle.smi_entry.specs.Words.{all_starts};
+ghost use Rattle.smi_report.specs.Rests.{IsAtRest, IsLeftAtStopped};
+ghost use Rattle.smi_run.specs.Closing.{IsRoomFor};
+ghost use Rattle.smi_scripts.specs.Rooms.{ComeBack};
+ghost use Rattle.smi_shared.specs.declared.ending.ServeEnd.TheVariants.{Limit, Quiet};
+
+use crate::playing::{Player, Seat, play};
+use crate::script::Script;
+use smi_report::report::Report;
+use smi_ruled::ruled::MailNames;
+use smi_run::errors::FinishError;
+use smi_run::runtime::Runtime;
+use smi_run::session::{Closed, Session};
+use smi_shared::device::Device;
+use smi_shared::ending::ServeEnd;
+use std::alloc::{AllocError, Global};
+use std::sync::{Mutex, Wait};
+use std::thread;
+use std::thread::Threads;
+
+// The worse of two ends: Memory, or else Limit.
+fn worse(a: ServeEnd, b: ServeEnd) -> ServeEnd {
+    match (a, b) {
+        (ServeEnd::Memory, _) | (_, ServeEnd::Memory) => ServeEnd::Memory,
+        (ServeEnd::Limit, _) | (_, ServeEnd::Limit) => ServeEnd::Limit,
+        _ => ServeEnd::Quiet,
+    }
+}
+
+// A run ends no better than so.
+fn worsen<R: Wait>(rt: &R, end: &Mutex<ServeEnd>, other: ServeEnd) {
+    let mut end = end.lock(rt);
+    *end = worse(*end, other);
+}
+
+// One worker.
+fn work<R: Wait + Copy + Send, K: MailNames, D: Device>(
+    rt: &R,
+    runtime: &Runtime<R, K, D>,
+    end: &Mutex<ServeEnd>,
+) {
+    worsen(rt, end, runtime.serve(rt));
+}
+
+// Runs the workers, and a thread for each session. A thread that cannot be started is left out: its session leaves
+// with no line made.
+fn run_all<
+    'x,
+    R: Threads + Wait + Copy + Send + Sync,
+    K: MailNames + Send + Sync,
+    D: Device + Send + Drop,
+>(
+    rt: &'x R,
+    runtime: &'x Runtime<R, K, D>,
+    seats: &'x [Seat<K>],
+    scripts: &'x [Script],
+    end: &'x Mutex<ServeEnd>,
+) {
+    let workers = runtime.config().workers;
+    thread::scope(thread::scope_env(), rt, |scope| {
+        for _ in 0..workers {
+            if scope.spawn(move || work(rt, runtime, end)).is_err() {
+                worsen(rt, end, ServeEnd::Memory);
+            }
+        }
+        for seat in seats {
+            if scope
+                .spawn(move || play(rt, runtime, seat, scripts))
+                .is_err()
+            {
+                worsen(rt, end, ServeEnd::Memory);
+                play(rt, runtime, seat, &[]);
+            }
+        }
+    });
+}
+
+// What a run wants of memory before it begins.
+#[derive(Drop)]
+struct RunRoom<K: MailNames> {
+    seats: Vec<Seat<K>>,
+    closed: Vec<Closed<K>>,
+    refused: Vec<u64>,
+}
+
+fn grow<K: MailNames>(alloc: Global, sessions: usize) -> Result<RunRoom<K>, AllocError>
+    ensures seats { IfOk result (λ r. IsRoomFor sessions r.seats) }
+    ensures closed { IfOk result (λ r. IsRoomFor sessions r.closed) }
+    ensures refused { IfOk result (λ r. IsRoomFor sessions r.refused) }
+{
+    let seats = Vec::with_capacity(alloc, sessions)?;
+    let closed = Vec::with_capacity(alloc, sessions)?;
+    let refused = Vec::with_capacity(alloc, sessions)?;
+    Ok(RunRoom {
+        seats,
+        closed,
+        refused,
+    })
+}
+
+// The sessions, each in a seat.
+fn seat_all<K: MailNames>(
+    alloc: Global,
+    sessions: Vec<Session<K>>,
+    mut seats: Vec<Seat<K>>,
+) -> Vec<Seat<K>>
+    requires { vec_len seats + vec_len sessions ≤ vec_capacity seats }
+    ensures { vec_len result ≡ vec_len seats + vec_len sessions }
+{
+    for session in sessions {
+        let player = Player {
+            session: Some(session),
+            closed: None,
+            refused: 0,
+            is_short: false,
+        };
+        let place = seats.len();
+        seats.push_reserved(Seat {
+            player: Mutex::new(player),
+            place,
+            alloc,
+        });
+    }
+    seats
+}
+
+// The sessions that have left, how many lines of each were refused, and whether one was for want of memory.
+fn clear_all<K: MailNames>(
+    seats: Vec<Seat<K>>,
+    mut closed: Vec<Closed<K>>,
+    mut refused: Vec<u64>,
+) -> (Vec<Closed<K>>, Vec<u64>, bool)
+    requires closed { vec_len closed + vec_len seats ≤ vec_capacity closed }
+    requires refused { vec_len refused + vec_len seats ≤ vec_capacity refused }
+    ensures { vec_len result.1 ≡ vec_len refused + vec_len seats }
+{
+    let mut is_short = false;
+    for seat in seats {
+        let Seat {
+            player,
+            place: _,
+            alloc: _,
+        } = seat;
+        let Player {
+            session: _,
+            closed: one,
+            refused: count,
+            is_short: is_one_short,
+        } = player.into_inner();
+        if let Some(one) = one {
+            closed.push_reserved(one);
+        }
+        refused.push_reserved(count);
+        is_short |= is_one_short;
+    }
+    (closed, refused, is_short)
+}
+
+// The end of a run as its report bears it out. One that it does not is Memory.
+fn borne_out<D: Drop, K: MailNames>(
+    report: &Report<D, K>,
+    end: ServeEnd,
+    max_starts: usize,
+) -> ServeEnd
+    ensures quiet { result ≡ Quiet → IsAtRest K.names.domain report.now.journal
+        × IsLeftAtStopped K.names.domain report.now.journal report.now.drained }
+    ensures limit { result ≡ Limit → IsAtRest K.names.domain report.now.journal
+        × (length (all_starts report.now.journal) ≡ max_starts) }
+{
+    let is_borne_out = match end {
+        ServeEnd::Quiet => report.is_at_rest() && report.is_left_at_stopped(),
+        ServeEnd::Limit => report.is_at_rest() && report.starts() == max_starts,
+        ServeEnd::Memory => true,
+    };
+    if is_borne_out { end } else { ServeEnd::Memory }
+}
+
+/// Runs the workers of a runtime and its sessions, each by its script and in a thread of its own, and gives the end,
+/// how many lines of each session were refused, in the order of the sessions, and the report.
+///
+/// The end is Memory where a thread could not be started, a line was refused as Memory, a worker ended so, or the
+/// report does not bear out what the end would say; else Limit where a worker ended so; else Quiet. A worker that
+/// could not be started is left out; a session whose thread could not be started leaves with no line made.
+///
+/// Where the first memory is refused nothing has run, and the sessions come back. After that an error is one of
+/// `Runtime::finish`, and the sessions come back as those that have left.
+pub fn run_scripts<
+    R: Threads + Wait + Copy + Send + Sync,
+    K: MailNames + Send + Sync,
+    D: Device + Send + Drop,
+>(
+    rt: &R,
+    alloc: Global,
+    runtime: Runtime<R, K, D>,
+    sessions: Vec<Session<K>>,
+    scripts: &[Script],
+) -> Result<
+    (ServeEnd, Vec<u64>, Report<D, K>),
+    (
+        FinishError,
+        Runtime<R, K, D>,
+        Vec<Session<K>>,
+        Vec<Closed<K>>,
+    ),
+>
+    requires { length scripts.now ≡ length sessions.items }
+    ensures quiet { IfOk result (λ r. r.0 ≡ Quiet → IsAtRest K.names.domain r.2.journal
+        × IsLeftAtStopped K.names.domain r.2.journal r.2.drained) }
+    ensures limit { IfOk result (λ r. r.0 ≡ Limit → IsAtRest K.names.domain r.2.journal
+        × (length (all_starts r.2.journal) ≡ runtime.max_starts)) }
+    ensures counts { IfOk result (λ r. length r.1.items ≡ length sessions.items) }
+    ensures runtime { IfErr result (λ r. r.1 ≡ runtime) }
+    ensures back { IfErr result (λ r. ComeBack sessions.items r.2.items r.3.items) }
+{
+    let Ok(room) = grow::<K>(alloc, sessions.len()) else {
+        return Err((FinishError::Memory, runtime, sessions, Vec::new(alloc)));
+    };
+    let RunRoom {
+        seats,
+        closed,
+        refused,
+    } = room;
+    let seats = seat_all(alloc, sessions, seats);
+    let end = Mutex::new(ServeEnd::Quiet);
+    run_all(rt, &runtime, &seats, scripts, &end);
+    let max_starts = runtime.config().max_starts;
+    let (closed, refused, is_short) = clear_all(seats, closed, refused);
+    if is_short {
+        worsen(rt, &end, ServeEnd::Memory);
+    }
+    match runtime.finish(alloc, closed) {
+        Ok(report) => {
+            let end = borne_out(&report, end.into_inner(), max_starts);
+            Ok((end, refused, report))
+        }
+        Err((error, runtime, closed)) => Err((error, runtime, Vec::new(alloc), closed)),
+    }
+}
