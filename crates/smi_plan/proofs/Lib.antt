@@ -1,0 +1,3 @@
+mod Drafts
+mod Onward
+mod Cuts

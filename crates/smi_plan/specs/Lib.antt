@@ -1,0 +1,4 @@
+pub mod Says
+pub mod Devices
+pub mod Plans
+pub mod ErrorText

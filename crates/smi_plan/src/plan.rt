@@ -1,0 +1,158 @@
+//! Reading a script.
+ghost use Rattle.std.specs.Prelude.{◌≡◌, ◌<◌, ◌≤◌, ◌∷◌, ℕ, Err, IfOk, MatchBool, MatchOption, None, OnOk};
+ghost use Rattle.std.specs.Prelude.{Vec as Vector, [], length, map};
+ghost use Rattle.std.specs.Global.{Global as Memory};
+ghost use Rattle.smi_scripts.specs.declared.script.Line.{Line as Told};
+ghost use Rattle.smi_plan.specs.Says.{LineSays};
+ghost use Rattle.smi_plan.specs.Plans.{HoldAnswers, HoldSessions, HoldsText, IsPlanOfText, IsFirstBad, TakesLine};
+ghost use Rattle.smi_plan.specs.Plans.{lines_of_script, script_lines};
+ghost use Rattle.smi_plan.specs.declared.plan.TheConstants.{LONGEST_SCRIPT};
+
+use crate::answers::Answers;
+use crate::draft::Draft;
+use crate::error::ScriptError;
+use crate::lines::read_line;
+use smi_scripts::script::{Line, Script};
+use sml_domain::domain::Domain;
+use std::alloc::{AllocError, Global};
+
+/// How many bytes a script may have.
+pub const LONGEST_SCRIPT: usize = 16_777_216;
+
+/// What a script plans: what each session does, and what the devices answer.
+#[derive(Drop)]
+pub struct Plan {
+    scripts: Vec<Script>,
+    answers: Answers,
+}
+
+impl Plan {
+    /// The scripts of the sessions in order, and the answers of the devices. Takes no memory.
+    pub fn into_parts(self) -> (Vec<Script>, Answers)
+        ensures scripts { result.0 ≡ self.scripts }
+        ensures answers { result.1 ≡ self.answers }
+    {
+        (self.scripts, self.answers)
+    }
+}
+
+// The first line of a text, and what follows its line feed, where it has one.
+fn first_line(text: &[u8]) -> (&[u8], Option<&[u8]>)
+    ensures lines { MatchOption result.1 (script_lines text.now ≡ result.0.now ∷ [])
+        (λ rest. script_lines text.now ≡ result.0.now ∷ script_lines rest.now) }
+    ensures shorter { MatchOption result.1 (Unit {0}) (λ rest. length rest.now < length text.now) }
+{
+    match text.iter().position(|b| *b == b'\n') {
+        Some(end) => {
+            let (line, rest) = text.split_at(end);
+            (line, Some(rest.split_at(1).1))
+        }
+        None => (text, None),
+    }
+}
+
+// Reads a line into a draft. False where it is none of a script's.
+fn add_line(
+    alloc: Global,
+    domain: &Domain,
+    draft: &mut Draft,
+    line: &[u8],
+) -> Result<bool, AllocError>
+    requires { length draft.old.devices.items ≡ length domain.now.objects }
+    ensures { IfOk result (λ good. MatchBool good
+        (TakesLine domain.now line.now draft.old.sessions.items draft.new.sessions.items draft.old.devices.items
+        draft.new.devices.items)
+        (LineSays domain.now line.now None)) }
+{
+    match read_line(alloc, domain, line)? {
+        Some(said) => {
+            draft.add(alloc, domain, said)?;
+            Ok(true)
+        }
+        None => Ok(false),
+    }
+}
+
+// Reads the lines of a text into an empty draft.
+fn read_lines(
+    alloc: Global,
+    domain: &Domain,
+    draft: &mut Draft,
+    text: &[u8],
+) -> Result<(), ScriptError>
+    requires length { length text.now ≤ LONGEST_SCRIPT }
+    requires sessions { HoldSessions [] draft.old.sessions.items }
+    requires devices { HoldAnswers domain.now [] draft.old.devices.items }
+    ensures read { OnOk result (HoldsText domain.now text.now draft.new.sessions.items draft.new.devices.items) }
+    ensures bad { (n : ℕ) → result ≡ Err (ScriptError.BadLine n) → IsFirstBad domain.now text.now n }
+    ensures short { result ≡ Err ScriptError.TooLong → ⊥ }
+{
+    let mut rest = text;
+    let mut number = 1u64;
+    'lines: loop {
+        let (line, behind) = first_line(rest);
+        if !add_line(alloc, domain, draft, line)? {
+            return Err(ScriptError::BadLine(number));
+        }
+        let Some(behind) = behind else {
+            return Ok(());
+        };
+        rest = behind;
+        number += 1;
+    }
+}
+
+// The scripts of what sessions do.
+fn scripts_of(alloc: Global, sessions: Vec<Vec<Line>>) -> Result<Vec<Script>, AllocError>
+    ensures { IfOk result (λ v. map lines_of_script v.items ≡ map (λ
+        (x : Vector Told Memory). x.items) sessions.items) }
+{
+    let mut scripts = Vec::new(alloc);
+    for lines in sessions {
+        scripts.push(Script::new(lines))?;
+    }
+    Ok(scripts)
+}
+
+// The plan of a draft.
+fn plan_of(alloc: Global, draft: Draft) -> Result<Plan, AllocError>
+    ensures scripts { IfOk result (λ p.
+        map lines_of_script p.scripts.items ≡ map (λ (x : Vector Told Memory). x.items) draft.sessions.items) }
+    ensures devices { IfOk result (λ p. p.answers.devices ≡ draft.devices) }
+{
+    let Draft { sessions, devices } = draft;
+    let scripts = scripts_of(alloc, sessions)?;
+    Ok(Plan {
+        scripts,
+        answers: Answers { devices },
+    })
+}
+
+/// Reads a script of a domain. (docs/FORMATS.md, "Scripts".)
+///
+/// The time grows with the length of the text, and in a line of a device with the count of objects too.
+///
+/// Memory is taken for one state for each pair of an object and an action that a line of a device names, and for what
+/// the sessions do: on a machine of 64 bits 176 bytes for each of their lines, in which both names stand at their full
+/// length, and 88 for each argument, four arguments at least where there is one. The list of a session's lines takes up
+/// to three times that while it grows. So lines as `request @1 RUN CONFIGURE` take 7 to 21 times their own bytes, and the
+/// shortest that there are, of nine bytes, up to 60 times. Lines of devices, blank lines and comments take nothing
+/// beside those pairs.
+///
+/// # Errors
+///
+/// `TooLong` past `LONGEST_SCRIPT` bytes, before any line is looked at; `BadLine` with the number of the first line
+/// that is none of a script's; `Memory` where memory is refused before such a line was found.
+pub fn read_script(alloc: Global, domain: &Domain, text: &[u8]) -> Result<Plan, ScriptError>
+    ensures plan { IfOk result (IsPlanOfText domain.now text.now) }
+    ensures bad { (n : ℕ) → result ≡ Err (ScriptError.BadLine n) → IsFirstBad domain.now text.now n }
+    ensures long { LONGEST_SCRIPT < length text.now → result ≡ Err ScriptError.TooLong }
+    ensures short { result ≡ Err ScriptError.TooLong → LONGEST_SCRIPT < length text.now }
+{
+    if text.len() > LONGEST_SCRIPT {
+        return Err(ScriptError::TooLong);
+    }
+    let mut draft = Draft::new(alloc, domain)?;
+    read_lines(alloc, domain, &mut draft, text)?;
+    Ok(plan_of(alloc, draft)?)
+}
