@@ -42,6 +42,12 @@ const BAD: [(&[u8], u64); 24] = [
     (b"kill RUN @1\r\nkill RUN @1\n7", 3),
 ];
 
+// The other tests say nothing where there is no domain.
+#[test]
+fn domain_of_supplies(rt: HostRuntime) {
+    assert!(rt; supplies(rt.alloc()).is_some());
+}
+
 #[test]
 fn bad_lines(rt: HostRuntime) {
     let alloc: Global = rt.alloc();
