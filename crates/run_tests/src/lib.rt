@@ -1,0 +1,17 @@
+//! Runs in threads, and a runtime call by call.
+#![tactic(auto)]
+
+#[cfg(test)]
+mod devices;
+#[cfg(test)]
+mod one_by_one;
+#[cfg(test)]
+mod openings;
+#[cfg(test)]
+mod reports;
+#[cfg(test)]
+mod runs;
+#[cfg(test)]
+mod tests;
+#[cfg(test)]
+mod texts;

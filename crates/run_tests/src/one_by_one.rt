@@ -1,0 +1,234 @@
+//! A runtime call by call, in one thread.
+ghost use Rattle.std.specs.Prelude.{◌≡◌};
+ghost use Rattle.std.specs.Arc.{arc_value};
+
+use crate::devices::{Supply, supplies};
+use crate::texts::{CONFIGURE, RUN, SUPPLIES};
+use smi_entry::completing::Passed;
+use smi_ruled::mailboxes::Mailboxes;
+use smi_ruled::ruled::{MailNames, ruled};
+use smi_run::errors::{FinishError, KillError, PostError};
+use smi_run::opening::Config;
+use smi_run::runtime::Runtime;
+use smi_run::session::{Closed, Session};
+use smi_shared::ending::ServeEnd;
+use sml_checkable::domain_of;
+use sml_domain::domain::Domain;
+use sml_domain::ids::{ActionId, ObjId};
+use sml_domain::value::Value;
+use sml_tree::name::Name;
+use std::alloc::Global;
+use std::marker::Brand;
+use std::sync::{Arc, Wait};
+
+// The numbers of these runtimes.
+const CONFIG: Config = Config {
+    workers: 1,
+    max_starts: 10,
+};
+
+/// What a session asks for, and what it must be answered. Objects and actions go by number; one that is none goes by
+/// the name of the other kind.
+#[derive(Clone, Copy)]
+pub enum Asked {
+    /// A post of a request, with so many arguments that no action has.
+    Post(usize, usize, usize, Result<u64, PostError>),
+    /// A kill.
+    Kill(usize, Result<u64, KillError>),
+}
+
+// The number of an object or action that is none.
+pub const NONE: usize = 99;
+
+fn object_name(domain: &Domain, o: usize) -> Option<Name> {
+    if o == NONE {
+        return domain.action_name(ActionId::new(CONFIGURE));
+    }
+    domain.object_name(ObjId::new(o))
+}
+
+fn action_name(domain: &Domain, a: usize) -> Option<Name> {
+    if a == NONE {
+        return domain.object_name(ObjId::new(RUN));
+    }
+    domain.action_name(ActionId::new(a))
+}
+
+fn given_of(alloc: Global, domain: &Domain, count: usize) -> Option<Vec<Passed>> {
+    let mut given = Vec::new(alloc);
+    for _ in 0..count {
+        let passed = Passed {
+            name: object_name(domain, RUN)?,
+            value: Value::Int(1),
+        };
+        given.push(passed).ok()?;
+    }
+    Some(given)
+}
+
+// Whether a session is answered so.
+fn is_answered<K: MailNames, R: Wait + Copy + Send>(
+    rt: &R,
+    alloc: Global,
+    runtime: &Runtime<R, K, Supply>,
+    session: &mut Session<K>,
+    asked: Asked,
+) -> Option<bool> {
+    match asked {
+        Asked::Post(object, action, given, wanted) => {
+            let object = object_name(runtime.domain(), object)?;
+            let action = action_name(runtime.domain(), action)?;
+            let given = given_of(alloc, runtime.domain(), given)?;
+            Some(session.post(rt, alloc, runtime, &object, &action, &given) == wanted)
+        }
+        Asked::Kill(object, wanted) => {
+            let object = object_name(runtime.domain(), object)?;
+            Some(session.kill(rt, runtime, &object) == wanted)
+        }
+    }
+}
+
+fn are_answered<K: MailNames, R: Wait + Copy + Send>(
+    rt: &R,
+    alloc: Global,
+    runtime: &Runtime<R, K, Supply>,
+    session: &mut Session<K>,
+    asked: &[Asked],
+) -> bool {
+    for one in asked {
+        if is_answered(rt, alloc, runtime, session, *one) != Some(true) {
+            return false;
+        }
+    }
+    true
+}
+
+/// What a runtime must be like in the end: how many receipts the session has, and how many entries the journal.
+pub type Ended = (usize, usize);
+
+// Whether a runtime serves up to `Quiet` once its sessions have left, and its report is so, with no receipt unmet.
+fn ends<K: MailNames, R: Wait + Copy + Send>(
+    rt: &R,
+    alloc: Global,
+    runtime: Runtime<R, K, Supply>,
+    closed: Vec<Closed<K>>,
+    entries: usize,
+) -> bool {
+    let end = runtime.serve(rt);
+    match runtime.finish(alloc, closed) {
+        Ok(report) => {
+            end == ServeEnd::Quiet && report.journal().len() == entries && report.unmet().is_empty()
+        }
+        Err(_) => false,
+    }
+}
+
+// Whether the first session of a runtime is answered so, and the run ends so.
+fn goes<K: MailNames, R: Wait + Copy + Send>(
+    rt: &R,
+    alloc: Global,
+    runtime: Runtime<R, K, Supply>,
+    sessions: Vec<Session<K>>,
+    asked: &[Asked],
+    ended: Ended,
+) -> bool {
+    let mut sessions = sessions;
+    let Some(mut session) = sessions.pop() else {
+        return false;
+    };
+    let is_right = are_answered(rt, alloc, &runtime, &mut session, asked);
+    let one = runtime.leave(rt, session);
+    let receipts = one.receipts().len();
+    let mut closed = Vec::new(alloc);
+    if closed.push(one).is_err() {
+        return false;
+    }
+    is_right && receipts == ended.0 && ends(rt, alloc, runtime, closed, ended.1)
+}
+
+// Whether a report is refused while the second session is missing, all comes back, and there is one with both.
+fn misses<K: MailNames, R: Wait + Copy + Send>(
+    rt: &R,
+    alloc: Global,
+    runtime: Runtime<R, K, Supply>,
+    sessions: Vec<Session<K>>,
+) -> bool {
+    let mut sessions = sessions;
+    let (Some(second), Some(first)) = (sessions.pop(), sessions.pop()) else {
+        return false;
+    };
+    let mut closed = Vec::new(alloc);
+    if closed.push(runtime.leave(rt, second)).is_err() {
+        return false;
+    }
+    match runtime.finish(alloc, closed) {
+        Err((FinishError::Missing, runtime, mut closed)) => {
+            closed.len() == 1
+                && closed.push(runtime.leave(rt, first)).is_ok()
+                && ends(rt, alloc, runtime, closed, 0)
+        }
+        _ => false,
+    }
+}
+
+// A runtime of the supplies and its sessions, to which something is done.
+fn with_runtime<K: MailNames, R: Wait + Copy + Send>(
+    rt: R,
+    alloc: Global,
+    domain: &Arc<Domain>,
+    boxes: Mailboxes<R>,
+    asked: Option<(&[Asked], Ended)>,
+) -> bool
+    requires named { K.names ≡ boxes }
+    requires domain { boxes.domain ≡ arc_value domain.now }
+{
+    let Ok(shared) = Arc::try_clone(domain) else {
+        return false;
+    };
+    let Ok((mail, ends)) = ruled::<K, R>(alloc, boxes) else {
+        return false;
+    };
+    let Some(devices) = supplies(alloc, 1) else {
+        return false;
+    };
+    let Ok((runtime, sessions)) = Runtime::open(alloc, shared, mail, ends, devices, CONFIG) else {
+        return false;
+    };
+    match asked {
+        Some((asked, ended)) => goes(&rt, alloc, runtime, sessions, asked, ended),
+        None => misses(&rt, alloc, runtime, sessions),
+    }
+}
+
+fn with_sessions<R: Wait + Copy + Send + Drop>(
+    rt: R,
+    alloc: Global,
+    sessions: usize,
+    asked: Option<(&[Asked], Ended)>,
+) -> bool {
+    let Ok(domain) = domain_of(alloc, SUPPLIES) else {
+        return false;
+    };
+    let Ok(shared) = Arc::try_clone(&domain) else {
+        return false;
+    };
+    match Mailboxes::new(rt, alloc, shared, 1, sessions) {
+        Ok(boxes) => with_runtime::<Brand, _>(rt, alloc, &domain, boxes, asked),
+        Err(_) => false,
+    }
+}
+
+/// Whether a session, the only one, is answered so, and the run ends so.
+pub fn answers<R: Wait + Copy + Send + Drop>(
+    rt: R,
+    alloc: Global,
+    asked: &[Asked],
+    ended: Ended,
+) -> bool {
+    with_sessions(rt, alloc, 1, Some((asked, ended)))
+}
+
+/// Whether a report is refused while one of two sessions is missing.
+pub fn misses_one<R: Wait + Copy + Send + Drop>(rt: R, alloc: Global) -> bool {
+    with_sessions(rt, alloc, 2, None)
+}

@@ -1,0 +1,266 @@
+//! Runs of two supplies and what switches them on.
+
+use crate::one_by_one::{Asked, NONE, answers, misses_one};
+use crate::openings::refuses;
+use crate::reports::Wanted;
+use crate::runs::{Act, Run, goes};
+use crate::texts::{
+    CONFIGURE, DEAD, EMPTY, FIRST, NOT_READY, OFF, ON, READY, RUN, SECOND, SUPPLIES, SWITCH_ON,
+};
+use smi_run::errors::{KillError, OpenError, PostError};
+use smi_run::opening::Config;
+use smi_shared::ending::ServeEnd;
+use std::test::*;
+
+const MOST: usize = 1_000_000;
+
+const CONFIGURES: &[Act] = &[Act::Post(RUN, CONFIGURE)];
+
+const SWITCHES: &[Act] = &[Act::Post(FIRST, SWITCH_ON)];
+
+// Both supplies are switched on.
+const CONFIGURED: Run = Run {
+    text: SUPPLIES,
+    devices: 2,
+    capacity: 16,
+    config: Config {
+        workers: 2,
+        max_starts: MOST,
+    },
+    entered: 1,
+    sessions: &[CONFIGURES],
+    times: 1,
+    wanted: Some(Wanted {
+        end: ServeEnd::Quiet,
+        refused: &[0],
+        states: &[ON, ON, READY],
+        stalled: &[],
+        accepted: &[(1, RUN, 1), (12, FIRST, 1), (12, SECOND, 1)],
+        left: &[],
+        performed: &[1, 1],
+    }),
+};
+
+#[test]
+fn run_on(rt: HostRuntime) {
+    let alone = Run {
+        config: Config {
+            workers: 1,
+            max_starts: MOST,
+        },
+        ..CONFIGURED
+    };
+    for _ in 0..100u32 {
+        for run in &[CONFIGURED, alone] {
+            assert!(rt; goes(rt, rt.alloc(), run));
+        }
+    }
+}
+
+// Two sessions switch one supply on, a hundred times each.
+const BUSY: Run = Run {
+    text: SUPPLIES,
+    devices: 2,
+    capacity: 256,
+    config: Config {
+        workers: 4,
+        max_starts: MOST,
+    },
+    entered: 1,
+    sessions: &[SWITCHES, SWITCHES],
+    times: 100,
+    wanted: Some(Wanted {
+        end: ServeEnd::Quiet,
+        refused: &[0, 0],
+        states: &[ON, OFF, NOT_READY],
+        stalled: &[],
+        accepted: &[(1, FIRST, 100), (2, FIRST, 100)],
+        left: &[],
+        performed: &[1, 0],
+    }),
+};
+
+#[test]
+fn two_sessions(rt: HostRuntime) {
+    for _ in 0..20u32 {
+        assert!(rt; goes(rt, rt.alloc(), &BUSY));
+    }
+}
+
+// Each supply returns only after the other was entered.
+const GATED: Run = Run {
+    text: SUPPLIES,
+    devices: 2,
+    capacity: 16,
+    config: Config {
+        workers: 2,
+        max_starts: MOST,
+    },
+    entered: 0,
+    sessions: &[&[Act::Post(FIRST, SWITCH_ON), Act::Post(SECOND, SWITCH_ON)]],
+    times: 1,
+    wanted: Some(Wanted {
+        end: ServeEnd::Quiet,
+        refused: &[0],
+        states: &[ON, ON, NOT_READY],
+        stalled: &[],
+        accepted: &[(1, FIRST, 1), (1, SECOND, 1)],
+        left: &[],
+        performed: &[1, 1],
+    }),
+};
+
+#[test]
+fn gate(rt: HostRuntime) {
+    assert!(rt; goes(rt, rt.alloc(), &GATED));
+}
+
+// Only one request is started: what it sends is left, and it waits for it.
+const LIMITED: Run = Run {
+    config: Config {
+        workers: 2,
+        max_starts: 1,
+    },
+    wanted: Some(Wanted {
+        end: ServeEnd::Limit,
+        refused: &[0],
+        states: &[OFF, OFF, NOT_READY],
+        stalled: &[RUN],
+        accepted: &[(1, RUN, 1), (12, FIRST, 1), (12, SECOND, 1)],
+        left: &[(12, FIRST, 1), (12, SECOND, 1)],
+        performed: &[0, 0],
+    }),
+    ..CONFIGURED
+};
+
+// Nothing is there, and what is asked for is refused.
+const NOTHING: Run = Run {
+    text: EMPTY,
+    devices: 0,
+    capacity: 1,
+    config: Config {
+        workers: 2,
+        max_starts: MOST,
+    },
+    entered: 1,
+    sessions: &[&[], &[Act::Stray]],
+    times: 3,
+    wanted: Some(Wanted {
+        end: ServeEnd::Quiet,
+        refused: &[0, 3],
+        states: &[],
+        stalled: &[],
+        accepted: &[],
+        left: &[],
+        performed: &[],
+    }),
+};
+
+// The sessions do nothing.
+const IDLE: Run = Run {
+    sessions: &[&[], &[]],
+    wanted: Some(Wanted {
+        end: ServeEnd::Quiet,
+        refused: &[0, 0],
+        states: &[OFF, OFF, NOT_READY],
+        stalled: &[],
+        accepted: &[],
+        left: &[],
+        performed: &[0, 0],
+    }),
+    ..CONFIGURED
+};
+
+// One session kills a supply, and then asks it and is refused; so what switches both on sees it dead.
+const KILLED: Run = Run {
+    sessions: &[&[
+        Act::Kill(FIRST),
+        Act::Kill(FIRST),
+        Act::Post(FIRST, SWITCH_ON),
+    ]],
+    wanted: Some(Wanted {
+        end: ServeEnd::Quiet,
+        refused: &[2],
+        states: &[DEAD, OFF, NOT_READY],
+        stalled: &[],
+        accepted: &[],
+        left: &[],
+        performed: &[0, 0],
+    }),
+    ..CONFIGURED
+};
+
+#[test]
+fn small_runs(rt: HostRuntime) {
+    for _ in 0..20u32 {
+        for run in &[LIMITED, NOTHING, IDLE, KILLED] {
+            assert!(rt; goes(rt, rt.alloc(), run));
+        }
+    }
+}
+
+// Eight sessions at mailboxes for one request, of which many are refused.
+const CROWDED: Run = Run {
+    capacity: 1,
+    config: Config {
+        workers: 8,
+        max_starts: MOST,
+    },
+    sessions: &[
+        SWITCHES, SWITCHES, SWITCHES, SWITCHES, SWITCHES, SWITCHES, SWITCHES, SWITCHES,
+    ],
+    times: 50,
+    wanted: None,
+    ..CONFIGURED
+};
+
+#[test]
+fn capacity_one(rt: HostRuntime) {
+    for _ in 0..20u32 {
+        assert!(rt; goes(rt, rt.alloc(), &CROWDED));
+    }
+}
+
+#[test]
+fn kill_then_post(rt: HostRuntime) {
+    let asked = [
+        Asked::Kill(NONE, Err(KillError::UnknownObject)),
+        Asked::Kill(RUN, Ok(0)),
+        Asked::Post(RUN, CONFIGURE, 0, Err(PostError::Dead(0))),
+        Asked::Kill(RUN, Err(KillError::AlreadyDead(0))),
+        Asked::Post(NONE, NONE, 1, Err(PostError::UnknownObject)),
+        Asked::Post(FIRST, CONFIGURE, 1, Err(PostError::UnknownAction)),
+        Asked::Post(FIRST, NONE, 1, Err(PostError::UnknownAction)),
+        Asked::Post(RUN, CONFIGURE, 1, Err(PostError::BadArgs)),
+        Asked::Post(FIRST, SWITCH_ON, 0, Ok(0)),
+        Asked::Post(FIRST, SWITCH_ON, 0, Err(PostError::Full)),
+    ];
+    assert!(rt; answers(rt, rt.alloc(), &asked, (3, 3)));
+}
+
+#[test]
+fn finish_missing(rt: HostRuntime) {
+    assert!(rt; misses_one(rt, rt.alloc()));
+}
+
+const fn numbers(workers: usize, max_starts: usize) -> Config {
+    Config {
+        workers,
+        max_starts,
+    }
+}
+
+#[test]
+fn not_opened(rt: HostRuntime) {
+    let openings = [
+        (1, numbers(1, 1), OpenError::DeviceCount),
+        (0, numbers(8, MOST), OpenError::DeviceCount),
+        (2, numbers(0, 1), OpenError::BadConfig),
+        (2, numbers(9, 1), OpenError::BadConfig),
+        (2, numbers(1, 0), OpenError::BadConfig),
+        (1, numbers(1, MOST + 1), OpenError::BadConfig),
+    ];
+    for opening in &openings {
+        assert!(rt; refuses(rt, rt.alloc(), opening));
+    }
+}
