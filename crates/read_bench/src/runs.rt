@@ -86,7 +86,11 @@ impl<C: Clock + Drop> Device for Supply<C> {
             self.faults = self.faults.saturating_add(1);
             return Err(DeviceFault);
         }
-        Ok(if action == self.switch_on { self.on } else { self.off })
+        Ok(if action == self.switch_on {
+            self.on
+        } else {
+            self.off
+        })
     }
 }
 
@@ -143,13 +147,7 @@ fn first_script(alloc: Global) -> Result<Script> {
 fn time_run<
     K: MailNames + Send + Sync,
     R: Clock + Print + Threads + Wait + Copy + Send + Sync + Drop,
->(
-    rt: &R,
-    alloc: Global,
-    domain: &Arc<Domain>,
-    boxes: Mailboxes<R>,
-    asked: Asked,
-) -> Result<()>
+>(rt: &R, alloc: Global, domain: &Arc<Domain>, boxes: Mailboxes<R>, asked: Asked) -> Result<()>
     requires named { K.names ≡ boxes }
     requires domain { boxes.domain ≡ arc_value domain.now }
 {
@@ -162,18 +160,27 @@ fn time_run<
     let Ok((mail, ends)) = ruled::<K, R>(alloc, boxes) else {
         bail!("out of memory");
     };
-    let Ok((runtime, sessions)) =
-        Runtime::open(alloc, Arc::try_clone(domain)?, mail, ends, supplies, config)
-    else {
+    let Ok((runtime, sessions)) = Runtime::open(
+        alloc,
+        Arc::try_clone(domain)?,
+        mail,
+        ends,
+        supplies,
+        config,
+    ) else {
         bail!("the run was not opened");
     };
     if sessions.len() != 1 {
         bail!("one session was wanted");
     }
     let began = Instant::now(rt)?;
-    let Ok((end, _refused, report)) =
-        run_scripts(rt, alloc, runtime, sessions, std::slice::from_ref(&script))
-    else {
+    let Ok((end, _refused, report)) = run_scripts(
+        rt,
+        alloc,
+        runtime,
+        sessions,
+        std::slice::from_ref(&script),
+    ) else {
         bail!("the run was not finished");
     };
     let nanos = began.elapsed(rt)?.as_nanos();
@@ -225,9 +232,14 @@ fn time_posts<K: MailNames, R: Clock + Wait + Copy + Send + Drop>(
         bail!("out of memory");
     };
     let none: Vec<Supply<R>> = Vec::new(alloc);
-    let Ok((runtime, mut sessions)) =
-        Runtime::open(alloc, Arc::try_clone(domain)?, mail, ends, none, config)
-    else {
+    let Ok((runtime, mut sessions)) = Runtime::open(
+        alloc,
+        Arc::try_clone(domain)?,
+        mail,
+        ends,
+        none,
+        config,
+    ) else {
         bail!("the run was not opened");
     };
     let Some(session) = sessions.get_mut(0) else {
