@@ -17,15 +17,10 @@ use std::sync::{Arc, Wait};
 
 const SESSIONS: usize = 2;
 
-const GOOD: Config = Config {
-    workers: 8,
-    max_starts: 1_000_000,
-};
-
 /// How many devices are given and the numbers of the run, and why no runtime is opened.
 pub type Opening = (usize, Config, OpenError);
 
-// Whether mail is refused so and comes back with its ends and the devices, and a runtime is then opened over it.
+// Whether mail is refused so, and comes back with its ends and the devices.
 fn is_refused<K: MailNames, R: Wait + Copy + Send>(
     alloc: Global,
     domain: &Arc<Domain>,
@@ -36,16 +31,17 @@ fn is_refused<K: MailNames, R: Wait + Copy + Send>(
     requires domain { boxes.domain ≡ arc_value domain.now }
 {
     let shared = Arc::try_clone(domain).ok()?;
-    let again = Arc::try_clone(domain).ok()?;
     let mut devices = supplies(alloc, 1)?;
     devices.truncate(opening.0);
-    let all = supplies(alloc, 1)?;
-    let (mail, ends) = ruled::<K, R>(alloc, boxes).ok()?;
-    let (error, mail, ends, devices) = Runtime::open(
-        alloc, shared, mail, ends, devices, opening.1,
-    ).err()?;
-    let (_runtime, sessions) = Runtime::open(alloc, again, mail, ends, all, GOOD).ok()?;
-    Some(error == opening.2 && devices.len() == opening.0 && sessions.len() == SESSIONS)
+    let Ok((mail, ends)) = ruled::<K, R>(alloc, boxes) else {
+        return None;
+    };
+    match Runtime::open(alloc, shared, mail, ends, devices, opening.1) {
+        Ok(_) => None,
+        Err((error, _mail, ends, devices)) => Some(
+            error == opening.2 && devices.len() == opening.0 && ends.len() == SESSIONS,
+        ),
+    }
 }
 
 /// Whether no runtime of the supplies is opened, for this cause.
