@@ -34,24 +34,28 @@ use Rattle.smi_board.proofs.ring.Ring.TheSendSync as ring
 use Rattle.smi_run.specs.contracts.runtime.Runtime as Runtime
 use Rattle.smi_run.proofs.opening.Config.TheSendSync as config
 
+-- a condition, as a part of what holds it
 cond_field_send : IsSend Cond.the_field.row
 cond_field_send = search (send-Cond, hole_send-Cond, sendable, crosses) depth 40 fits 20000
 
 cond_field_sync : IsSync Cond.the_field.row
 cond_field_sync = search (sync-Cond, hole_sync-Cond, sendable, crosses) depth 40 fits 20000
 
+-- an instruction
 instr_send : IsSend Instr.the_row
 instr_send = search (operand.the_field_send, argument.the_field_send, target.the_field_send, cond_field_send, sendable, crosses) depth 40 fits 20000
 
 instr_sync : IsSync Instr.the_row
 instr_sync = search (operand.the_field_sync, argument.the_field_sync, target.the_field_sync, cond_field_sync, sendable, crosses) depth 40 fits 20000
 
+-- a domain, which threads share
 domain_send : IsSend Domain.the_row
 domain_send = search (object.the_send, class.the_send, group.the_send, names.the_send, instr_send, sendable, crosses) depth 40 fits 20000
 
 domain_sync : IsSync Domain.the_row
 domain_sync = search (object.the_sync, class.the_sync, group.the_sync, names.the_sync, instr_sync, sendable, crosses) depth 40 fits 20000
 
+-- what a board keeps: its ledger, and tasks
 ledger_send : IsSend Ledger.the_row
 ledger_send = search (domain_send, domain_sync, journal.the_send, slot.the_send, sendable, crosses) depth 40 fits 20000
 
