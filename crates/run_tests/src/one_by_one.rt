@@ -107,7 +107,7 @@ fn are_answered<K: MailNames, R: Wait + Copy + Send>(
 pub type Ended = (usize, usize);
 
 // Whether a runtime serves up to `Quiet` once its sessions have left, and its report is so, with no receipt unmet.
-fn ends<K: MailNames, R: Wait + Copy + Send>(
+fn ends_quietly<K: MailNames, R: Wait + Copy + Send>(
     rt: &R,
     alloc: Global,
     runtime: Runtime<R, K, Supply>,
@@ -143,7 +143,7 @@ fn goes<K: MailNames, R: Wait + Copy + Send>(
     if closed.push(one).is_err() {
         return false;
     }
-    is_right && receipts == ended.0 && ends(rt, alloc, runtime, closed, ended.1)
+    is_right && receipts == ended.0 && ends_quietly(rt, alloc, runtime, closed, ended.1)
 }
 
 // Whether a report is refused while the second session is missing, all comes back, and there is one with both.
@@ -165,7 +165,7 @@ fn misses<K: MailNames, R: Wait + Copy + Send>(
         Err((FinishError::Missing, runtime, mut closed)) => {
             closed.len() == 1
                 && closed.push(runtime.leave(rt, first)).is_ok()
-                && ends(rt, alloc, runtime, closed, 0)
+                && ends_quietly(rt, alloc, runtime, closed, 0)
         }
         _ => false,
     }
@@ -185,10 +185,10 @@ fn with_runtime<K: MailNames, R: Wait + Copy + Send>(
     let Ok(shared) = Arc::try_clone(domain) else {
         return false;
     };
-    let Ok((mail, ends)) = ruled::<K, R>(alloc, boxes) else {
+    let Some(devices) = supplies(alloc, 1) else {
         return false;
     };
-    let Some(devices) = supplies(alloc, 1) else {
+    let Ok((mail, ends)) = ruled::<K, R>(alloc, boxes) else {
         return false;
     };
     let Ok((runtime, sessions)) = Runtime::open(alloc, shared, mail, ends, devices, CONFIG) else {
