@@ -182,13 +182,13 @@ fn with_runtime<K: MailNames, R: Wait + Copy + Send>(
     requires named { K.names ≡ boxes }
     requires domain { boxes.domain ≡ arc_value domain.now }
 {
+    let Ok((mail, ends)) = ruled::<K, R>(alloc, boxes) else {
+        return false;
+    };
     let Ok(shared) = Arc::try_clone(domain) else {
         return false;
     };
     let Some(devices) = supplies(alloc, 1) else {
-        return false;
-    };
-    let Ok((mail, ends)) = ruled::<K, R>(alloc, boxes) else {
         return false;
     };
     let Ok((runtime, sessions)) = Runtime::open(alloc, shared, mail, ends, devices, CONFIG) else {
