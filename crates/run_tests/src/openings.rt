@@ -17,10 +17,17 @@ use std::sync::{Arc, Wait};
 
 const SESSIONS: usize = 2;
 
+// Numbers with which a runtime is opened.
+const GOOD: Config = Config {
+    workers: 1,
+    max_starts: 1,
+};
+
 /// How many devices are given and the numbers of the run, and why no runtime is opened.
 pub type Opening = (usize, Config, OpenError);
 
-// Whether mail is refused so, and comes back with its ends and the devices.
+// Whether mail is refused so, and comes back with its ends and the devices. Over what came back, with both devices and
+// good numbers, a runtime must then be opened, with a session for each end.
 fn is_refused<K: MailNames, R: Wait + Copy + Send>(
     alloc: Global,
     domain: &Arc<Domain>,
@@ -30,17 +37,25 @@ fn is_refused<K: MailNames, R: Wait + Copy + Send>(
     requires named { K.names ≡ boxes }
     requires domain { boxes.domain ≡ arc_value domain.now }
 {
-    let shared = Arc::try_clone(domain).ok()?;
+    let first = Arc::try_clone(domain).ok()?;
+    let second = Arc::try_clone(domain).ok()?;
+    let both = supplies(alloc, 1)?;
     let mut devices = supplies(alloc, 1)?;
     devices.truncate(opening.0);
     let Ok((mail, ends)) = ruled::<K, R>(alloc, boxes) else {
         return None;
     };
-    match Runtime::open(alloc, shared, mail, ends, devices, opening.1) {
-        Ok(_) => None,
-        Err((error, _mail, ends, devices)) => Some(
-            error == opening.2 && devices.len() == opening.0 && ends.len() == SESSIONS,
-        ),
+    let Err((error, mail, ends, devices)) = Runtime::open(
+        alloc, first, mail, ends, devices, opening.1,
+    ) else {
+        return None;
+    };
+    if error != opening.2 || devices.len() != opening.0 || ends.len() != SESSIONS {
+        return Some(false);
+    }
+    match Runtime::open(alloc, second, mail, ends, both, GOOD) {
+        Ok((_runtime, sessions)) => Some(sessions.len() == SESSIONS),
+        Err(_) => Some(false),
     }
 }
 

@@ -14,6 +14,9 @@ use std::test::*;
 
 const MOST: usize = 1_000_000;
 
+// How often a short run goes in one test, on whatever schedules of threads it meets.
+const RUNS: u32 = 100;
+
 const CONFIGURES: &[Act] = &[Act::Post(RUN, CONFIGURE)];
 
 const SWITCHES: &[Act] = &[Act::Post(FIRST, SWITCH_ON)];
@@ -50,7 +53,7 @@ fn run_on(rt: HostRuntime) {
         },
         ..CONFIGURED
     };
-    for _ in 0..100u32 {
+    for _ in 0..RUNS {
         for run in &[CONFIGURED, alone] {
             assert!(rt; goes(rt, rt.alloc(), run));
         }
@@ -82,7 +85,7 @@ const BUSY: Run = Run {
 
 #[test]
 fn two_sessions(rt: HostRuntime) {
-    for _ in 0..20u32 {
+    for _ in 0..RUNS {
         assert!(rt; goes(rt, rt.alloc(), &BUSY));
     }
 }
@@ -112,7 +115,9 @@ const GATED: Run = Run {
 
 #[test]
 fn gate(rt: HostRuntime) {
-    assert!(rt; goes(rt, rt.alloc(), &GATED));
+    for _ in 0..RUNS {
+        assert!(rt; goes(rt, rt.alloc(), &GATED));
+    }
 }
 
 // Only one request is started: what it sends is left, and it waits for it.
@@ -192,7 +197,7 @@ const KILLED: Run = Run {
 
 #[test]
 fn small_runs(rt: HostRuntime) {
-    for _ in 0..20u32 {
+    for _ in 0..RUNS {
         for run in &[LIMITED, NOTHING, IDLE, KILLED] {
             assert!(rt; goes(rt, rt.alloc(), run));
         }
@@ -216,7 +221,7 @@ const CROWDED: Run = Run {
 
 #[test]
 fn capacity_one(rt: HostRuntime) {
-    for _ in 0..20u32 {
+    for _ in 0..RUNS {
         assert!(rt; goes(rt, rt.alloc(), &CROWDED));
     }
 }
