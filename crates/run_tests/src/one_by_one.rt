@@ -12,6 +12,7 @@ use smi_run::opening::Config;
 use smi_run::runtime::Runtime;
 use smi_run::session::{Closed, Session};
 use smi_shared::ending::ServeEnd;
+use smi_shared::progress::{Progress, Tally};
 use sml_checkable::domain_of;
 use sml_domain::domain::Domain;
 use sml_domain::ids::{ActionId, ObjId};
@@ -21,12 +22,6 @@ use std::alloc::Global;
 use std::marker::Brand;
 use std::sync::{Arc, Wait};
 
-// The numbers of these runtimes.
-const CONFIG: Config = Config {
-    workers: 1,
-    max_starts: 10,
-};
-
 /// What a session asks for, and what it must be answered. Objects and actions go by number; one that is none goes by
 /// the name of the other kind.
 #[derive(Clone, Copy)]
@@ -35,7 +30,39 @@ pub enum Asked {
     Post(usize, usize, usize, Result<u64, PostError>),
     /// A kill.
     Kill(usize, Result<u64, KillError>),
+    /// How far the run is.
+    See(Progress),
 }
+
+/// What a runtime must be like in the end: how it ended, how many receipts the session has, how many entries the
+/// journal, and how far the run is.
+#[derive(Clone, Copy)]
+pub struct Ended {
+    pub end: ServeEnd,
+    pub receipts: usize,
+    pub entries: usize,
+    pub progress: Progress,
+}
+
+/// A runtime with one session: how many requests are started at most, what is asked, and what it is like in the end.
+#[derive(Clone, Copy)]
+pub struct Case<'a> {
+    pub max_starts: usize,
+    pub asked: &'a [Asked],
+    pub ended: Ended,
+}
+
+// A run in which nothing is done.
+const NOTHING_DONE: Ended = Ended {
+    end: ServeEnd::Quiet,
+    receipts: 0,
+    entries: 0,
+    progress: Progress {
+        starts: 0,
+        waiting: 0,
+        open: 0,
+    },
+};
 
 // The number of an object or action that is none.
 pub const NONE: usize = 99;
@@ -72,6 +99,7 @@ fn is_answered<K: MailNames, R: Wait + Copy + Send>(
     alloc: Global,
     runtime: &Runtime<R, K, Supply>,
     session: &mut Session<K>,
+    tally: &mut Tally,
     asked: Asked,
 ) -> Option<bool> {
     match asked {
@@ -85,6 +113,7 @@ fn is_answered<K: MailNames, R: Wait + Copy + Send>(
             let object = object_name(runtime.domain(), object)?;
             Some(session.kill(rt, runtime, &object) == wanted)
         }
+        Asked::See(wanted) => Some(runtime.progress(rt, tally) == wanted),
     }
 }
 
@@ -93,32 +122,41 @@ fn are_answered<K: MailNames, R: Wait + Copy + Send>(
     alloc: Global,
     runtime: &Runtime<R, K, Supply>,
     session: &mut Session<K>,
+    tally: &mut Tally,
     asked: &[Asked],
 ) -> bool {
     for one in asked {
-        if is_answered(rt, alloc, runtime, session, *one) != Some(true) {
+        if is_answered(rt, alloc, runtime, session, tally, *one) != Some(true) {
             return false;
         }
     }
     true
 }
 
-/// What a runtime must be like in the end: how many receipts the session has, and how many entries the journal.
-pub type Ended = (usize, usize);
+// Whether a run is as far as it must be, and says so again where nothing is new.
+fn is_so_far<K: MailNames, R: Wait + Copy + Send>(
+    rt: &R,
+    runtime: &Runtime<R, K, Supply>,
+    mut tally: Tally,
+    wanted: Progress,
+) -> bool {
+    runtime.progress(rt, &mut tally) == wanted && runtime.progress(rt, &mut tally) == wanted
+}
 
-// Whether a runtime serves up to `Quiet` once its sessions have left, and its report is so, with no receipt unmet.
-fn ends_quietly<K: MailNames, R: Wait + Copy + Send>(
+// Whether a runtime serves up to such an end once its sessions have left, and its report is so, with no receipt unmet.
+fn ends<K: MailNames, R: Wait + Copy + Send>(
     rt: &R,
     alloc: Global,
     runtime: Runtime<R, K, Supply>,
     closed: Vec<Closed<K>>,
-    entries: usize,
+    tally: Tally,
+    ended: Ended,
 ) -> bool {
-    let end = runtime.serve(rt);
+    if runtime.serve(rt) != ended.end || !is_so_far(rt, &runtime, tally, ended.progress) {
+        return false;
+    }
     match runtime.finish(alloc, closed) {
-        Ok(report) => {
-            end == ServeEnd::Quiet && report.journal().len() == entries && report.unmet().is_empty()
-        }
+        Ok(report) => report.journal().len() == ended.entries && report.unmet().is_empty(),
         Err(_) => false,
     }
 }
@@ -129,21 +167,23 @@ fn goes<K: MailNames, R: Wait + Copy + Send>(
     alloc: Global,
     runtime: Runtime<R, K, Supply>,
     sessions: Vec<Session<K>>,
-    asked: &[Asked],
-    ended: Ended,
+    case: Case,
 ) -> bool {
     let mut sessions = sessions;
     let Some(mut session) = sessions.pop() else {
         return false;
     };
-    let is_right = are_answered(rt, alloc, &runtime, &mut session, asked);
+    let mut tally = Tally::new();
+    let is_right = are_answered(rt, alloc, &runtime, &mut session, &mut tally, case.asked);
     let one = runtime.leave(rt, session);
     let receipts = one.receipts().len();
     let mut closed = Vec::new(alloc);
     if closed.push(one).is_err() {
         return false;
     }
-    is_right && receipts == ended.0 && ends_quietly(rt, alloc, runtime, closed, ended.1)
+    is_right
+        && receipts == case.ended.receipts
+        && ends(rt, alloc, runtime, closed, tally, case.ended)
 }
 
 // Whether a report is refused while the second session is missing, all comes back, and there is one with both.
@@ -165,7 +205,7 @@ fn misses<K: MailNames, R: Wait + Copy + Send>(
         Err((FinishError::Missing, runtime, mut closed)) => {
             closed.len() == 1
                 && closed.push(runtime.leave(rt, first)).is_ok()
-                && ends_quietly(rt, alloc, runtime, closed, 0)
+                && ends(rt, alloc, runtime, closed, Tally::new(), NOTHING_DONE)
         }
         _ => false,
     }
@@ -177,7 +217,7 @@ fn with_runtime<K: MailNames, R: Wait + Copy + Send>(
     alloc: Global,
     domain: &Arc<Domain>,
     boxes: Mailboxes<R>,
-    asked: Option<(&[Asked], Ended)>,
+    case: Option<Case>,
 ) -> bool
     requires named { K.names ≡ boxes }
     requires domain { boxes.domain ≡ arc_value domain.now }
@@ -191,11 +231,15 @@ fn with_runtime<K: MailNames, R: Wait + Copy + Send>(
     let Some(devices) = supplies(alloc, 1) else {
         return false;
     };
-    let Ok((runtime, sessions)) = Runtime::open(alloc, shared, mail, ends, devices, CONFIG) else {
+    let config = Config {
+        workers: 1,
+        max_starts: case.map_or(1, |case| case.max_starts),
+    };
+    let Ok((runtime, sessions)) = Runtime::open(alloc, shared, mail, ends, devices, config) else {
         return false;
     };
-    match asked {
-        Some((asked, ended)) => goes(&rt, alloc, runtime, sessions, asked, ended),
+    match case {
+        Some(case) => goes(&rt, alloc, runtime, sessions, case),
         None => misses(&rt, alloc, runtime, sessions),
     }
 }
@@ -204,7 +248,7 @@ fn with_sessions<R: Wait + Copy + Send + Drop>(
     rt: R,
     alloc: Global,
     sessions: usize,
-    asked: Option<(&[Asked], Ended)>,
+    case: Option<Case>,
 ) -> bool {
     let Ok(domain) = domain_of(alloc, SUPPLIES) else {
         return false;
@@ -213,19 +257,14 @@ fn with_sessions<R: Wait + Copy + Send + Drop>(
         return false;
     };
     match Mailboxes::new(rt, alloc, shared, 1, sessions) {
-        Ok(boxes) => with_runtime::<Brand, _>(rt, alloc, &domain, boxes, asked),
+        Ok(boxes) => with_runtime::<Brand, _>(rt, alloc, &domain, boxes, case),
         Err(_) => false,
     }
 }
 
 /// Whether a session, the only one, is answered so, and the run ends so.
-pub fn answers<R: Wait + Copy + Send + Drop>(
-    rt: R,
-    alloc: Global,
-    asked: &[Asked],
-    ended: Ended,
-) -> bool {
-    with_sessions(rt, alloc, 1, Some((asked, ended)))
+pub fn answers<R: Wait + Copy + Send + Drop>(rt: R, alloc: Global, case: Case) -> bool {
+    with_sessions(rt, alloc, 1, Some(case))
 }
 
 /// Whether a report is refused while one of two sessions is missing.

@@ -1,6 +1,6 @@
 //! Runs of two supplies and what switches them on.
 
-use crate::one_by_one::{Asked, NONE, answers, misses_one};
+use crate::one_by_one::{Asked, Case, Ended, NONE, answers, misses_one};
 use crate::openings::refuses;
 use crate::reports::Wanted;
 use crate::runs::{Act, Run, goes};
@@ -10,6 +10,7 @@ use crate::texts::{
 use smi_run::errors::{KillError, OpenError, PostError};
 use smi_run::opening::Config;
 use smi_shared::ending::ServeEnd;
+use smi_shared::progress::Progress;
 use std::test::*;
 
 const MOST: usize = 1_000_000;
@@ -226,6 +227,14 @@ fn capacity_one(rt: HostRuntime) {
     }
 }
 
+const fn far(starts: u64, waiting: u64, open: u64) -> Progress {
+    Progress {
+        starts,
+        waiting,
+        open,
+    }
+}
+
 #[test]
 fn kill_then_post(rt: HostRuntime) {
     let asked = [
@@ -239,8 +248,60 @@ fn kill_then_post(rt: HostRuntime) {
         Asked::Post(RUN, CONFIGURE, 1, Err(PostError::BadArgs)),
         Asked::Post(FIRST, SWITCH_ON, 0, Ok(0)),
         Asked::Post(FIRST, SWITCH_ON, 0, Err(PostError::Full)),
+        Asked::See(far(0, 1, 0)),
     ];
-    assert!(rt; answers(rt, rt.alloc(), &asked, (3, 3)));
+    let case = Case {
+        max_starts: 10,
+        asked: &asked,
+        ended: Ended {
+            end: ServeEnd::Quiet,
+            receipts: 3,
+            entries: 3,
+            progress: far(1, 0, 0),
+        },
+    };
+    assert!(rt; answers(rt, rt.alloc(), case));
+}
+
+// `RUN` sends to the first supply, whose mailbox is full, and to the second. It ends after both supplies.
+#[test]
+fn progress(rt: HostRuntime) {
+    let asked = [
+        Asked::See(far(0, 0, 0)),
+        Asked::Post(RUN, CONFIGURE, 0, Ok(0)),
+        Asked::See(far(0, 1, 0)),
+        Asked::Post(FIRST, SWITCH_ON, 0, Ok(0)),
+        Asked::Post(FIRST, SWITCH_ON, 0, Err(PostError::Full)),
+        Asked::See(far(0, 2, 0)),
+    ];
+    let case = Case {
+        max_starts: 10,
+        asked: &asked,
+        ended: Ended {
+            end: ServeEnd::Quiet,
+            receipts: 0,
+            entries: 10,
+            progress: far(3, 0, 0),
+        },
+    };
+    assert!(rt; answers(rt, rt.alloc(), case));
+}
+
+// Only `RUN` is started: it waits for what it sent.
+#[test]
+fn progress_at_limit(rt: HostRuntime) {
+    let asked = [Asked::Post(RUN, CONFIGURE, 0, Ok(0))];
+    let case = Case {
+        max_starts: 1,
+        asked: &asked,
+        ended: Ended {
+            end: ServeEnd::Limit,
+            receipts: 0,
+            entries: 4,
+            progress: far(1, 2, 1),
+        },
+    };
+    assert!(rt; answers(rt, rt.alloc(), case));
 }
 
 #[test]

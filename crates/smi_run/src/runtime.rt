@@ -11,6 +11,7 @@ use smi_ruled::ruled::MailNames;
 use smi_shared::device::{Device, DeviceFault};
 use smi_shared::ending::ServeEnd;
 use smi_shared::job::{Job, make_moves};
+use smi_shared::progress::{Progress, Tally};
 use smi_shared::shared::Shared;
 use sml_domain::domain::Domain;
 use sml_domain::ids::{ObjId, StateId};
@@ -102,6 +103,14 @@ impl<R: Wait + Copy + Send, K: MailNames, D> Runtime<R, K, D> {
         if is_wanted {
             self.changed.notify_one();
         }
+    }
+
+    /// How far the run is, as `Shared::progress` says. It takes the board's lock once.
+    ///
+    /// A session's post counts a moment after it is in the mailbox, and before the session is told. Where it is
+    /// started in between, `waiting` is one too few for that moment, though not below zero.
+    pub fn progress(&self, rt: &R, tally: &mut Tally) -> Progress {
+        self.shared.lock(rt).progress(tally)
     }
 
     /// A session leaves: it posts and kills no more. Once the last has left, the workers may end.

@@ -5,4 +5,5 @@
 pub mod device;
 pub mod ending;
 pub mod job;
+pub mod progress;
 pub mod shared;

@@ -24,12 +24,13 @@ use smi_ruled::ruled::{MailNames, RuledMail};
 use sml_domain::ids::{ObjId, StateId};
 use std::sync::Wait;
 
-/// The board over the mailboxes that `K` names, how many sessions have not left, how many workers wait, and whether a
-/// start was refused since there were as many as may be.
+/// The board over the mailboxes that `K` names, how many sessions have not left, how many of their posts woke their
+/// objects, how many workers wait, and whether a start was refused since there were as many as may be.
 #[derive(Drop)]
 pub struct Shared<R: Wait + Copy + Send, K: MailNames> {
     pub board: Board<RuledMail<R, K>>,
     sessions: usize,
+    pub(crate) posts: u64,
     idle: usize,
     is_limited: bool,
 }
@@ -52,6 +53,7 @@ impl<R: Wait + Copy + Send, K: MailNames> Shared<R, K> {
         Shared {
             board,
             sessions,
+            posts: 0,
             idle: 0,
             is_limited: false,
         }
@@ -86,13 +88,14 @@ impl<R: Wait + Copy + Send, K: MailNames> Shared<R, K> {
         self.board.kill(o, session)
     }
 
-    /// An object may have a request that waits.
+    /// A session's post to an object was accepted: the object has a request more. To be called once for each.
     pub fn wake(&mut self, o: ObjId)
         requires { o < length K.names.domain.objects }
         ensures { self.new.board ≡ record self.old.board { woken = with_one o self.old.board.woken } }
     {
         self.keeps();
         self.board.wake(o);
+        self.posts = self.posts.saturating_add(1);
     }
 
     /// Whether a worker waits, and there is something that it could do.
@@ -149,7 +152,7 @@ impl<R: Wait + Copy + Send, K: MailNames> Shared<R, K> {
             Ok(Started::Skipped) => Job::Again,
             Ok(started) => Job::Perform { object, started },
             Err(StartError::Memory) => {
-                self.wake(o);
+                self.board.wake(o);
                 Job::Memory
             }
             Err(StartError::Limit) => {
@@ -235,6 +238,7 @@ impl<R: Wait + Copy + Send, K: MailNames> Shared<R, K> {
         let Shared {
             board,
             sessions: _,
+            posts: _,
             idle: _,
             is_limited: _,
         } = self;
