@@ -17,7 +17,7 @@ use sml_domain::domain::Domain;
 use sml_domain::ids::{ObjId, StateId};
 use sml_tree::name::Name;
 use std::marker::Model;
-use std::sync::{Arc, Condvar, Mutex, Wait};
+use std::sync::{Arc, Condvar, Mutex, MutexGuard, Wait};
 
 /// A board that workers and sessions share under one lock, with the devices of its objects. Contracts see its
 /// numbers; of what the lock holds they say what `Shared::keeps` says.
@@ -78,17 +78,32 @@ impl<R: Wait + Copy + Send, K: MailNames, D> Runtime<R, K, D> {
         self.shared.lock(rt).dead_at(o)
     }
 
+    // Lets go of the lock. Where a worker that waits and was not told could do something, it is told.
+    //
+    // No wake-up is lost: a worker is counted as waiting before it lets go of the lock to sleep, and each that counts
+    // as told ends a sleep. One that wakes by itself is still counted, so too many may be told, but never too few.
+    fn let_go(&self, mut shared: MutexGuard<'_, Shared<R, K>>) {
+        let is_wanted = shared.is_wanted();
+        drop(shared);
+        if is_wanted {
+            self.changed.notify_one();
+        }
+    }
+
+    // Lets go of the lock, and tells all workers that wait.
+    fn tell_all(&self, mut shared: MutexGuard<'_, Shared<R, K>>) {
+        shared.clear_idle();
+        drop(shared);
+        self.changed.notify_all();
+    }
+
     // A session kills an object. A suspended action may go on for it.
     pub(crate) fn kill(&self, rt: &R, o: ObjId, session: SessionId) -> Result<u64, KillError>
         requires { o < length K.names.domain.objects }
     {
         let mut shared = self.shared.lock(rt);
         let killed = shared.kill(o, session);
-        let is_wanted = shared.is_wanted();
-        drop(shared);
-        if is_wanted {
-            self.changed.notify_one();
-        }
+        self.let_go(shared);
         killed
     }
 
@@ -98,11 +113,7 @@ impl<R: Wait + Copy + Send, K: MailNames, D> Runtime<R, K, D> {
     {
         let mut shared = self.shared.lock(rt);
         shared.wake(o);
-        let is_wanted = shared.is_wanted();
-        drop(shared);
-        if is_wanted {
-            self.changed.notify_one();
-        }
+        self.let_go(shared);
     }
 
     /// How far the run is, as `Shared::progress` says. It takes the board's lock once.
@@ -118,10 +129,8 @@ impl<R: Wait + Copy + Send, K: MailNames, D> Runtime<R, K, D> {
         ensures { result ≡ session }
     {
         let mut shared = self.shared.lock(rt);
-        let is_last = shared.leave();
-        drop(shared);
-        if is_last {
-            self.changed.notify_all();
+        if shared.leave() {
+            self.tell_all(shared);
         }
         Closed { session }
     }
@@ -148,28 +157,22 @@ impl<R: Wait + Copy + Send, K: MailNames, D: Device> Runtime<R, K, D> {
     ///
     /// It ends as `ServeEnd` says, and waits where nothing can be done and not all is over: for sessions that have
     /// not left, and for what other workers have in hand. Whoever leaves the lock while there is something that a
-    /// waiting worker could do tells one; the last session that leaves and a worker that ends tell all.
+    /// waiting worker could do tells one, and none twice; the last session that leaves and a worker that ends tell
+    /// all.
     pub fn serve(&self, rt: &R) -> ServeEnd {
         let mut shared = self.shared.lock(rt);
         let mut job = shared.next_job();
         for _ in rt.forever() {
-            let is_wanted = shared.is_wanted();
             match job {
                 Job::Again => job = shared.next_job(),
                 Job::Move(mut task) => {
-                    drop(shared);
-                    if is_wanted {
-                        self.changed.notify_one();
-                    }
+                    self.let_go(shared);
                     let is_moved = make_moves(rt, &mut task);
                     shared = self.shared.lock(rt);
                     job = shared.contact(task, is_moved);
                 }
                 Job::Perform { object, started } => {
-                    drop(shared);
-                    if is_wanted {
-                        self.changed.notify_one();
-                    }
+                    self.let_go(shared);
                     let answer = self.perform(rt, object, &started);
                     shared = self.shared.lock(rt);
                     shared.answered(object, answer);
@@ -177,18 +180,15 @@ impl<R: Wait + Copy + Send, K: MailNames, D: Device> Runtime<R, K, D> {
                 }
                 Job::Rest => {
                     if let Some(end) = shared.ended() {
-                        drop(shared);
-                        self.changed.notify_all();
+                        self.tell_all(shared);
                         return end;
                     }
                     shared.add_idle();
                     shared = self.changed.wait(rt, shared);
-                    shared.take_idle();
                     job = shared.next_job();
                 }
                 Job::Memory => {
-                    drop(shared);
-                    self.changed.notify_all();
+                    self.tell_all(shared);
                     return ServeEnd::Memory;
                 }
             }

@@ -25,7 +25,8 @@ use sml_domain::ids::{ObjId, StateId};
 use std::sync::Wait;
 
 /// The board over the mailboxes that `K` names, how many sessions have not left, how many of their posts woke their
-/// objects, how many workers wait, and whether a start was refused since there were as many as may be.
+/// objects, how many workers wait and were not told of anything, and whether a start was refused since there were as
+/// many as may be.
 #[derive(Drop)]
 pub struct Shared<R: Wait + Copy + Send, K: MailNames> {
     pub board: Board<RuledMail<R, K>>,
@@ -98,9 +99,16 @@ impl<R: Wait + Copy + Send, K: MailNames> Shared<R, K> {
         self.posts = self.posts.saturating_add(1);
     }
 
-    /// Whether a worker waits, and there is something that it could do.
-    pub fn is_wanted(&self) -> bool {
-        self.idle > 0 && self.board.has_next()
+    /// Whether a worker waits, and there is something that it could do. Then it counts as told, and whoever asked is to
+    /// tell it: so none is told twice before it gets the lock.
+    pub fn is_wanted(&mut self) -> bool
+        ensures { self.new.board ≡ self.old.board }
+    {
+        if self.idle == 0 || !self.board.has_next() {
+            return false;
+        }
+        self.idle -= 1;
+        true
     }
 
     /// A session has left. Tells whether it was the last.
@@ -126,18 +134,18 @@ impl<R: Wait + Copy + Send, K: MailNames> Shared<R, K> {
         }
     }
 
-    /// A worker begins to wait.
+    /// A worker begins to wait, up to where it is told.
     pub fn add_idle(&mut self)
         ensures { self.new.board ≡ self.old.board }
     {
         self.idle = self.idle.saturating_add(1);
     }
 
-    /// A worker waits no more.
-    pub fn take_idle(&mut self)
+    /// All workers that wait are told.
+    pub fn clear_idle(&mut self)
         ensures { self.new.board ≡ self.old.board }
     {
-        self.idle = self.idle.saturating_sub(1);
+        self.idle = 0;
     }
 
     // Starts a request at an object.
