@@ -2,6 +2,8 @@
 //! "Threads".)
 #![tactic(auto)]
 
-mod playing;
+mod player;
 pub mod running;
 pub mod script;
+pub mod watch;
+pub mod workers;

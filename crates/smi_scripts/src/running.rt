@@ -6,8 +6,10 @@ ghost use Rattle.smi_run.specs.Closing.{IsRoomFor};
 ghost use Rattle.smi_scripts.specs.Rooms.{ComeBack};
 ghost use Rattle.smi_shared.specs.declared.ending.ServeEnd.TheVariants.{Limit, Quiet};
 
-use crate::playing::{Player, Seat, play};
+use crate::player::Player;
 use crate::script::Script;
+use crate::watch::{Unwatched, Watch};
+use crate::workers::Workers;
 use smi_report::report::Report;
 use smi_ruled::ruled::MailNames;
 use smi_run::errors::FinishError;
@@ -20,49 +22,58 @@ use std::sync::{Mutex, Wait};
 use std::thread;
 use std::thread::Threads;
 
-// The worse of two ends: Memory, or else Limit.
-fn worse(a: ServeEnd, b: ServeEnd) -> ServeEnd {
-    match (a, b) {
-        (ServeEnd::Memory, _) | (_, ServeEnd::Memory) => ServeEnd::Memory,
-        (ServeEnd::Limit, _) | (_, ServeEnd::Limit) => ServeEnd::Limit,
-        _ => ServeEnd::Quiet,
-    }
-}
-
-// A run ends no better than so.
-fn worsen<R: Wait>(rt: &R, end: &Mutex<ServeEnd>, other: ServeEnd) {
-    let mut end = end.lock(rt);
-    *end = worse(*end, other);
+// A session's place in a run, and where it takes memory from.
+#[derive(Drop)]
+struct Seat<K: MailNames> {
+    player: Mutex<Player<K>>,
+    place: usize,
+    alloc: Global,
 }
 
 // One worker.
 fn work<R: Wait + Copy + Send, K: MailNames, D: Device>(
     rt: &R,
     runtime: &Runtime<R, K, D>,
-    end: &Mutex<ServeEnd>,
+    workers: &Workers,
 ) {
-    worsen(rt, end, runtime.serve(rt));
+    workers.count_out(rt, runtime.serve(rt));
 }
 
-// Runs the workers, and a thread for each session. A thread that cannot be started is left out: its session leaves
-// with no line made.
+// The session in a seat does what the script at its place says, or nothing where there is none, and leaves.
+fn play<R: Wait + Copy + Send, K: MailNames, D>(
+    rt: &R,
+    runtime: &Runtime<R, K, D>,
+    seat: &Seat<K>,
+    scripts: &[Script],
+) {
+    let lines = match scripts.get(seat.place) {
+        Some(script) => script.lines(),
+        None => &[],
+    };
+    seat.player.lock(rt).play(rt, seat.alloc, runtime, lines);
+}
+
+// Runs the workers, a thread for each session, and the watcher here. A thread that cannot be started is left out: its
+// session leaves with no line made.
 fn run_all<
     'x,
     R: Threads + Wait + Copy + Send + Sync,
     K: MailNames + Send + Sync,
     D: Device + Send + Drop,
+    W: Watch,
 >(
     rt: &'x R,
     runtime: &'x Runtime<R, K, D>,
     seats: &'x [Seat<K>],
     scripts: &'x [Script],
-    end: &'x Mutex<ServeEnd>,
+    workers: &'x Workers,
+    watcher: &mut W,
 ) {
-    let workers = runtime.config().workers;
+    let count = runtime.config().workers;
     thread::scope(thread::scope_env(), rt, |scope| {
-        for _ in 0..workers {
-            if scope.spawn(move || work(rt, runtime, end)).is_err() {
-                worsen(rt, end, ServeEnd::Memory);
+        for _ in 0..count {
+            if scope.spawn(move || work(rt, runtime, workers)).is_err() {
+                workers.count_out(rt, ServeEnd::Memory);
             }
         }
         for seat in seats {
@@ -70,10 +81,11 @@ fn run_all<
                 .spawn(move || play(rt, runtime, seat, scripts))
                 .is_err()
             {
-                worsen(rt, end, ServeEnd::Memory);
+                workers.worsen(rt, ServeEnd::Memory);
                 play(rt, runtime, seat, &[]);
             }
         }
+        watcher.watch(rt, runtime, workers);
     });
 }
 
@@ -110,15 +122,9 @@ fn seat_all<K: MailNames>(
     ensures { vec_len result ≡ vec_len seats + vec_len sessions }
 {
     for session in sessions {
-        let player = Player {
-            session: Some(session),
-            closed: None,
-            refused: 0,
-            is_short: false,
-        };
         let place = seats.len();
         seats.push_reserved(Seat {
-            player: Mutex::new(player),
+            player: Mutex::new(Player::new(session)),
             place,
             alloc,
         });
@@ -126,15 +132,19 @@ fn seat_all<K: MailNames>(
     seats
 }
 
-// The sessions that have left, how many lines of each were refused, and whether one was for want of memory.
-fn clear_all<K: MailNames>(
+// The sessions, all of which have left now, how many lines of each were refused, and whether one was for want of
+// memory.
+fn clear_all<R: Wait + Copy + Send, K: MailNames, D>(
+    rt: &R,
+    runtime: &Runtime<R, K, D>,
     seats: Vec<Seat<K>>,
     mut closed: Vec<Closed<K>>,
     mut refused: Vec<u64>,
 ) -> (Vec<Closed<K>>, Vec<u64>, bool)
     requires closed { vec_len closed + vec_len seats ≤ vec_capacity closed }
     requires refused { vec_len refused + vec_len seats ≤ vec_capacity refused }
-    ensures { vec_len result.1 ≡ vec_len refused + vec_len seats }
+    ensures closed { vec_len result.0 ≡ vec_len closed + vec_len seats }
+    ensures refused { vec_len result.1 ≡ vec_len refused + vec_len seats }
 {
     let mut is_short = false;
     for seat in seats {
@@ -143,15 +153,8 @@ fn clear_all<K: MailNames>(
             place: _,
             alloc: _,
         } = seat;
-        let Player {
-            session: _,
-            closed: one,
-            refused: count,
-            is_short: is_one_short,
-        } = player.into_inner();
-        if let Some(one) = one {
-            closed.push_reserved(one);
-        }
+        let (one, count, is_one_short) = player.into_inner().close(rt, runtime);
+        closed.push_reserved(one);
         refused.push_reserved(count);
         is_short |= is_one_short;
     }
@@ -185,7 +188,7 @@ fn borne_out<D: Drop, K: MailNames>(
 /// could not be started is left out; a session whose thread could not be started leaves with no line made.
 ///
 /// Where the first memory is refused nothing has run, and the sessions come back. After that an error is one of
-/// `Runtime::finish`, and the sessions come back as those that have left.
+/// `Runtime::finish`, and the sessions come back as those that have left, as many of them.
 pub fn run_scripts<
     R: Threads + Wait + Copy + Send + Sync,
     K: MailNames + Send + Sync,
@@ -214,6 +217,41 @@ pub fn run_scripts<
     ensures runtime { IfErr result (λ r. r.1 ≡ runtime) }
     ensures back { IfErr result (λ r. ComeBack sessions.items r.2.items r.3.items) }
 {
+    run_watched(rt, alloc, runtime, sessions, scripts, &mut Unwatched)
+}
+
+/// Runs scripts as `run_scripts` does, with one who watches: `watch` is called once, in this thread, after the others
+/// were started, and the run ends only after it has returned.
+pub fn run_watched<
+    R: Threads + Wait + Copy + Send + Sync,
+    K: MailNames + Send + Sync,
+    D: Device + Send + Drop,
+    W: Watch,
+>(
+    rt: &R,
+    alloc: Global,
+    runtime: Runtime<R, K, D>,
+    sessions: Vec<Session<K>>,
+    scripts: &[Script],
+    watch: &mut W,
+) -> Result<
+    (ServeEnd, Vec<u64>, Report<D, K>),
+    (
+        FinishError,
+        Runtime<R, K, D>,
+        Vec<Session<K>>,
+        Vec<Closed<K>>,
+    ),
+>
+    requires { length scripts.now ≡ length sessions.items }
+    ensures quiet { IfOk result (λ r. r.0 ≡ Quiet → IsAtRest K.names.domain r.2.journal
+        × IsLeftAtStopped K.names.domain r.2.journal r.2.drained) }
+    ensures limit { IfOk result (λ r. r.0 ≡ Limit → IsAtRest K.names.domain r.2.journal
+        × (length (all_starts r.2.journal) ≡ runtime.max_starts)) }
+    ensures counts { IfOk result (λ r. length r.1.items ≡ length sessions.items) }
+    ensures runtime { IfErr result (λ r. r.1 ≡ runtime) }
+    ensures back { IfErr result (λ r. ComeBack sessions.items r.2.items r.3.items) }
+{
     let Ok(room) = grow::<K>(alloc, sessions.len()) else {
         return Err((FinishError::Memory, runtime, sessions, Vec::new(alloc)));
     };
@@ -223,16 +261,16 @@ pub fn run_scripts<
         refused,
     } = room;
     let seats = seat_all(alloc, sessions, seats);
-    let end = Mutex::new(ServeEnd::Quiet);
-    run_all(rt, &runtime, &seats, scripts, &end);
+    let workers = Workers::new(runtime.config().workers);
+    run_all(rt, &runtime, &seats, scripts, &workers, watch);
     let max_starts = runtime.config().max_starts;
-    let (closed, refused, is_short) = clear_all(seats, closed, refused);
+    let (closed, refused, is_short) = clear_all(rt, &runtime, seats, closed, refused);
     if is_short {
-        worsen(rt, &end, ServeEnd::Memory);
+        workers.worsen(rt, ServeEnd::Memory);
     }
     match runtime.finish(alloc, closed) {
         Ok(report) => {
-            let end = borne_out(&report, end.into_inner(), max_starts);
+            let end = borne_out(&report, workers.into_end(), max_starts);
             Ok((end, refused, report))
         }
         Err((error, runtime, closed)) => Err((error, runtime, Vec::new(alloc), closed)),
