@@ -5,6 +5,7 @@ use smi_plan::plan::read_script;
 use smi_scripts::script::{Line, Script};
 use sml_domain::domain::Domain;
 use std::alloc::Global;
+use std::sync::Arc;
 use std::test::*;
 
 /// What a line of a session is, as a row writes it: an object, and the action that is asked for, or none where the
@@ -93,5 +94,43 @@ fn scripts_of_sessions(rt: HostRuntime) {
     };
     for (text, rows) in &ROWS {
         assert!(rt; asks(alloc, &domain, text, rows));
+    }
+}
+
+// How many lines share the name of the object of the first line, that one counted, or 0 where there is none.
+fn sharers(alloc: Global, domain: &Domain, text: &[u8]) -> usize {
+    let Ok(plan) = read_script(alloc, domain, text) else {
+        return 0;
+    };
+    let (scripts, _answers) = plan.into_parts();
+    let Some(script) = scripts.first() else {
+        return 0;
+    };
+    match script.lines().first() {
+        Some(Line::Post { object, .. }) => Arc::strong_count(object),
+        Some(Line::Kill { object }) => Arc::strong_count(object),
+        None => 0,
+    }
+}
+
+const SHARED: [(&[u8], usize); 4] = [
+    (b"", 0),
+    (b"kill RUN @1\nkill HV1 @1", 1),
+    (
+        b"kill NOBODY @1\nrequest @2 nobody CONFIGURE\nkill NOBODY @1",
+        3,
+    ),
+    (b"request @1 RUN RUN\nkill HV1 @1\nkill HV2 @2", 2),
+];
+
+// A name that stands in several lines is kept once.
+#[test]
+fn shared_names(rt: HostRuntime) {
+    let alloc: Global = rt.alloc();
+    let Some(domain) = supplies(alloc) else {
+        return;
+    };
+    for (text, count) in &SHARED {
+        assert!(rt; sharers(alloc, &domain, text) == *count);
     }
 }

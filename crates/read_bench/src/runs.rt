@@ -136,8 +136,8 @@ fn supplies_of<R: Clock + Copy + Drop>(
 fn first_script(alloc: Global) -> Result<Script> {
     let mut lines = Vec::new(alloc);
     lines.push(Line::Post {
-        object: Name::from_word(b"N0"),
-        action: Name::from_word(b"CONFIGURE"),
+        object: Arc::new(alloc, Name::from_word(b"N0"))?,
+        action: Arc::new(alloc, Name::from_word(b"CONFIGURE"))?,
         given: Arguments::new(Vec::new(alloc)),
     })?;
     Ok(Script::new(lines))

@@ -16,6 +16,7 @@ use smi_world::step::Arguments;
 use sml_checkable::domain_of;
 use sml_domain::domain::Domain;
 use sml_domain::ids::{ActionId, ObjId};
+use sml_tree::name::Name;
 use std::alloc::Global;
 use std::marker::Brand;
 use std::sync::{Arc, Wait};
@@ -44,20 +45,24 @@ pub struct Run {
     pub wanted: Option<Wanted>,
 }
 
+fn shared(alloc: Global, name: Name) -> Option<Arc<Name>> {
+    Arc::new(alloc, name).ok()
+}
+
 // A line. What no object is named is the name of an action.
 fn line_of(alloc: Global, domain: &Domain, act: Act) -> Option<Line> {
     let given = Arguments::new(Vec::new(alloc));
     match act {
         Act::Post(object, action) => Some(Line::Post {
-            object: domain.object_name(ObjId::new(object))?,
-            action: domain.action_name(ActionId::new(action))?,
+            object: shared(alloc, domain.object_name(ObjId::new(object))?)?,
+            action: shared(alloc, domain.action_name(ActionId::new(action))?)?,
             given,
         }),
         Act::Kill(object) => Some(Line::Kill {
-            object: domain.object_name(ObjId::new(object))?,
+            object: shared(alloc, domain.object_name(ObjId::new(object))?)?,
         }),
         Act::Stray => Some(Line::Kill {
-            object: domain.action_name(ActionId::new(0))?,
+            object: shared(alloc, domain.action_name(ActionId::new(0))?)?,
         }),
     }
 }

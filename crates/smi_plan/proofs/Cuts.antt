@@ -13,7 +13,7 @@ use Rattle.smi_scripts.specs.declared.script.Line.{Line}
 use Rattle.smi_scripts.specs.declared.script.Script.{Script}
 use Rattle.smi_plan.specs.declared.device.ScriptDevice.{ScriptDevice}
 use Rattle.smi_plan.specs.Devices.{devices_from}
-use Rattle.smi_plan.specs.Plans.{lines_at, lines_of_script, planned_at, script_lines}
+use Rattle.smi_plan.specs.Plans.{deeds_of, deeds_at, deeds_of_script, planned_at, script_lines}
 
 -- the second of a pair
 abbrev pub second : ℕ × ScriptDevice → ScriptDevice
@@ -68,8 +68,7 @@ module _ (d : Domain) (seen : List (ℕ × ScriptDevice)) (o : ℕ) (x : ScriptD
 
 -- scripts of lists hold what the lists hold
 pub planned : (scripts : List Script) (lists : List (Vec Line Global))
-    → map lines_of_script scripts ≡ map (λ (v : Vec Line Global). v.items) lists → (i : ℕ)
-    → planned_at scripts i ≡ lines_at lists i
+    → map deeds_of_script scripts ≡ map deeds_of lists → (i : ℕ) → planned_at scripts i ≡ deeds_at lists i
 planned [] [] e i = refl
 planned [] (v ∷ vs) e i = absurd (omega (arith, ap length e))
 planned (s ∷ ss) [] e i = absurd (omega (arith, ap length e))
@@ -81,8 +80,8 @@ same_count : {A B C : Type 0} (f : A → C) (g : B → C) (xs : List A) (ys : Li
 same_count f g xs ys e = sym (length-map xs f) ∙ ap length e ∙ length-map ys g
 
 pub planned_count : (scripts : List Script) (lists : List (Vec Line Global))
-    → map lines_of_script scripts ≡ map (λ (v : Vec Line Global). v.items) lists → length scripts ≡ length lists
-planned_count scripts lists e = same_count lines_of_script (λ (v : Vec Line Global). v.items) scripts lists e
+    → map deeds_of_script scripts ≡ map deeds_of lists → length scripts ≡ length lists
+planned_count scripts lists e = same_count deeds_of_script deeds_of scripts lists e
 
 -- the first line of a text ends at its first line feed
 pub cut : (text : List ℕ) (end : ℕ) → Some end ≡ cond (ltb (position_or_len (λ b. b == 10) text) (length text))

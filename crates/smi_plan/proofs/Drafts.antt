@@ -1,26 +1,27 @@
 -- Drafts that take one line more.
-use Rattle.std.proofs.Common.{◌≡◌, ◌∙◌, ◌<◌, ◌==◌, ◌&&◌, ℕ, zero, suc, Bool, cond, List, [], ◌∷◌, ◌++◌, length, set}
-use Rattle.std.proofs.Common.{Option, Some, None, refl, sym, ap, arith, ◌+◌, ⊎_elim, if◌then◌else◌}
+use Rattle.std.proofs.Common.{◌≡◌, ◌∙◌, ◌<◌, ◌==◌, ◌&&◌, ℕ, zero, suc, Bool, cond, List, [], ◌∷◌, ◌++◌, length, map}
+use Rattle.std.proofs.Common.{set, Option, Some, None, refl, sym, ap, arith, ◌+◌, ⊎_elim, if◌then◌else◌}
 use Rattle.std.specs.Prelude.{Vec, slice_get, max}
 use Rattle.std.specs.Option.{option_map_or}
 use Rattle.std.specs.Global.{Global}
 use Rattle.std.proofs.lemmas.Bool.{cases_eq, eq-eqb, ne_eqb}
 use Rattle.std.proofs.lemmas.Option.{slice_get_within}
-use Rattle.std.proofs.lemmas.List.{flat_map_more, append-nil}
+use Rattle.std.proofs.lemmas.List.{flat_map_more, append-nil, map-append}
 use Rattle.std.proofs.lemmas.List.Sums.{fold-append}
 use Rattle.sml_domain.specs.Domain.{Domain}
 use Rattle.smi_scripts.specs.declared.script.Line.{Line}
+use Rattle.smi_plan.specs.declared.lines.Deed.{Deed}
 use Rattle.smi_plan.specs.declared.lines.Said.{Said}
 use Rattle.smi_plan.specs.declared.lines.Said.TheVariants as said
 use Rattle.smi_plan.specs.declared.device.ScriptDevice.{ScriptDevice}
 use Rattle.smi_plan.specs.Devices.{answer_to}
-use Rattle.smi_plan.specs.Plans.{HoldSessions, HoldAnswers, answer_at, lines_at, part_of, parts_of, more_sessions}
-use Rattle.smi_plan.specs.Plans.{sessions_in, later_answer, last_answer, named_session}
+use Rattle.smi_plan.specs.Plans.{HoldSessions, HoldAnswers, answer_at, deed_of, deeds_of, deeds_at, part_of, parts_of}
+use Rattle.smi_plan.specs.Plans.{more_sessions, sessions_in, later_answer, last_answer, named_session}
 
 -- an empty list more holds nothing
 pub more_lists : (lists : List (Vec Line Global)) (v : Vec Line Global) (i : ℕ) → v.items ≡ []
-    → lines_at (lists ++ v ∷ []) i ≡ lines_at lists i
-more_lists [] v zero e = e
+    → deeds_at (lists ++ v ∷ []) i ≡ deeds_at lists i
+more_lists [] v zero e = ap (map deed_of) e
 more_lists [] v (suc i) e = refl
 more_lists (w ∷ ws) v zero e = refl
 more_lists (w ∷ ws) v (suc i) e = more_lists ws v i e
@@ -62,14 +63,14 @@ module _ (saids : List Said) (x : Said) where
   }
 
 -- a session does one thing more
-pub session_asks : (saids : List Said) (k : ℕ) (x : Line) (lists lists2 : List (Vec Line Global))
-    → length lists2 ≡ max (length lists) k
-    → ((i : ℕ) → lines_at lists2 i ≡ lines_at lists i ++ (if k == suc i then x ∷ [] else []))
+pub session_asks : (saids : List Said) (k : ℕ) (x : Deed) (line : Line) (lists lists2 : List (Vec Line Global))
+    → deed_of line ≡ x → length lists2 ≡ max (length lists) k
+    → ((i : ℕ) → deeds_at lists2 i ≡ deeds_at lists i ++ (if k == suc i then deed_of line ∷ [] else []))
     → HoldSessions saids lists → HoldSessions (saids ++ said.Asks k x ∷ []) lists2
-session_asks saids k x lists lists2 long each h = record {
+session_asks saids k x line lists lists2 same long each h = record {
   count = long ∙ ap (λ n. max n k) h.count ∙ sym (sessions_more saids (said.Asks k x));
-  parts = λ i. each i ∙ ap (λ l. l ++ part_of (suc i) (said.Asks k x)) (h.parts i)
-      ∙ sym (parts_more saids (said.Asks k x) (suc i));
+  parts = λ i. each i ∙ ap (λ (y : Deed). deeds_at lists i ++ (if k == suc i then y ∷ [] else [])) same
+      ∙ ap (λ l. l ++ part_of (suc i) (said.Asks k x)) (h.parts i) ∙ sym (parts_more saids (said.Asks k x) (suc i));
 }
 
 -- a device answers one thing more
@@ -84,13 +85,13 @@ device_answers d saids p b s xs ys long each h = record {
 }
 
 set_same : (lists : List (Vec Line Global)) (p : ℕ) (v : Vec Line Global) → p < length lists
-    → lines_at (set lists p v) p ≡ v.items
+    → deeds_at (set lists p v) p ≡ deeds_of v
 set_same [] p v h = absurd (omega (arith, h))
 set_same (w ∷ ws) zero v h = refl
 set_same (w ∷ ws) (suc p) v h = set_same ws p v (omega (arith, h))
 
 set_other : (lists : List (Vec Line Global)) (p i : ℕ) (v : Vec Line Global) → (p ≡ i → ⊥)
-    → lines_at (set lists p v) i ≡ lines_at lists i
+    → deeds_at (set lists p v) i ≡ deeds_at lists i
 set_other [] p i v h = refl
 set_other (w ∷ ws) zero zero v h = absurd (h refl)
 set_other (w ∷ ws) zero (suc i) v h = refl
@@ -100,15 +101,16 @@ set_other (w ∷ ws) (suc p) (suc i) v h = set_other ws p i v (λ e. h (ap suc e
 -- one list is longer by one, where it stands for a session
 pub part_set : (lists : List (Vec Line Global)) (k p i : ℕ) (w v : Vec Line Global) (x : Line) → k ≡ p + 1
     → slice_get lists p ≡ Some w → v.items ≡ w.items ++ x ∷ []
-    → lines_at (set lists p v) i ≡ lines_at lists i ++ (if k == suc i then x ∷ [] else [])
+    → deeds_at (set lists p v) i ≡ deeds_at lists i ++ (if k == suc i then deed_of x ∷ [] else [])
 part_set lists k p i w v x place at longer = ⊎_elim
     (λ (e : k ≡ suc i).
     let same : p ≡ i = omega (arith, place, e) in
-    ap (lines_at (set lists p v)) (sym same) ∙ set_same lists p v (slice_get_within lists p w at) ∙ longer
-    ∙ ap (λ (o : Option (Vec Line Global)). option_map_or (λ (u : Vec Line Global). u.items) o [] ++ x ∷ [])
+    ap (deeds_at (set lists p v)) (sym same) ∙ set_same lists p v (slice_get_within lists p w at)
+    ∙ ap (map deed_of) longer ∙ map-append deed_of w.items (x ∷ [])
+    ∙ ap (λ (o : Option (Vec Line Global)). option_map_or deeds_of o [] ++ deed_of x ∷ [])
     (sym at ∙ ap (slice_get lists) same)
-    ∙ ap (λ (b : Bool). lines_at lists i ++ cond b (x ∷ []) []) (sym (eq-eqb k (suc i) e)))
+    ∙ ap (λ (b : Bool). deeds_at lists i ++ cond b (deed_of x ∷ []) []) (sym (eq-eqb k (suc i) e)))
     (λ apart.
-    set_other lists p i v (λ e. apart (omega (arith, place, e))) ∙ sym (append-nil (lines_at lists i))
-    ∙ ap (λ (b : Bool). lines_at lists i ++ cond b (x ∷ []) []) (sym (ne_eqb k (suc i) apart)))
+    set_other lists p i v (λ e. apart (omega (arith, place, e))) ∙ sym (append-nil (deeds_at lists i))
+    ∙ ap (λ (b : Bool). deeds_at lists i ++ cond b (deed_of x ∷ []) []) (sym (ne_eqb k (suc i) apart)))
     (cases_eq k (suc i))

@@ -1,12 +1,16 @@
 -- What a script plans.
-use Rattle.std.specs.Prelude.{◌≡◌, ◌==◌, ◌&&◌, ◌<◌, ◌+◌, ℕ, suc, List, [], ◌∷◌, ◌++◌, length, fold, flat_map, Option}
-use Rattle.std.specs.Prelude.{Some, None, slice_get, max, Vec, if◌then◌else◌}
+use Rattle.std.specs.Prelude.{◌≡◌, ◌==◌, ◌&&◌, ◌<◌, ◌+◌, ℕ, suc, List, [], ◌∷◌, ◌++◌, length, map, fold, flat_map}
+use Rattle.std.specs.Prelude.{Option, Some, None, slice_get, max, Vec, if◌then◌else◌}
 use Rattle.std.specs.List.{slice_split}
 use Rattle.std.specs.Option.{option_map_or, option_and_then}
+use Rattle.std.specs.Arc.{arc_value}
 use Rattle.std.specs.Global.{Global}
 use Rattle.sml_domain.specs.Domain.{Domain}
 use Rattle.smi_scripts.specs.declared.script.Line.{Line}
+use Rattle.smi_scripts.specs.declared.script.Line.TheVariants as line
 use Rattle.smi_scripts.specs.declared.script.Script.{Script}
+use Rattle.smi_plan.specs.declared.lines.Deed.{Deed}
+use Rattle.smi_plan.specs.declared.lines.Deed.TheVariants as deed
 use Rattle.smi_plan.specs.declared.lines.Said.{Said}
 use Rattle.smi_plan.specs.declared.lines.Said.TheVariants as said
 use Rattle.smi_plan.specs.declared.device.ScriptDevice.{ScriptDevice}
@@ -41,13 +45,13 @@ pub record IsFirstBad (d : Domain) (text : List ℕ) (n : ℕ) : Type 0 where
 -- ---- what lines say together
 
 -- what a line says for a session: one thing that it does, or nothing
-abbrev pub part_of : ℕ → Said → List Line
+abbrev pub part_of : ℕ → Said → List Deed
 part_of k said.Nothing = []
 part_of k (said.Asks j x) = if j == k then x ∷ [] else []
 part_of k (said.Answers o a s) = []
 
 -- what a session does, in the order of the lines
-abbrev pub parts_of : ℕ → List Said → List Line
+abbrev pub parts_of : ℕ → List Said → List Deed
 parts_of k saids = flat_map (part_of k) saids
 
 -- the session that a line names, or 0
@@ -76,9 +80,18 @@ last_answer o a saids = fold (later_answer o a) None saids
 
 -- ---- drafts and plans
 
--- what the lists of sessions hold at a place
-abbrev pub lines_at : List (Vec Line Global) → ℕ → List Line
-lines_at lists i = option_map_or (λ (v : Vec Line Global). v.items) (slice_get lists i) []
+-- what a line does, whoever shares its names
+abbrev pub deed_of : Line → Deed
+deed_of (line.Post o a passed) = deed.Post (arc_value o) (arc_value a) passed
+deed_of (line.Kill o) = deed.Kill (arc_value o)
+
+-- what a list of lines does, in order
+abbrev pub deeds_of : Vec Line Global → List Deed
+deeds_of v = map deed_of v.items
+
+-- what the lists of sessions do at a place
+abbrev pub deeds_at : List (Vec Line Global) → ℕ → List Deed
+deeds_at lists i = option_map_or deeds_of (slice_get lists i) []
 
 -- what a list of devices, one for each object, answers for an object to an action
 abbrev pub answer_at : List ScriptDevice → ℕ → ℕ → Option ℕ
@@ -87,7 +100,7 @@ answer_at devices o a = option_and_then (λ x. answer_to x a) (slice_get devices
 -- lists of sessions hold what lines say
 pub record HoldSessions (saids : List Said) (lists : List (Vec Line Global)) : Type 0 where
   pub count : length lists ≡ sessions_in saids
-  pub parts : (i : ℕ) → lines_at lists i ≡ parts_of (suc i) saids
+  pub parts : (i : ℕ) → deeds_at lists i ≡ parts_of (suc i) saids
 
 -- devices, one for each object, answer what lines say
 pub record HoldAnswers (d : Domain) (saids : List Said) (devices : List ScriptDevice) : Type 0 where
@@ -110,13 +123,13 @@ pub record TakesLine (d : Domain) (line : List ℕ) (lists lists2 : List (Vec Li
   pub sessions : (saids : List Said) → HoldSessions saids lists → HoldSessions (saids ++ said ∷ []) lists2
   pub answers : (saids : List Said) → HoldAnswers d saids devices → HoldAnswers d (saids ++ said ∷ []) devices2
 
--- the lines of a script
-abbrev pub lines_of_script : Script → List Line
-lines_of_script s = s.lines.items
+-- what a script does, in order
+abbrev pub deeds_of_script : Script → List Deed
+deeds_of_script s = deeds_of s.lines
 
--- what the scripts of a plan hold at a place
-abbrev pub planned_at : List Script → ℕ → List Line
-planned_at scripts i = option_map_or lines_of_script (slice_get scripts i) []
+-- what the scripts of a plan do at a place
+abbrev pub planned_at : List Script → ℕ → List Deed
+planned_at scripts i = option_map_or deeds_of_script (slice_get scripts i) []
 
 -- a plan of what lines say: a script for each session, and a device for each object
 pub record IsPlanOf (d : Domain) (saids : List Said) (p : Plan) : Type 0 where

@@ -11,7 +11,7 @@ use Rattle.smi_world.specs.declared.step.Step.{Step}
 use Rattle.smi_world.specs.declared.step.Step.TheVariants as step
 use Rattle.smi_lines.specs.declared.line.LineError.{LineError}
 use Rattle.smi_lines.specs.Line.{name_in, asked, lexemes, is_line}
-use Rattle.smi_scripts.specs.declared.script.Line.TheVariants as line
+use Rattle.smi_plan.specs.declared.lines.Deed.TheVariants as deed
 use Rattle.smi_plan.specs.declared.lines.Said.{Said}
 use Rattle.smi_plan.specs.declared.lines.Said.TheVariants as said
 
@@ -19,12 +19,12 @@ use Rattle.smi_plan.specs.declared.lines.Said.TheVariants as said
 
 -- what a step says in a script: a request or a kill of a session says something there, other steps do not
 abbrev pub said_by : Step → Option Said
-said_by (step.Request k o a passed) = Some (said.Asks k (line.Post o a passed))
+said_by (step.Request k o a passed) = Some (said.Asks k (deed.Post o a passed))
 said_by (step.Start o) = None
 said_by (step.Go o) = None
 said_by (step.Answer o s) = None
 said_by (step.Fault o) = None
-said_by (step.Kill o k) = Some (said.Asks k (line.Kill o))
+said_by (step.Kill o k) = Some (said.Asks k (deed.Kill o))
 
 -- ---- lines of devices
 

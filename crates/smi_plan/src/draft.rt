@@ -3,10 +3,12 @@ ghost use Rattle.std.specs.Prelude.{◌≡◌, ◌==◌, ◌&&◌, ◌<◌, ◌�
 ghost use Rattle.std.specs.Prelude.{length, max, suc, if◌then◌else◌};
 ghost use Rattle.smi_plan.specs.declared.lines.Said.{Said as Told};
 ghost use Rattle.smi_plan.specs.Says.{IsSaidOf};
-ghost use Rattle.smi_plan.specs.Plans.{HoldSessions, HoldAnswers, answer_at, lines_at};
+ghost use Rattle.smi_plan.specs.Plans.{HoldSessions, HoldAnswers, answer_at, deed_of, deeds_at};
 
 use crate::device::ScriptDevice;
 use crate::lines::Said;
+use crate::names::Names;
+use crate::room::Room;
 use smi_entry::session::SessionId;
 use smi_scripts::script::Line;
 use sml_domain::domain::Domain;
@@ -18,15 +20,22 @@ use std::alloc::{AllocError, Global};
 pub(crate) struct Draft {
     pub(crate) sessions: Vec<Vec<Line>>,
     pub(crate) devices: Vec<ScriptDevice>,
+    pub(crate) names: Names,
+    pub(crate) room: Room,
 }
 
-// There are so many sessions from now on.
-fn reach(alloc: Global, sessions: &mut Vec<Vec<Line>>, count: usize) -> Result<(), AllocError>
+// There are this many sessions from now on.
+fn reach(
+    alloc: Global,
+    room: &Room,
+    sessions: &mut Vec<Vec<Line>>,
+    count: usize,
+) -> Result<(), AllocError>
     ensures count { OnOk result (length sessions.new.items ≡ max (length sessions.old.items) count) }
-    ensures same { OnOk result ((i : ℕ) → lines_at sessions.new.items i ≡ lines_at sessions.old.items i) }
+    ensures same { OnOk result ((i : ℕ) → deeds_at sessions.new.items i ≡ deeds_at sessions.old.items i) }
 {
-    for _i in sessions.len()..count {
-        sessions.push(Vec::new(alloc))?;
+    for i in sessions.len()..count {
+        sessions.push(Vec::with_capacity(alloc, room.at(i))?)?;
     }
     Ok(())
 }
@@ -34,16 +43,17 @@ fn reach(alloc: Global, sessions: &mut Vec<Vec<Line>>, count: usize) -> Result<(
 // A session does one thing more.
 fn add_part(
     alloc: Global,
+    room: &Room,
     sessions: &mut Vec<Vec<Line>>,
     session: SessionId,
     line: Line,
 ) -> Result<(), AllocError>
     ensures count { OnOk result (length sessions.new.items ≡ max (length sessions.old.items) session) }
-    ensures parts { OnOk result ((i : ℕ) → lines_at sessions.new.items i
-        ≡ lines_at sessions.old.items i ++ (if session == suc i then line ∷ [] else [])) }
+    ensures parts { OnOk result ((i : ℕ) → deeds_at sessions.new.items i
+        ≡ deeds_at sessions.old.items i ++ (if session == suc i then deed_of line ∷ [] else [])) }
 {
     let count = usize::from(session.get());
-    reach(alloc, sessions, count)?;
+    reach(alloc, room, sessions, count)?;
     sessions[count - 1].push(line)?;
     Ok(())
 }
@@ -75,23 +85,28 @@ fn new_devices(alloc: Global, domain: &Domain) -> Result<Vec<ScriptDevice>, Allo
 }
 
 // One session, that does nothing.
-fn first_session(alloc: Global) -> Result<Vec<Vec<Line>>, AllocError>
+fn first_session(alloc: Global, room: &Room) -> Result<Vec<Vec<Line>>, AllocError>
     ensures { IfOk result (λ v. HoldSessions [] v.items) }
 {
     let mut sessions = Vec::new(alloc);
-    sessions.push(Vec::new(alloc))?;
+    sessions.push(Vec::with_capacity(alloc, room.at(0))?)?;
     Ok(sessions)
 }
 
 impl Draft {
-    // The draft of no line.
-    pub(crate) fn new(alloc: Global, domain: &Domain) -> Result<Draft, AllocError>
+    // The draft of no line, with room for what sessions will do.
+    pub(crate) fn new(alloc: Global, domain: &Domain, room: Room) -> Result<Draft, AllocError>
         ensures sessions { IfOk result (λ x. HoldSessions [] x.sessions.items) }
         ensures devices { IfOk result (λ x. HoldAnswers domain.now [] x.devices.items) }
     {
-        let sessions = first_session(alloc)?;
+        let sessions = first_session(alloc, &room)?;
         let devices = new_devices(alloc, domain)?;
-        Ok(Draft { sessions, devices })
+        Ok(Draft {
+            sessions,
+            devices,
+            names: Names::new(alloc),
+            room,
+        })
     }
 
     // Takes what one line more says.
@@ -110,7 +125,10 @@ impl Draft {
     {
         match said {
             Said::Nothing => Ok(()),
-            Said::Asks { session, line } => add_part(alloc, &mut self.sessions, session, line),
+            Said::Asks { session, deed } => {
+                let line = self.names.line(alloc, deed)?;
+                add_part(alloc, &self.room, &mut self.sessions, session, line)
+            }
             Said::Answers {
                 object,
                 action,

@@ -7,4 +7,6 @@ pub mod device;
 mod draft;
 pub mod error;
 pub mod lines;
+mod names;
 pub mod plan;
+mod room;

@@ -14,8 +14,7 @@ ghost use Rattle.smi_plan.specs.Says.{LineSays, DeviceLineSays, IsSaidOf};
 
 use smi_entry::session::SessionId;
 use smi_lines::line::{LONGEST_LINE, LineError, read_step};
-use smi_scripts::script::Line;
-use smi_world::step::Step;
+use smi_world::step::{Arguments, Step};
 use sml_domain::domain::Domain;
 use sml_domain::ids::{ActionId, ObjId, StateId};
 use sml_text::laws::laws_of_tokens;
@@ -25,6 +24,19 @@ use sml_tree::name::Name;
 use sml_tree::words::is_reserved;
 use std::alloc::{AllocError, Global};
 
+/// What a session does, as a line of a script says it: each name at its full length.
+#[derive(Drop)]
+pub enum Deed {
+    /// It posts a request.
+    Post {
+        object: Name,
+        action: Name,
+        given: Arguments,
+    },
+    /// It kills an object.
+    Kill(Name),
+}
+
 /// What a line of a script says.
 #[derive(Drop)]
 pub enum Said {
@@ -33,7 +45,7 @@ pub enum Said {
     /// A session does something.
     Asks {
         session: SessionId,
-        line: Line,
+        deed: Deed,
     },
     /// The device of an object answers an action by a state.
     Answers {
@@ -152,7 +164,7 @@ fn said_by(step: Step) -> Option<Said>
             args,
         } => Some(Said::Asks {
             session: sender,
-            line: Line::Post {
+            deed: Deed::Post {
                 object,
                 action,
                 given: args,
@@ -160,7 +172,7 @@ fn said_by(step: Step) -> Option<Said>
         }),
         Step::Kill { object, session } => Some(Said::Asks {
             session,
-            line: Line::Kill { object },
+            deed: Deed::Kill(object),
         }),
         Step::Start(_) | Step::Go(_) | Step::Answer { .. } | Step::Fault(_) => None,
     }

@@ -1,17 +1,16 @@
 //! Reading a script.
 ghost use Rattle.std.specs.Prelude.{◌≡◌, ◌<◌, ◌≤◌, ◌∷◌, ℕ, Err, IfOk, MatchBool, MatchOption, None, OnOk};
-ghost use Rattle.std.specs.Prelude.{Vec as Vector, [], length, map};
-ghost use Rattle.std.specs.Global.{Global as Memory};
-ghost use Rattle.smi_scripts.specs.declared.script.Line.{Line as Told};
+ghost use Rattle.std.specs.Prelude.{[], length, map};
 ghost use Rattle.smi_plan.specs.Says.{LineSays};
 ghost use Rattle.smi_plan.specs.Plans.{HoldAnswers, HoldSessions, HoldsText, IsPlanOfText, IsFirstBad, TakesLine};
-ghost use Rattle.smi_plan.specs.Plans.{lines_of_script, script_lines};
+ghost use Rattle.smi_plan.specs.Plans.{deeds_of, deeds_of_script, script_lines};
 ghost use Rattle.smi_plan.specs.declared.plan.TheConstants.{LONGEST_SCRIPT};
 
 use crate::answers::Answers;
 use crate::draft::Draft;
 use crate::error::ScriptError;
 use crate::lines::read_line;
+use crate::room::Room;
 use smi_scripts::script::{Line, Script};
 use sml_domain::domain::Domain;
 use std::alloc::{AllocError, Global};
@@ -104,8 +103,7 @@ fn read_lines(
 
 // The scripts of what sessions do.
 fn scripts_of(alloc: Global, sessions: Vec<Vec<Line>>) -> Result<Vec<Script>, AllocError>
-    ensures { IfOk result (λ v. map lines_of_script v.items ≡ map (λ
-        (x : Vector Told Memory). x.items) sessions.items) }
+    ensures { IfOk result (λ v. map deeds_of_script v.items ≡ map deeds_of sessions.items) }
 {
     let mut scripts = Vec::new(alloc);
     for lines in sessions {
@@ -117,10 +115,15 @@ fn scripts_of(alloc: Global, sessions: Vec<Vec<Line>>) -> Result<Vec<Script>, Al
 // The plan of a draft.
 fn plan_of(alloc: Global, draft: Draft) -> Result<Plan, AllocError>
     ensures scripts { IfOk result (λ p.
-        map lines_of_script p.scripts.items ≡ map (λ (x : Vector Told Memory). x.items) draft.sessions.items) }
+        map deeds_of_script p.scripts.items ≡ map deeds_of draft.sessions.items) }
     ensures devices { IfOk result (λ p. p.answers.devices ≡ draft.devices) }
 {
-    let Draft { sessions, devices } = draft;
+    let Draft {
+        sessions,
+        devices,
+        names: _,
+        room: _,
+    } = draft;
     let scripts = scripts_of(alloc, sessions)?;
     Ok(Plan {
         scripts,
@@ -133,11 +136,12 @@ fn plan_of(alloc: Global, draft: Draft) -> Result<Plan, AllocError>
 /// The time grows with the length of the text, and in a line of a device with the count of objects too.
 ///
 /// Memory is taken for one state for each pair of an object and an action that a line of a device names, and for what
-/// the sessions do: on a machine of 64 bits 176 bytes for each of their lines, in which both names stand at their full
-/// length, and 88 for each argument, four arguments at least where there is one. The list of a session's lines takes up
-/// to three times that while it grows. So lines as `request @1 RUN CONFIGURE` take 7 to 21 times their own bytes, and the
-/// shortest that there are, of nine bytes, up to 60 times. Lines of devices, blank lines and comments take nothing
-/// beside those pairs.
+/// the sessions do: on a machine of 64 bits 48 bytes for each of their lines, 80 for each different name in these and
+/// up to 90 for finding it again, and 88 for each argument, four arguments at least where there is one. A first look at
+/// the text counts the lines of each session, so that the list of a session has its length from the start. So the
+/// shortest lines, of nine bytes, take five times their own bytes, and lines as `request @1 RUN CONFIGURE` twice theirs.
+/// At most it is 32 times: by short lines with two names that no other line has, and one argument. Lines of devices,
+/// blank lines and comments take nothing beside those pairs.
 ///
 /// # Errors
 ///
@@ -152,7 +156,7 @@ pub fn read_script(alloc: Global, domain: &Domain, text: &[u8]) -> Result<Plan, 
     if text.len() > LONGEST_SCRIPT {
         return Err(ScriptError::TooLong);
     }
-    let mut draft = Draft::new(alloc, domain)?;
+    let mut draft = Draft::new(alloc, domain, Room::of(text))?;
     read_lines(alloc, domain, &mut draft, text)?;
     Ok(plan_of(alloc, draft)?)
 }

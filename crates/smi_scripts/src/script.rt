@@ -3,19 +3,21 @@ ghost use Rattle.std.specs.Prelude.{◌≡◌};
 
 use smi_world::step::Arguments;
 use sml_tree::name::Name;
+use std::sync::Arc;
 
-/// What a session does at once. Names stand in it as they were asked for (docs/FORMATS.md, "Scripts").
+/// What a session does at once. Names stand in it as they were asked for, and lines may share them (docs/FORMATS.md,
+/// "Scripts").
 #[derive(Drop)]
 pub enum Line {
     /// It posts a request.
     Post {
-        object: Name,
-        action: Name,
+        object: Arc<Name>,
+        action: Arc<Name>,
         given: Arguments,
     },
     /// It kills an object.
     Kill {
-        object: Name,
+        object: Arc<Name>,
     },
 }
 

@@ -1,7 +1,8 @@
 -- One list is longer by one.
 use Rattle.std.proofs.Common.{◌≡◌, ◌∙◌, ◌++◌, ◌∷◌, ◌-◌, ◌==◌, List, [], suc, ap, arith, refl, length, if◌then◌else◌}
 use Rattle.std.proofs.lemmas.Option.{slice_get_read}
-use Rattle.smi_scripts.specs.declared.script.Line.{Line}
+use Rattle.smi_plan.specs.declared.lines.Deed.{Deed}
+use Rattle.smi_plan.specs.Plans.{deed_of}
 use Rattle.smi_plan.proofs.Drafts.{part_set}
 use Rattle.smi_plan.proofs.draft.add_part.Goals as goal
 
@@ -16,4 +17,4 @@ returns-clause-parts c i =
     (slice_get_read lists (length lists) p c.index_mut.result.now refl (omega
     (arith, count, c.get.ensures.least, c.get.ensures.is, c.in_ok-reach.ensures.count)) c.index_mut.ensures.value)
     c.in_ok-push.ensures.items
-    ∙ ap (λ (l : List Line). l ++ (if k == suc i then c.args.line ∷ [] else [])) (c.in_ok-reach.ensures.same i)
+    ∙ ap (λ (l : List Deed). l ++ (if k == suc i then deed_of c.args.line ∷ [] else [])) (c.in_ok-reach.ensures.same i)
