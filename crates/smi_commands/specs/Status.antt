@@ -4,14 +4,16 @@ use Rattle.std.specs.Fmt.{decimal}
 use Rattle.sml_read.specs.Refusal.{number_of, name_of}
 use Rattle.sml_faults.specs.KindText as check
 use Rattle.smi_commands.specs.declared.fault.Fault.{Fault}
-use Rattle.smi_commands.specs.declared.fault.Fault.TheVariants.{Read, Check, WrongNumbers, Unreadable, TooLong}
-use Rattle.smi_commands.specs.declared.fault.Fault.TheVariants.{BadHeader, BadLine, Overwrites, Output, JournalUnwritten, Memory}
+use Rattle.smi_commands.specs.declared.fault.Fault.TheVariants.{Read, Check, WrongNumbers, WrongRunNumbers, Unreadable}
+use Rattle.smi_commands.specs.declared.fault.Fault.TheVariants.{TooLong, BadHeader, BadLine, Overwrites, Output}
+use Rattle.smi_commands.specs.declared.fault.Fault.TheVariants.{JournalUnwritten, ReportDiffers, Memory}
 
 -- the exit status of a fault
 abbrev pub fault_status : Fault → ℕ
 fault_status (Read _ _) = 1
 fault_status (Check _ _) = 1
 fault_status WrongNumbers = 2
+fault_status WrongRunNumbers = 2
 fault_status (Unreadable _ _) = 1
 fault_status (TooLong _) = 1
 fault_status (BadHeader _) = 1
@@ -19,6 +21,7 @@ fault_status (BadLine _ _) = 1
 fault_status (Overwrites _) = 2
 fault_status Output = 1
 fault_status (JournalUnwritten _ _) = 1
+fault_status ReportDiffers = 1
 fault_status Memory = 3
 
 -- the line of a fault
@@ -28,6 +31,7 @@ fault_line (Read file e) = Some (file.now ++ codes " read " ++ decimal (number_o
 fault_line (Check file e) = Some (file.now ++ codes " check " ++ decimal (check.number_of e.kind) ++ codes " " ++ check.name_of e.kind
     ++ codes " " ++ e.name)
 fault_line WrongNumbers = Some (codes "capacity is 1 to 1024, max-starts 1 to 1000000")
+fault_line WrongRunNumbers = Some (codes "workers is 1 to 8, capacity 1 to 1024, max-starts 1 to 1000000")
 fault_line (Unreadable file _) = Some (file.now ++ codes " unreadable")
 fault_line (TooLong file) = Some (file.now ++ codes " too long")
 fault_line (BadHeader file) = Some (file.now ++ codes " bad header")
@@ -35,4 +39,5 @@ fault_line (BadLine file n) = Some (file.now ++ codes " bad line " ++ decimal n)
 fault_line (Overwrites file) = Some (file.now ++ codes " is read, so that no journal is written to it")
 fault_line Output = Some (codes "output fault")
 fault_line (JournalUnwritten _ _) = Some (codes "output fault")
+fault_line ReportDiffers = Some (codes "report differs")
 fault_line Memory = Some (codes "memory")

@@ -24,13 +24,15 @@ pub enum Fault<'a> {
     Check(&'a str, CheckError),
     /// The capacity or the limit of starts is out of range. The numbers of a command line never are.
     WrongNumbers,
+    /// The same of the numbers of a run in threads, and of how many workers it has.
+    WrongRunNumbers,
     /// The file cannot be opened or read, for this cause where the system told one.
     Unreadable(&'a str, Option<io::Error>),
-    /// The schedule or the journal is past its limit.
+    /// The schedule, the script or the journal is past its limit.
     TooLong(&'a str),
     /// The journal does not begin with the first line of journals.
     BadHeader(&'a str),
-    /// A line of the journal is no entry's. Lines count from 1.
+    /// A line of the journal is no entry's, or one of the script none of a script's. Lines count from 1.
     BadLine(&'a str, u64),
     /// The journal would be written over this file, which is read.
     Overwrites(&'a str),
@@ -38,6 +40,8 @@ pub enum Fault<'a> {
     Output,
     /// The file of the journal cannot be made or written, for this cause where the system told one.
     JournalUnwritten(&'a str, Option<io::Error>),
+    /// The report of a run lists receipts that its journal does not bear out.
+    ReportDiffers,
     /// Out of memory.
     Memory,
 }
@@ -52,8 +56,8 @@ impl<'a> Fault<'a> {
             Fault::Read(..) | Fault::Check(..) | Fault::BadHeader(_) | Fault::BadLine(..) =>
                 REFUSED,
             Fault::Unreadable(..) | Fault::TooLong(_) => REFUSED,
-            Fault::Output | Fault::JournalUnwritten(..) => REFUSED,
-            Fault::WrongNumbers | Fault::Overwrites(_) => WRONG_WORDS,
+            Fault::Output | Fault::JournalUnwritten(..) | Fault::ReportDiffers => REFUSED,
+            Fault::WrongNumbers | Fault::WrongRunNumbers | Fault::Overwrites(_) => WRONG_WORDS,
             Fault::Memory => NO_MEMORY,
         }
     }
@@ -159,6 +163,9 @@ impl fmt::Display for Fault<'_> {
             Fault::Read(file, error) => write!(f, "{file} {}", Judgement::Read(*error)),
             Fault::Check(file, error) => write!(f, "{file} {}", Judgement::Check(*error)),
             Fault::WrongNumbers => f.write_str("capacity is 1 to 1024, max-starts 1 to 1000000"),
+            Fault::WrongRunNumbers => {
+                f.write_str("workers is 1 to 8, capacity 1 to 1024, max-starts 1 to 1000000")
+            }
             Fault::Unreadable(file, _) => write!(f, "{file} unreadable"),
             Fault::TooLong(file) => write!(f, "{file} too long"),
             Fault::BadHeader(file) => write!(f, "{file} bad header"),
@@ -167,6 +174,7 @@ impl fmt::Display for Fault<'_> {
                 write!(f, "{file} is read, so that no journal is written to it")
             }
             Fault::Output | Fault::JournalUnwritten(..) => f.write_str("output fault"),
+            Fault::ReportDiffers => f.write_str("report differs"),
             Fault::Memory => f.write_str("memory"),
         }
     }

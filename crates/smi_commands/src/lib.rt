@@ -1,8 +1,7 @@
-//! The commands of the state manager: to check domains, to print one, to run a schedule on one, and to judge a
-//! journal of one. Each is a function over a runtime, what it is asked and the streams that it writes.
+//! The commands of the state manager that need no threads: to check domains, to print one, to run a schedule on one,
+//! and to judge a journal of one. Each is a function over a runtime, what it is asked and the streams that it writes.
 #![tactic(auto)]
 
-mod asked;
 mod audit;
 mod check;
 mod fault;
@@ -15,15 +14,15 @@ mod status;
 mod step;
 mod text;
 
-pub use asked::{Asked, perform, refuse_words};
 pub use audit::{AuditOptions, LONGEST_JOURNAL, judge_bytes, run_audit};
 pub use check::run_check;
 pub use fault::Fault;
 pub use judgement::{Judgement, judge};
-pub use loading::domain_of_bytes;
+pub use loading::{domain_of_bytes, load_domain};
 pub use print::{print_text, run_print};
 pub use ruling::Ruling;
+pub use same_file::is_one_read;
 pub use smi_core::{MAX_CAPACITY, MAX_STARTS};
 pub use status::{DONE, ILLEGAL, NO_MEMORY, REFUSED, WRONG_WORDS};
 pub use step::{StepOptions, core_of_bytes, run_step, run_steps, write_run};
-pub use text::STANDARD_INPUT;
+pub use text::{STANDARD_INPUT, load_prefix};

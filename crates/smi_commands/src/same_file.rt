@@ -7,6 +7,14 @@ use std::fs;
 use std::fs::{Files, Metadata};
 use std::os::unix::fs::MetadataExt;
 
+/// Whether one of two files that are read under words of the command line has this path too, as `is_read_from` says.
+pub fn is_one_read<R: Files>(rt: &R, file: &str, other: &str, path: &str) -> bool
+    ensures file { IsReadAs file.now path.now → result ≡ true }
+    ensures other { IsReadAs other.now path.now → result ≡ true }
+{
+    is_read_from(rt, file, path) || is_read_from(rt, other, path)
+}
+
 /// Whether the file that is read under a word of the command line has this path too, as a link may have. Standard
 /// input is no file of a path. One text is one path, also where no file is there; of two texts, a file that is not there,
 /// or that the system tells nothing of, is another one. No memory is taken.

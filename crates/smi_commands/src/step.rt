@@ -1,5 +1,5 @@
 //! The command `step`: a domain and a schedule go in, and what was done comes out.
-ghost use Rattle.std.specs.Prelude.{◌≡◌, ◌≤◌, ℕ, List, Err, Some, IfOk, IfSome, OnErr, OnOk, length};
+ghost use Rattle.std.specs.Prelude.{◌≡◌, ◌≤◌, ℕ, List, Err, IfOk, IfSome, OnErr, OnOk, length};
 ghost use Rattle.std.specs.Io.KnownBytes.{Appends, Consumes, IsAtEnd};
 ghost use Rattle.sml_text.specs.Written.{Wrote, WroteFront};
 ghost use Rattle.sml_checkable.specs.Texts.{IsDomainOfText};
@@ -12,7 +12,7 @@ ghost use Rattle.smi_commands.specs.Paths.{IsReadAs};
 
 use crate::fault::Fault;
 use crate::loading::domain_of_bytes;
-use crate::same_file::is_read_from;
+use crate::same_file::is_one_read;
 use crate::text::{STANDARD_INPUT, load_text};
 use smi_core::{Core, Input, run_schedule};
 use smi_journal::journal_text::write_journal;
@@ -57,8 +57,10 @@ pub fn run_step<'a, R: Files + AllocGlobal, I: Read, W: Write>(
     ensures schedule_stays { IfSome options.now.journal (λ path. IsReadAs options.now.schedule.now path.now
         → result ≡ Err (Fault.Overwrites path)) }
 {
-    if let Some(path) = overwritten(rt, options) {
-        return Err(Fault::Overwrites(path));
+    if let Some(path) = options.journal {
+        if is_one_read(rt, options.file, options.schedule, path) {
+            return Err(Fault::Overwrites(path));
+        }
     }
     let mut core = match load_core(rt, options, input) {
         Ok(core) => core,
@@ -67,20 +69,6 @@ pub fn run_step<'a, R: Files + AllocGlobal, I: Read, W: Write>(
     let done = run_in(rt, &mut core, options, input, output);
     drop(core);
     done
-}
-
-// The path of the journal, where it is that of a file that is read.
-fn overwritten<'a, R: Files>(rt: &R, options: &StepOptions<'a>) -> Option<&'a str>
-    ensures domain { IfSome options.now.journal (λ path. IsReadAs options.now.file.now path.now
-        → result ≡ Some path) }
-    ensures schedule { IfSome options.now.journal (λ path. IsReadAs options.now.schedule.now path.now
-        → result ≡ Some path) }
-{
-    let journal = options.journal?;
-    if is_read_from(rt, options.file, journal) || is_read_from(rt, options.schedule, journal) {
-        return Some(journal);
-    }
-    None
 }
 
 // The core of a domain file.

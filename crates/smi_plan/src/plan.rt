@@ -26,6 +26,13 @@ pub struct Plan {
 }
 
 impl Plan {
+    /// How many sessions there are: up to the highest that a line names, and one at least. Takes a constant time.
+    pub fn sessions(&self) -> usize
+        ensures { result ≡ length self.now.scripts.items }
+    {
+        self.scripts.len()
+    }
+
     /// The scripts of the sessions in order, and the answers of the devices. Takes no memory.
     pub fn into_parts(self) -> (Vec<Script>, Answers)
         ensures scripts { result.0 ≡ self.scripts }

@@ -9,6 +9,7 @@ ghost use Rattle.smi_report.specs.Reports.{IsFinalReport, device_count, left_fro
 use crate::told::{Accepted, Receipt};
 use smi_entry::entry::{Entry, Sender};
 use smi_entry::envelope::Envelope;
+use smi_entry::journal::Journal;
 use smi_entry::session::SessionId;
 use smi_ledger::ledger::Ledger;
 use smi_ruled::close::Drained;
@@ -165,6 +166,21 @@ impl<D: Drop, K: MailNames> Report<D, K> {
         ensures { length result.now ≡ self.now.devices }
     {
         &self.devices
+    }
+
+    /// The journal, as [`journal`](Report::journal) shows it. All else is given up.
+    pub fn into_journal(self) -> Journal
+        ensures is { result.entries ≡ self.journal }
+        ensures legal { IsLegal K.names.domain result.entries }
+    {
+        let Report {
+            ledger,
+            accepted: _,
+            drained: _,
+            unmet: _,
+            devices: _,
+        } = self;
+        ledger.into_journal()
     }
 
     /// The devices, as [`devices`](Report::devices) shows them. All else is given up.

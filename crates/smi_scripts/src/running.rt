@@ -8,7 +8,7 @@ ghost use Rattle.smi_shared.specs.declared.ending.ServeEnd.TheVariants.{Limit, Q
 
 use crate::player::Player;
 use crate::script::Script;
-use crate::watch::{Unwatched, Watch};
+use crate::watch::{Unwatched, Watch, watch_all};
 use crate::workers::Workers;
 use smi_report::report::Report;
 use smi_ruled::ruled::MailNames;
@@ -85,7 +85,7 @@ fn run_all<
                 play(rt, runtime, seat, &[]);
             }
         }
-        watcher.watch(rt, runtime, workers);
+        watch_all(rt, runtime, workers, watcher);
     });
 }
 

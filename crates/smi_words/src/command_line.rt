@@ -1,13 +1,16 @@
 //! The command line.
 
+use crate::asked::Asked;
 use crate::help;
 use crate::help::audit::{AUDIT, AUDIT_MORE, EXPLAIN, JOURNAL};
 use crate::help::check::{CHECK, CHECK_MORE, FILES};
 use crate::help::print::{PRINT, PRINT_MORE};
+use crate::help::run::{PROGRESS, RUN, RUN_JOURNAL, RUN_MORE, SCRIPT, WORKERS};
 use crate::help::step::{CAPACITY, KEPT_JOURNAL, SCHEDULE, STARTS, STEP, STEP_MORE};
 use clap::error::ErrorKind;
 use clap::{Arg, ArgAction, ArgMatches, Command, Error, value_parser};
-use smi_commands::{Asked, AuditOptions, MAX_CAPACITY, MAX_STARTS, STANDARD_INPUT, StepOptions};
+use smi_commands::{AuditOptions, MAX_CAPACITY, MAX_STARTS, STANDARD_INPUT, StepOptions};
+use smi_run_command::{MAX_WORKERS, RunNumbers, RunOptions};
 use std::alloc::{AllocError, Global};
 
 // The version of the program, and the toolchain that it is proved with: what `--version` gives.
@@ -15,18 +18,23 @@ const VERSION: &str = "0.1.0 (proved with rattle-kit-13f logic dac8208d650f15bf)
 
 /// Reads the words of a command line, the program's name first. A request for help or for the version is an
 /// `Err` too, and the error tells which it is.
-pub fn parse<'a>(alloc: Global, words: &'a [String]) -> Result<Asked<'a>, Error> {
+pub fn parse<'a>(
+    alloc: Global,
+    words: &'a [String],
+    is_terminal: bool,
+) -> Result<Asked<'a>, Error> {
     let mut command = smirun_command(alloc)?;
-    read_words(alloc, &mut command, words)
+    read_words(alloc, &mut command, words, is_terminal)
 }
 
 fn read_words<'a>(
     alloc: Global,
     command: &mut Command<'a>,
     words: &'a [String],
+    is_terminal: bool,
 ) -> Result<Asked<'a>, Error> {
     let matches = command.try_get_matches_from_mut(words)?;
-    let Some(asked) = asked_of(alloc, &matches)? else {
+    let Some(asked) = asked_of(alloc, &matches, is_terminal)? else {
         return Err(command.error(ErrorKind::MissingSubcommand, "no command is given")?);
     };
     if inputs(&asked) > 1 {
@@ -42,6 +50,7 @@ fn inputs(asked: &Asked<'_>) -> usize {
         Asked::Check(files) => inputs_in(files.as_slice()),
         Asked::Print(file) => inputs_in(&[file]),
         Asked::Step(options) => inputs_in(&[options.file, options.schedule]),
+        Asked::Run(options) => inputs_in(&[options.file, options.script]),
         Asked::Audit(options) => inputs_in(&[options.file, options.journal]),
     }
 }
@@ -50,12 +59,19 @@ fn inputs_in(files: &[&str]) -> usize {
     files.iter().filter(|file| **file == STANDARD_INPUT).count()
 }
 
-fn asked_of<'a>(alloc: Global, matches: &ArgMatches<'a>) -> Result<Option<Asked<'a>>, AllocError> {
+fn asked_of<'a>(
+    alloc: Global,
+    matches: &ArgMatches<'a>,
+    is_terminal: bool,
+) -> Result<Option<Asked<'a>>, AllocError> {
     if let Some(check) = matches.subcommand_matches("check") {
         return files_to_check(alloc, check);
     }
     if let Some(step) = matches.subcommand_matches("step") {
         return Ok(schedule_to_run(step));
+    }
+    if let Some(run) = matches.subcommand_matches("run") {
+        return Ok(script_to_run(run, is_terminal));
     }
     if let Some(audit) = matches.subcommand_matches("audit") {
         return Ok(journal_to_judge(audit));
@@ -90,6 +106,21 @@ fn schedule_to_run<'a>(step: &ArgMatches<'a>) -> Option<Asked<'a>> {
     }))
 }
 
+fn script_to_run<'a>(run: &ArgMatches<'a>, is_terminal: bool) -> Option<Asked<'a>> {
+    let numbers = RunNumbers {
+        workers: run.get_one::<usize>("workers")?,
+        capacity: run.get_one::<usize>("capacity")?,
+        max_starts: run.get_one::<usize>("max-starts")?,
+    };
+    Some(Asked::Run(RunOptions {
+        file: run.get_str("FILE")?,
+        script: run.get_str("SCRIPT")?,
+        numbers,
+        journal: run.get_str("journal"),
+        progress: is_terminal && run.get_flag("progress"),
+    }))
+}
+
 fn journal_to_judge<'a>(audit: &ArgMatches<'a>) -> Option<Asked<'a>> {
     Some(Asked::Audit(AuditOptions {
         file: audit.get_str("FILE")?,
@@ -107,6 +138,7 @@ fn smirun_command<'a>(alloc: Global) -> Result<Command<'a>, AllocError> {
     let command = with_subcommand(command, check_command(alloc))?;
     let command = with_subcommand(command, print_command(alloc))?;
     let command = with_subcommand(command, step_command(alloc))?;
+    let command = with_subcommand(command, run_command(alloc))?;
     with_subcommand(command, audit_command(alloc))
 }
 
@@ -143,6 +175,19 @@ fn step_command<'a>(alloc: Global) -> Result<Command<'a>, AllocError> {
         .arg(kept_journal(alloc))
 }
 
+fn run_command<'a>(alloc: Global) -> Result<Command<'a>, AllocError> {
+    Command::new(alloc, "run")
+        .about(RUN)
+        .after_help(RUN_MORE)
+        .arg(file(alloc))?
+        .arg(script(alloc))?
+        .arg(workers(alloc))?
+        .arg(capacity(alloc))?
+        .arg(max_starts(alloc))?
+        .arg(run_journal(alloc))?
+        .arg(progress(alloc))
+}
+
 fn audit_command<'a>(alloc: Global) -> Result<Command<'a>, AllocError> {
     Command::new(alloc, "audit")
         .about(AUDIT)
@@ -158,6 +203,10 @@ fn file<'a>(alloc: Global) -> Arg<'a> {
 
 fn schedule<'a>(alloc: Global) -> Arg<'a> {
     Arg::new(alloc, "SCHEDULE").required(true).help(SCHEDULE)
+}
+
+fn script<'a>(alloc: Global) -> Arg<'a> {
+    Arg::new(alloc, "SCRIPT").required(true).help(SCRIPT)
 }
 
 fn journal<'a>(alloc: Global) -> Arg<'a> {
@@ -176,6 +225,29 @@ fn kept_journal<'a>(alloc: Global) -> Arg<'a> {
         .long("journal")
         .value_name("PATH")
         .help(KEPT_JOURNAL)
+}
+
+fn workers<'a>(alloc: Global) -> Arg<'a> {
+    Arg::new(alloc, "workers")
+        .long("workers")
+        .value_name("N")
+        .value_parser(value_parser!(usize).range(1..=MAX_WORKERS as i64))
+        .default_value("2")
+        .help(WORKERS)
+}
+
+fn run_journal<'a>(alloc: Global) -> Arg<'a> {
+    Arg::new(alloc, "journal")
+        .long("journal")
+        .value_name("PATH")
+        .help(RUN_JOURNAL)
+}
+
+fn progress<'a>(alloc: Global) -> Arg<'a> {
+    Arg::new(alloc, "progress")
+        .long("progress")
+        .action(ArgAction::SetTrue)
+        .help(PROGRESS)
 }
 
 fn capacity<'a>(alloc: Global) -> Arg<'a> {

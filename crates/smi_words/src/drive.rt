@@ -2,11 +2,12 @@
 ghost use Rattle.std.specs.Prelude.{◌≡◌, ◌≢◌, ◌≤◌, ◌⊎◌};
 ghost use Rattle.clap.specs.Values.{kind_of};
 
+use crate::asked::perform;
 use crate::command_line::parse;
 use clap::error::ErrorKind;
-use smi_commands::{DONE, Fault, WRONG_WORDS, perform};
-use std::fs::Files;
-use std::io::{Input, Read, Write};
+use smi_commands::{DONE, Fault, WRONG_WORDS};
+use smi_run_command::Host;
+use std::io::{Input, IsTerminal, Read, Write};
 
 /// Does what the words ask for, and gives the exit status.
 ///
@@ -14,7 +15,7 @@ use std::io::{Input, Read, Write};
 /// help or the version where they are asked for, goes to `output`; a fault line (docs/FORMATS.md, "Fault lines and
 /// exit statuses") and what is said of a wrong command line go to `errors`. A fault of `errors` changes nothing,
 /// since there is no place left to tell it.
-pub fn drive<R: Files + AllocGlobal + Input, W: Write, E: Write>(
+pub fn drive<R: Host + Input, W: Write, E: Write + IsTerminal>(
     rt: &R,
     words: &[String],
     output: &mut W,
@@ -22,20 +23,23 @@ pub fn drive<R: Files + AllocGlobal + Input, W: Write, E: Write>(
 ) -> u8
     ensures { result ≤ 4 }
 {
-    drive_from(rt, words, &mut rt.reader(), output, errors)
+    let is_terminal = errors.is_terminal();
+    drive_from(rt, words, &mut rt.reader(), output, errors, is_terminal)
 }
 
-/// As [`drive`], with another reader in the place of standard input.
-pub fn drive_from<R: Files + AllocGlobal, I: Read, W: Write, E: Write>(
+/// As [`drive`], with another reader in the place of standard input, and told whether `errors` is a terminal: only
+/// then is it told how far a run is.
+pub fn drive_from<R: Host, I: Read, W: Write, E: Write>(
     rt: &R,
     words: &[String],
     input: &mut I,
     output: &mut W,
     errors: &mut E,
+    is_terminal: bool,
 ) -> u8
     ensures { result ≤ 4 }
 {
-    match parse(rt.alloc(), words) {
+    match parse(rt.alloc(), words, is_terminal) {
         Ok(asked) => perform(rt, &asked, input, output, errors),
         Err(error) => answer(&error, output, errors),
     }

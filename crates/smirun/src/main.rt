@@ -1,7 +1,7 @@
 //! The program `smirun`: state manager domains, run from the command line.
 #![tactic(auto)]
 
-use smi_commands::refuse_words;
+use smi_words::asked::refuse_words;
 use smi_words::drive::drive;
 use std::env::Env;
 use std::process::ExitCode;

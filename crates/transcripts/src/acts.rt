@@ -2,7 +2,9 @@
 
 use crate::calls::{ask, call, call_in_vain, call_with_no_memory, tell_no_words};
 use crate::limits::tell_untold;
+use crate::outcomes::tell_run;
 use crate::place::Place;
+use smi_run_command::Host;
 use std::alloc::AllocError;
 use std::fs::Files;
 use std::io::{ErrorKind, Write};
@@ -10,13 +12,15 @@ use std::os::unix::fs::symlink;
 use std::{fs, io, str};
 
 /// Does what a line says.
-pub fn perform<R: Files + AllocGlobal>(rt: &R, line: &str, place: &mut Place) -> io::Result<()> {
+pub fn perform<R: Host>(rt: &R, line: &str, place: &mut Place) -> io::Result<()> {
     let (mark, rest) = line.split_once(' ').unwrap_or((line, ""));
     match mark {
         // adds the rest to the text at hand, as a line
         "|" => Ok(place.add(rest)?),
         // adds a text so many times, behind what was added last: COUNT TEXT
         "+" => add_times(rest, place),
+        // adds a line so many times: COUNT LINE
+        "*" => add_lines(rest, place),
         // performs the rest as a command line
         "$" => call(rt, rest, place),
         // the same, where only the status and the errors are told
@@ -26,7 +30,7 @@ pub fn perform<R: Files + AllocGlobal>(rt: &R, line: &str, place: &mut Place) ->
         // performs a command line with outputs that cannot be written
         "&" => call_in_vain(rt, rest, place),
         // performs a command line where there is no memory
-        "~" => call_with_no_memory(rt.alloc(), rest, place),
+        "~" => call_with_no_memory(rt, rest, place),
         // does something with a file
         "@" => handle(rt, rest, place),
         _ => Ok(()),
@@ -41,7 +45,7 @@ fn tell_part(part: &str, place: &mut Place) -> io::Result<()> {
 }
 
 // Does something with a file, or with what a command line told of help.
-fn handle<R: Files + AllocGlobal>(rt: &R, line: &str, place: &mut Place) -> io::Result<()> {
+fn handle<R: Host>(rt: &R, line: &str, place: &mut Place) -> io::Result<()> {
     let (verb, rest) = line.split_once(' ').unwrap_or((line, ""));
     match verb {
         // writes the text at hand as a file
@@ -60,6 +64,8 @@ fn handle<R: Files + AllocGlobal>(rt: &R, line: &str, place: &mut Place) -> io::
         // tells what is said of words of a command line that could not be had
         "no-words" => tell_no_words(rt.alloc(), ErrorKind::InvalidData, place),
         "no-memory" => tell_no_words(rt.alloc(), ErrorKind::OutOfMemory, place),
+        // tells what is told of a run: END UNMET, and the path of a journal
+        "outcome" => tell_run(rt, rest, place),
         // tells the limits that the last output does not: NAME
         "limits" => Ok(tell_untold(rt.alloc(), rest, place)?),
         _ => Err(io::Error::from(ErrorKind::InvalidInput)),
@@ -81,7 +87,7 @@ fn point<R: Files>(rt: &R, words: &str) -> io::Result<()> {
     symlink(rt, path, link)
 }
 
-fn number(word: &str) -> io::Result<usize> {
+pub fn number(word: &str) -> io::Result<usize> {
     match word.parse::<usize>() {
         Ok(number) => Ok(number),
         Err(_) => Err(io::Error::from(ErrorKind::InvalidInput)),
@@ -114,6 +120,14 @@ fn add_times(words: &str, place: &mut Place) -> io::Result<()> {
     let (count, text) = words.split_once(' ').unwrap_or((words, ""));
     for _ in 0..number(count)? {
         place.text.extend_from_slice(text.as_bytes())?;
+    }
+    Ok(())
+}
+
+fn add_lines(words: &str, place: &mut Place) -> io::Result<()> {
+    let (count, line) = words.split_once(' ').unwrap_or((words, ""));
+    for _ in 0..number(count)? {
+        place.add(line)?;
     }
     Ok(())
 }

@@ -2,10 +2,10 @@
 
 use crate::place::Place;
 use crate::writers::{Fails, FailsLate, NoMemory, TakesNothing};
-use smi_commands::refuse_words;
+use smi_run_command::Host;
+use smi_words::asked::refuse_words;
 use smi_words::drive::drive_from;
 use std::alloc::{AllocError, Global};
-use std::fs::Files;
 use std::io;
 use std::io::Write;
 
@@ -23,7 +23,7 @@ fn words_of(alloc: Global, line: &str) -> Result<Vec<String>, AllocError> {
 }
 
 /// Performs a command line, whose standard input is the text at hand, and gives its status.
-fn run<R: Files + AllocGlobal, W: Write>(
+fn run<R: Host, W: Write>(
     rt: &R,
     line: &str,
     text: &[u8],
@@ -31,12 +31,13 @@ fn run<R: Files + AllocGlobal, W: Write>(
     errors: &mut Vec<u8>,
 ) -> Result<u8, AllocError> {
     let words = words_of(rt.alloc(), line)?;
-    Ok(drive_from(rt, words.as_slice(), &mut &*text, output, errors))
+    let status = drive_from(rt, words.as_slice(), &mut &*text, output, errors, true);
+    Ok(status)
 }
 
-// Tells a status, and what was written for errors. (What the parser says of wrong words is its own, and no part of a
-// format.)
-fn tell(alloc: Global, place: &mut Place, status: u8, errors: &[u8]) -> io::Result<()> {
+/// Tells a status, and what was written for errors. (What the parser says of wrong words is its own, and no part of a
+/// format.)
+pub fn tell(alloc: Global, place: &mut Place, status: u8, errors: &[u8]) -> io::Result<()> {
     if status == 2 && errors.starts_with(b"error: ") {
         place.tell_errors(b"(wrong words)\n")?;
     } else {
@@ -48,7 +49,7 @@ fn tell(alloc: Global, place: &mut Place, status: u8, errors: &[u8]) -> io::Resu
 }
 
 /// Performs a command line and tells its status and its errors. Its output is kept.
-pub fn ask<R: Files + AllocGlobal>(rt: &R, line: &str, place: &mut Place) -> io::Result<()> {
+pub fn ask<R: Host>(rt: &R, line: &str, place: &mut Place) -> io::Result<()> {
     place.is_open = false;
     let mut output = Vec::new(rt.alloc());
     let mut errors = Vec::new(rt.alloc());
@@ -58,13 +59,13 @@ pub fn ask<R: Files + AllocGlobal>(rt: &R, line: &str, place: &mut Place) -> io:
 }
 
 /// Performs a command line and tells its output too.
-pub fn call<R: Files + AllocGlobal>(rt: &R, line: &str, place: &mut Place) -> io::Result<()> {
+pub fn call<R: Host>(rt: &R, line: &str, place: &mut Place) -> io::Result<()> {
     ask(rt, line, place)?;
     place.tell_output()?;
     Ok(())
 }
 
-fn call_into<R: Files + AllocGlobal, W: Write>(
+fn call_into<R: Host, W: Write>(
     rt: &R,
     line: &str,
     place: &mut Place,
@@ -76,19 +77,15 @@ fn call_into<R: Files + AllocGlobal, W: Write>(
 }
 
 /// Performs a command line three times, with outputs that cannot be written.
-pub fn call_in_vain<R: Files + AllocGlobal>(
-    rt: &R,
-    line: &str,
-    place: &mut Place,
-) -> io::Result<()> {
+pub fn call_in_vain<R: Host>(rt: &R, line: &str, place: &mut Place) -> io::Result<()> {
     call_into(rt, line, place, &mut Fails)?;
     call_into(rt, line, place, &mut TakesNothing)?;
     call_into(rt, line, place, &mut FailsLate)
 }
 
 /// Performs a command line where there is no memory to read a file.
-pub fn call_with_no_memory(alloc: Global, line: &str, place: &mut Place) -> io::Result<()> {
-    call(&(NoMemory, alloc), line, place)
+pub fn call_with_no_memory<R: Host>(rt: &R, line: &str, place: &mut Place) -> io::Result<()> {
+    call(&(NoMemory(*rt), rt.alloc()), line, place)
 }
 
 /// Tells what is said of the words of a command line that could not be had, for want of memory or else.

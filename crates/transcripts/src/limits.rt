@@ -3,6 +3,7 @@
 use crate::place::Place;
 use smi_commands::{LONGEST_JOURNAL, MAX_CAPACITY, MAX_STARTS};
 use smi_core::{LONGEST_LINE, LONGEST_SCHEDULE};
+use smi_run_command::{LONGEST_SCRIPT, MAX_WORKERS};
 use sml_read::MAX_TEXT;
 use sml_text::limits::{LONGEST_NAME, LONGEST_STRING};
 use sml_tree::limits::{
@@ -42,6 +43,8 @@ fn limits_of(name: &str) -> &'static [Limit] {
         "schedule" => &[OF_A_TEXT, (LONGEST_SCHEDULE, "")],
         "step" => &[(LONGEST_LINE, ""), (MAX_CAPACITY, ""), (MAX_STARTS, "")],
         "journal" => &[OF_A_TEXT, (LONGEST_JOURNAL, "")],
+        "script" => &[(LONGEST_SCRIPT, ""), (LONGEST_LINE, "")],
+        "run" => &[(MAX_WORKERS, ""), (MAX_CAPACITY, ""), (MAX_STARTS, "")],
         _ => &[OF_A_TEXT],
     }
 }

@@ -4,12 +4,13 @@
 mod acts;
 mod calls;
 mod limits;
+mod outcomes;
 mod place;
 mod writers;
 
 use crate::acts::perform;
 use crate::place::Place;
-use std::fs::Files;
+use smi_run_command::Host;
 use std::io::Write;
 use std::{env, fs, io};
 
@@ -24,11 +25,7 @@ fn main(rt: HostRuntime) -> io::Result<()> {
     done
 }
 
-fn perform_all<R: Files + AllocGlobal>(
-    rt: &R,
-    words: &[String],
-    place: &mut Place,
-) -> io::Result<()> {
+fn perform_all<R: Host>(rt: &R, words: &[String], place: &mut Place) -> io::Result<()> {
     for name in words.iter().skip(1) {
         perform_script(rt, name.as_str(), place)?;
     }
@@ -36,7 +33,7 @@ fn perform_all<R: Files + AllocGlobal>(
 }
 
 // Performs a script line by line.
-fn perform_script<R: Files + AllocGlobal>(rt: &R, name: &str, place: &mut Place) -> io::Result<()> {
+fn perform_script<R: Host>(rt: &R, name: &str, place: &mut Place) -> io::Result<()> {
     let script = fs::read_to_string(rt, name)?;
     let text = script.as_str();
     for line in text.strip_suffix('\n').unwrap_or(text).split('\n') {

@@ -4,6 +4,9 @@ use std::alloc::Allocator;
 use std::fs::{File, Files, Metadata, OpenOptions};
 use std::io;
 use std::io::{ErrorKind, Write};
+use std::sync::Wait;
+use std::thread::Threads;
+use std::time::{Clock, Duration};
 
 /// A writer that fails.
 #[derive(Drop)]
@@ -47,15 +50,29 @@ impl Write for FailsLate {
     }
 }
 
-/// Files that are never opened, as there is no memory.
-#[derive(Drop)]
-pub struct NoMemory;
+/// Files that are never opened, as there is no memory. Threads are those of another runtime.
+#[derive(Clone, Copy)]
+pub struct NoMemory<R>(pub R);
+
+impl<R: Threads> Threads for NoMemory<R> {}
+
+impl<R: Wait> Wait for NoMemory<R> {}
+
+impl<R: Clock> Clock for NoMemory<R> {
+    fn monotonic(&self) -> io::Result<Duration> {
+        self.0.monotonic()
+    }
+
+    fn since_1970(&self) -> io::Result<Duration> {
+        self.0.since_1970()
+    }
+}
 
 fn no_memory() -> io::Error {
     io::Error::from(ErrorKind::OutOfMemory)
 }
 
-impl Files for NoMemory {
+impl<R> Files for NoMemory<R> {
     type File = File;
 
     type Dir = File;

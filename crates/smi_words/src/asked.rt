@@ -3,13 +3,10 @@ ghost use Rattle.std.specs.Prelude.{◌≡◌, ◌≢◌, ◌≤◌, IfErr, IfOk
 ghost use Rattle.std.specs.IoError.{error_kind};
 ghost use Rattle.smi_commands.specs.Status.{fault_status};
 
-use crate::audit::{AuditOptions, run_audit};
-use crate::check::run_check;
-use crate::fault::Fault;
-use crate::print::run_print;
-use crate::status::{DONE, WRONG_WORDS};
-use crate::step::{StepOptions, run_step};
-use std::fs::Files;
+use smi_commands::{
+    AuditOptions, DONE, Fault, StepOptions, WRONG_WORDS, run_audit, run_check, run_print, run_step,
+};
+use smi_run_command::{Host, RunOptions, run_run};
 use std::io;
 use std::io::{ErrorKind, Read, Write};
 
@@ -20,6 +17,8 @@ pub enum Asked<'a> {
     Check(Vec<&'a str>),
     /// To run a schedule on a domain.
     Step(StepOptions<'a>),
+    /// To run a script on a domain, in threads.
+    Run(RunOptions<'a>),
     /// To print the canonical text of the domain file of this path.
     Print(&'a str),
     /// To judge a journal by a domain.
@@ -31,7 +30,7 @@ pub enum Asked<'a> {
 /// A file that is named `-` is `input`. What the command gives goes to `output`, and a fault line
 /// (docs/FORMATS.md, "Fault lines and exit statuses") to `errors`. A fault of `errors` changes nothing, since
 /// there is no place left to tell it.
-pub fn perform<R: Files + AllocGlobal, I: Read, W: Write, E: Write>(
+pub fn perform<R: Host, I: Read, W: Write, E: Write>(
     rt: &R,
     asked: &Asked<'_>,
     input: &mut I,
@@ -47,6 +46,7 @@ pub fn perform<R: Files + AllocGlobal, I: Read, W: Write, E: Write>(
         },
         Asked::Print(file) => ended(&run_print(rt, file, input, output), errors),
         Asked::Step(options) => ended(&run_step(rt, options, input, output), errors),
+        Asked::Run(options) => ended(&run_run(rt, options, input, output, errors), errors),
         Asked::Audit(options) => match run_audit(rt, options, input, output, errors) {
             Ok(status) => status,
             Err(fault) => fault.tell(errors),

@@ -1,0 +1,3 @@
+pub mod Unplanned
+pub mod Outcomes
+pub mod Ends

@@ -1,0 +1,23 @@
+-- What is told behind the summary of a run.
+use Rattle.std.specs.Prelude.{◌≡◌, ◌≢◌, ℕ}
+use Rattle.smi_shared.specs.declared.ending.ServeEnd.{ServeEnd}
+use Rattle.smi_shared.specs.declared.ending.ServeEnd.TheVariants as end
+use Rattle.smi_commands.specs.declared.fault.Fault.{Fault}
+use Rattle.smi_commands.specs.declared.fault.Fault.TheVariants as fault
+
+-- a run that ended so, with so many receipts unmet, may be told by this fault: that the report differs is told only
+-- where one is unmet and the end is not Memory
+abbrev pub IsFaultOf : ServeEnd → ℕ → Fault → Type 0
+IsFaultOf e unmet fault.ReportDiffers = (e ≢ end.Memory) × (unmet ≢ 0)
+IsFaultOf e unmet fault.Memory = Unit {0}
+IsFaultOf e unmet fault.Output = Unit {0}
+IsFaultOf e unmet (fault.JournalUnwritten _ _) = Unit {0}
+IsFaultOf e unmet (fault.Read _ _) = ⊥
+IsFaultOf e unmet (fault.Check _ _) = ⊥
+IsFaultOf e unmet fault.WrongNumbers = ⊥
+IsFaultOf e unmet fault.WrongRunNumbers = ⊥
+IsFaultOf e unmet (fault.Unreadable _ _) = ⊥
+IsFaultOf e unmet (fault.TooLong _) = ⊥
+IsFaultOf e unmet (fault.BadHeader _) = ⊥
+IsFaultOf e unmet (fault.BadLine _ _) = ⊥
+IsFaultOf e unmet (fault.Overwrites _) = ⊥

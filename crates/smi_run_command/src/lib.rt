@@ -1,0 +1,23 @@
+//! The command `run`: a domain and a script go in, a run in threads is made, and its summary comes out.
+//! (docs/FORMATS.md, "Scripts".)
+#![tactic(auto)]
+
+mod command;
+mod host;
+mod options;
+mod outcome;
+mod planning;
+mod progress;
+mod running;
+mod summary;
+
+pub use command::run_run;
+pub use host::Host;
+pub use options::RunOptions;
+pub use outcome::{Outcome, tell_outcome};
+pub use planning::plan_of_bytes;
+pub use running::{RunError, RunNumbers, run_plan};
+pub use smi_plan::plan::LONGEST_SCRIPT;
+pub use smi_run::opening::MAX_WORKERS;
+pub use smi_scripts::watch::{Unwatched, Watch};
+pub use summary::summary_of;

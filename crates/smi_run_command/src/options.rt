@@ -1,0 +1,18 @@
+//! What `run` is asked to do.
+
+use crate::running::RunNumbers;
+
+/// What `run` is asked to do. The texts are words of a command line.
+#[derive(Drop)]
+pub struct RunOptions<'a> {
+    /// The path of the domain file, or `-`.
+    pub file: &'a str,
+    /// The path of the script, or `-`.
+    pub script: &'a str,
+    /// The numbers of the run.
+    pub numbers: RunNumbers,
+    /// The path that the journal is written to, if it is. `-` is a file of that name, and a file that is read is refused.
+    pub journal: Option<&'a str>,
+    /// Whether it is told on a terminal how far the run is. It is for whoever asks to see that there is one.
+    pub progress: bool,
+}

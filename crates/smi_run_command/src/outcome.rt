@@ -1,0 +1,118 @@
+//! What a run came to, and how it is told.
+ghost use Rattle.std.specs.Prelude.{◌≡◌, ◌≢◌, IfErr, OnOk};
+ghost use Rattle.sml_text.specs.Written.{Wrote};
+ghost use Rattle.smi_run_command.specs.Outcomes.{IsFaultOf};
+
+use smi_commands::Fault;
+use smi_entry::journal::Journal;
+use smi_journal::journal_text::write_journal;
+use smi_shared::ending::ServeEnd;
+use sml_domain::domain::Domain;
+use sml_text::writing::put;
+use std::alloc::Global;
+use std::fs::Files;
+use std::io::{BufWriter, Write};
+use std::{fs, io};
+
+/// What a run came to.
+#[derive(Drop)]
+pub struct Outcome {
+    /// How it ended.
+    pub end: ServeEnd,
+    /// The text of its summary.
+    pub summary: Vec<u8>,
+    /// Its journal.
+    pub journal: Journal,
+    /// How many receipts the journal does not bear out.
+    pub unmet: usize,
+}
+
+/// Tells what a run came to: its summary goes to `output`, to its end, and then the journal to the file of the path,
+/// where there is one. What is behind the summary then is a fault: `Memory` where the run ended so, or else
+/// `ReportDiffers` where a receipt is unmet.
+///
+/// The cost is the length of what is written. The error is `Output`, where the summary cannot be written;
+/// `JournalUnwritten`; or what is told behind both.
+pub fn tell_outcome<'a, R: Files + AllocGlobal, W: Write>(
+    rt: &R,
+    domain: &Domain,
+    journal: Option<&'a str>,
+    outcome: &Outcome,
+    output: &mut W,
+) -> Result<(), Fault<'a>>
+    ensures told { OnOk result (Wrote (W.contents output.old) (W.contents output.new) outcome.now.summary.items) }
+    ensures met { OnOk result ((outcome.now.end ≢ ServeEnd.Memory) × (outcome.now.unmet ≡ 0)) }
+    ensures fault { IfErr result (IsFaultOf outcome.now.end outcome.now.unmet) }
+{
+    if let Err(fault) = tell_summary(outcome.summary.as_slice(), output) {
+        return Err(fault);
+    }
+    if let Some(path) = journal {
+        match keep_journal(rt, domain, &outcome.journal, path) {
+            Ok(()) => {}
+            Err(Unkept::Unwritten(cause)) => return Err(Fault::JournalUnwritten(path, cause)),
+            Err(Unkept::Memory) => return Err(Fault::Memory),
+        }
+    }
+    if outcome.end == ServeEnd::Memory {
+        return Err(Fault::Memory);
+    }
+    if outcome.unmet > 0 {
+        return Err(Fault::ReportDiffers);
+    }
+    Ok(())
+}
+
+// Writes a summary to its end.
+fn tell_summary<W: Write>(summary: &[u8], output: &mut W) -> Result<(), Fault<'static>>
+    ensures told { OnOk result (Wrote (W.contents output.old) (W.contents output.new) summary.now) }
+    ensures fault { IfErr result (λ fault. fault ≡ Fault.Output) }
+{
+    if put(output, summary).is_err() {
+        return Err(Fault::Output);
+    }
+    match output.flush() {
+        Ok(()) => Ok(()),
+        Err(_) => Err(Fault::Output),
+    }
+}
+
+// Why a journal was not kept.
+#[derive(Drop)]
+enum Unkept {
+    // The file cannot be made or written, for this cause where the system told one.
+    Unwritten(Option<io::Error>),
+    Memory,
+}
+
+// Writes a journal to the file of a path, which is made, or emptied.
+fn keep_journal<R: Files + AllocGlobal>(
+    rt: &R,
+    domain: &Domain,
+    journal: &Journal,
+    path: &str,
+) -> Result<(), Unkept> {
+    match fs::create(rt, path) {
+        Ok(mut file) => write_kept(rt.alloc(), domain, journal, &mut file),
+        Err(error) => Err(Unkept::Unwritten(Some(error))),
+    }
+}
+
+// Writes a journal to a file that was opened, to its end.
+fn write_kept<J: Write>(
+    heap: Global,
+    domain: &Domain,
+    journal: &Journal,
+    file: &mut J,
+) -> Result<(), Unkept> {
+    let Ok(mut kept) = BufWriter::new(heap, &mut *file) else {
+        return Err(Unkept::Memory);
+    };
+    let written = write_journal(domain, journal.entries(), &mut kept);
+    // After a fault too: this says its cause.
+    match kept.flush() {
+        Ok(()) if written.is_ok() => Ok(()),
+        Ok(()) => Err(Unkept::Unwritten(None)),
+        Err(error) => Err(Unkept::Unwritten(Some(error))),
+    }
+}

@@ -1,0 +1,46 @@
+//! The plan of a script.
+ghost use Rattle.std.specs.Prelude.{IfErr, IfOk};
+ghost use Rattle.smi_plan.specs.Plans.{IsPlanOfText};
+ghost use Rattle.smi_run_command.specs.Unplanned.{IsUnplanned};
+
+use smi_commands::{Fault, load_prefix};
+use smi_plan::error::ScriptError;
+use smi_plan::plan::{LONGEST_SCRIPT, Plan, read_script};
+use sml_domain::domain::Domain;
+use std::alloc::Global;
+use std::fs::Files;
+use std::io::Read;
+
+/// The plan of a script of this path, which is read whole.
+pub(crate) fn load_plan<'a, R: Files + AllocGlobal, I: Read>(
+    rt: &R,
+    input: &mut I,
+    domain: &Domain,
+    script: &'a str,
+) -> Result<Plan, Fault<'a>> {
+    // One byte more, so that a script which is too long is seen to be so.
+    match load_prefix(rt, input, script, LONGEST_SCRIPT as u64 + 1) {
+        Ok(text) => plan_of_bytes(rt.alloc(), domain, script, text.as_slice()),
+        Err(error) => Err(Fault::of_input(script, &error)),
+    }
+}
+
+/// The plan of the text of a script: what each session does, and what the devices answer.
+///
+/// Cost and memory are those of `read_script`. The error is the fault of the script, by its path, or `Memory`.
+pub fn plan_of_bytes<'a>(
+    heap: Global,
+    domain: &Domain,
+    script: &'a str,
+    text: &[u8],
+) -> Result<Plan, Fault<'a>>
+    ensures plan { IfOk result (IsPlanOfText domain.now text.now) }
+    ensures err { IfErr result (IsUnplanned domain.now script.now text.now) }
+{
+    match read_script(heap, domain, text) {
+        Ok(plan) => Ok(plan),
+        Err(ScriptError::TooLong) => Err(Fault::TooLong(script)),
+        Err(ScriptError::BadLine(number)) => Err(Fault::BadLine(script, number)),
+        Err(ScriptError::Memory) => Err(Fault::Memory),
+    }
+}

@@ -1,0 +1,97 @@
+//! The texts of `run --help`.
+
+pub const RUN: &str = "\
+Runs a script on a domain, with operators' sessions and workers in threads, and writes a summary.";
+
+pub const SCRIPT: &str =
+    "The script: what the operators do and the devices answer; - is standard input";
+
+pub const WORKERS: &str = "How many workers perform actions, 1 to 8";
+
+pub const RUN_JOURNAL: &str =
+    "Writes the journal to this file, behind the summary; a file that is read is refused";
+
+pub const PROGRESS: &str =
+    "Tell on standard error how far the run is, if that is a terminal and the run takes over two seconds";
+
+pub const RUN_MORE: &str = "\
+FILE is a domain file, as `smirun step --help` has it. SCRIPT has at most 16777216 bytes of ASCII. Each line
+has at most 8192 bytes, and is one of these, or has only blanks and a comment behind `!`:
+
+  request @S OBJECT ACTION                     session @S, which is @1 to @8, asks OBJECT for ACTION
+  request @S OBJECT ACTION (NAME = VALUE, ..)  the same with arguments, ints or strings in quotes, 16 at
+                                               most; a parameter that is left out has its default
+  kill OBJECT @S                               session @S kills OBJECT: its open action is cut off, it is
+                                               in its dead state for good, and nothing starts there any more
+  device OBJECT ACTION STATE                   the device of OBJECT, whose class is `/associated`, answers
+                                               ACTION by STATE; the last line for both counts
+
+Names may be written in capitals or not. A device fails at an action that has no line, or whose STATE is none
+of the class of OBJECT, and its object is then killed. Any other line, and a `device` line with a name that
+the domain does not have, makes the script refused, and nothing runs. Names in the other lines are looked up
+as the run goes.
+
+Sessions @1 to the highest that SCRIPT names each do their own lines in order, in a thread of their own,
+while N workers take what waits in the mailboxes and perform it. Lines of two sessions come in whatever
+order; requests of one session to one object are started in the order of its lines. Once all sessions have
+left and nothing can be done any more, the run ends, and the summary is written to standard output:
+
+  end Quiet                      all that could be done was done
+  end Limit                      the same, but M requests were started, and no more may be
+  end Memory                     memory was refused, and the rest was left undone
+  state OBJECT STATE             the state of each object
+  stalled OBJECT                 its action is still open: an `if` waits for an object that is busy
+  accepted SENDER OBJECT COUNT   so many requests of SENDER to OBJECT were accepted
+  left SENDER OBJECT COUNT       so many of these were never started
+  refused @S COUNT               so many lines of session @S were refused
+
+Lines with a count of 0 are left out. SENDER is a session, or an object that sent with a `do`.
+
+What to do:
+
+  Limit      run it again with more `--max-starts`, or look for objects that send to one another for ever
+  Memory     run it again where there is more memory, or with a smaller SCRIPT
+  stalled    the journal (`--journal`) has a `wait` of the object; look which object of that `if` is busy:
+             one that is stalled too, or whose requests are left. Two objects that wait for each other stay so
+  left       the object was killed, or is stalled, or the run ended with Limit or Memory
+  refused    no such object, or no such action in any state of its class; a wrong argument; the object was
+             killed before the request or kill; or its mailbox was full (`--capacity`). A session does not
+             wait for room: give more room, or fewer requests
+
+A request that is skipped, because the state of its object does not declare the action by then, was started
+and is not left; the journal has `end OBJECT skipped`.
+
+With the domain of `smirun step --help`, the script on the left is told as on the right:
+
+  device HV SWITCH_ON ON                   end Quiet
+  request @1 RUN CONFIGURE                 state HV ON
+  request @1 RUN NOTHING                   state RUN READY
+                                           accepted @1 RUN 1
+                                           accepted RUN HV 1
+                                           refused @1 1
+
+Without its first line the device of HV fails: HV is then DEAD, and RUN ends in ERROR. With `kill HV @2` as
+a further line, what comes first is open, and so is the summary.
+
+With `--progress` a terminal shows, four times a second, how many requests were started, how many that were
+accepted wait for it, and how many objects have an open action:
+
+  starts 123456, waiting 12, open 3
+
+With `--journal PATH` the file PATH is made, or what stands there is deleted, once the summary is written, and
+the journal of the run is written to it: what was started, sent, seen, ended and killed, in its order.
+`smirun audit FILE PATH` judges it. Where PATH is FILE or SCRIPT, by this path or another, the command line is
+a wrong one, and nothing is read or written.
+
+A file that is refused is told on standard error, by FILE and one of: `read NO KIND at OFFSET`, `check NO KIND
+NAME` (the domain; `smirun check --help` has the kinds), `unreadable` (a second line has why), and of the
+script `too long` and `bad line NO`, whose lines count from 1. `output fault` says that the summary cannot be
+written, or that the journal cannot be made or written (then a second line has PATH and why), `memory` that
+there is not enough memory: behind a summary where it says `end Memory`. `report differs` behind a summary
+says that a session was told of a kill which the journal does not have; it is a fault of this program.
+
+SCRIPT is kept while the run goes on, and so are the journal, some 100 to 150 bytes an entry, and what each
+session was told is accepted.
+
+Exit status: 0 done, also where requests or kills were refused; 1 an input was refused, or a file could not
+be read or the output not be written, or the report differs; 2 a wrong command line; 3 not enough memory.";
