@@ -1,0 +1,121 @@
+//! The texts of domains.
+
+/// Two supplies, and what switches them on.
+pub const SUPPLIES: &[u8] = b"class: SUPPLY /associated
+  state: OFF /initial_state
+    action: SWITCH_ON
+  state: ON
+    action: SWITCH_OFF
+class: RUN_TYPE
+  state: NOT_READY /initial_state
+    action: CONFIGURE
+      do SWITCH_ON all_in HV
+      if ( all_in HV in_state ON ) then
+        move_to READY
+      endif
+      move_to ERROR
+  state: READY
+  state: ERROR
+object: HV1 is_of_class SUPPLY
+object: HV2 is_of_class SUPPLY
+object: RUN is_of_class RUN_TYPE
+objectset: HV { HV1, HV2 }
+";
+
+/// A counter with two parameters, and the equipment that is sent them.
+pub const COUNTER: &[u8] = b"class: SINK /associated
+  state: READY
+    action: TAKE (int V, string W = \"none\")
+class: COUNTER
+  parameters: int N = 3, string P = \"x\"
+  state: IDLE
+    action: PUT (int T = 5, string M)
+      set N = T
+      set P = M
+      do TAKE (W = P, V = N) OUT
+    action: SHOW
+      do TAKE (V = N) OUT
+object: OUT is_of_class SINK
+object: C is_of_class COUNTER
+";
+
+/// A lamp, and what lights it.
+pub const FIRST: &[u8] = b"class: LAMP
+  state: OFF
+    action: LIGHT
+      move_to ON
+  state: ON
+class: BOSS
+  state: IDLE
+    action: GO
+      do LIGHT L
+      move_to DONE
+  state: DONE
+object: L is_of_class LAMP
+object: B is_of_class BOSS
+";
+
+/// Two objects, each of which asks for the other's state.
+pub const PAIR: &[u8] = b"class: LEFT
+  state: S
+    action: GO
+      if ( B in_state S ) then
+      endif
+class: RIGHT
+  state: S
+    action: GO
+      if ( A in_state S ) then
+      endif
+object: A is_of_class LEFT
+object: B is_of_class RIGHT
+";
+
+/// An object that asks a set without members.
+pub const EMPTY_SET: &[u8] = b"class: T
+  state: S
+    action: GO
+      if ( any_in E in_state S or not all_in E in_state S ) then
+        move_to BAD
+      endif
+      move_to GOOD
+  state: GOOD
+  state: BAD
+object: X is_of_class T
+objectset: E { }
+";
+
+/// An object that asks for its own state, which is a fault of its class.
+pub const ASKS_ITSELF: &[u8] = b"class: K
+  state: S
+    action: GO
+      if ( all_in G in_state S ) then
+      endif
+object: X is_of_class K
+objectset: G { X }
+";
+
+// A state with both marks, and a condition.
+const MARKED: &[u8] = b"class: RT
+  state: A /initial_state /dead_state
+    action: GO (int T = -7)
+      if ( not X in_state ON or Y in_state OFF and Z not_in_state { ON, OFF } ) then
+        set N = T
+      endif
+      move_to A
+";
+
+// The same in one line, in small letters, with brackets, braces and an `else` that say nothing.
+const IN_ONE_LINE: &[u8] = b"class:rt state:a/dead_state/initial_state action:go(int t=-07)\
+    if(not(x in_state{on})or y in_state off and z not_in_state{on,off})then set n=t else endif move_to A";
+
+/// Texts, each with its canonical text, which most of them are.
+pub const TEXTS: [(&[u8], &[u8]); 8] = [
+    (SUPPLIES, SUPPLIES),
+    (COUNTER, COUNTER),
+    (FIRST, FIRST),
+    (PAIR, PAIR),
+    (EMPTY_SET, EMPTY_SET),
+    (ASKS_ITSELF, ASKS_ITSELF),
+    (MARKED, MARKED),
+    (IN_ONE_LINE, MARKED),
+];

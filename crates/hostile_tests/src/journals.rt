@@ -1,0 +1,140 @@
+//! Journals, cut at every place and with a byte changed at every place.
+
+use crate::broken::{BYTES, breaks, changed, ends_line, line_at};
+use crate::domains::{COUNTER, PAIR, SUPPLIES};
+use smi_audit::JournalError;
+use smi_audit::audit::audit;
+use smi_audit::judgement::Judgement;
+use sml_checkable::domain_of;
+use sml_domain::domain::Domain;
+use std::alloc::Global;
+use std::sync::Arc;
+use std::test::*;
+
+const HEADER: &[u8] = b"smi-journal 1\n";
+
+// Legal journals and their domains.
+const JOURNALS: [(&[u8], &[u8]); 3] = [
+    (
+        SUPPLIES,
+        b"smi-journal 1
+start RUN @1 0 CONFIGURE
+post RUN HV1 0 SWITCH_ON
+post RUN HV2 refused full SWITCH_ON
+wait RUN
+start HV1 RUN 0 SWITCH_ON
+kill HV1 fault
+seen RUN HV1=DEAD HV2=OFF
+end RUN ERROR
+start RUN @1 1 CONFIGURE
+end RUN skipped
+",
+    ),
+    (
+        PAIR,
+        b"smi-journal 1
+start A @1 0 GO
+start B @8 0 GO
+wait A
+wait B
+kill B @1
+seen A B=DEAD
+end A S
+",
+    ),
+    (
+        COUNTER,
+        b"smi-journal 1
+start C @1 0 PUT (T = 5, M = \"a\")
+post C OUT 0 TAKE (V = 5, W = \"a\")
+end C IDLE
+start OUT C 0 TAKE (V = 5, W = \"a\")
+end OUT READY
+",
+    ),
+];
+
+// What is said of a text.
+fn said(alloc: Global, domain: &Arc<Domain>, text: &[u8]) -> Result<Judgement, JournalError> {
+    match Arc::try_clone(domain) {
+        Ok(domain) => audit(alloc, domain, text),
+        Err(_) => Err(JournalError::Memory),
+    }
+}
+
+// Whether no journal is seen in a text whose line at a place is none: it is the header, or this line is named.
+fn is_bad_at(said: Result<Judgement, JournalError>, text: &[u8], place: usize) -> bool {
+    match said {
+        Err(JournalError::BadHeader) => place < HEADER.len(),
+        Err(JournalError::BadLine(line)) => {
+            place >= HEADER.len() && line == line_at(text, place) as u64
+        }
+        _ => false,
+    }
+}
+
+// Whether a prefix that ends with a line is legal, and another is bad there.
+fn is_right_cut(alloc: Global, domain: &Arc<Domain>, text: &[u8], length: usize) -> Option<bool> {
+    let said = said(alloc, domain, text.get(..length)?);
+    Some(if length > 0 && ends_line(text, length) {
+        said == Ok(Judgement::Legal)
+    } else {
+        is_bad_at(said, text, length)
+    })
+}
+
+// Whether what is said of a text that is read is right: it is as it was, or another value does not fit from there on.
+fn is_right_judgement(
+    said: Result<Judgement, JournalError>,
+    text: &[u8],
+    place: usize,
+    byte: u8,
+) -> bool {
+    match said {
+        Ok(Judgement::Legal) => text.get(place) == Some(&byte),
+        Ok(Judgement::Illegal { line, .. }) => {
+            text.get(place) != Some(&byte) && line >= line_at(text, place) as u64
+        }
+        Err(_) => false,
+    }
+}
+
+// Whether a journal with another byte at a place is bad at that line where this breaks it, and else judged.
+fn is_right_byte(
+    alloc: Global,
+    domain: &Arc<Domain>,
+    text: &[u8],
+    place: usize,
+    byte: u8,
+) -> Option<bool> {
+    let said = said(alloc, domain, &changed(alloc, text, place, byte)?);
+    Some(if breaks(text, place, byte) {
+        is_bad_at(said, text, place)
+    } else {
+        is_right_judgement(said, text, place, byte)
+    })
+}
+
+// Whether all is right at a place.
+fn is_right_at(alloc: Global, domain: &Arc<Domain>, text: &[u8], place: usize) -> bool {
+    is_right_cut(alloc, domain, text, place) == Some(true)
+        && BYTES.iter().all(|byte| is_right_byte(alloc, domain, text, place, *byte) == Some(true))
+}
+
+// Whether all is right at each place of a journal, and the whole of it.
+fn is_right(alloc: Global, domain: &[u8], text: &[u8]) -> Option<bool> {
+    let domain = domain_of(alloc, domain).ok()?;
+    for place in 0..text.len() {
+        if !is_right_at(alloc, &domain, text, place) {
+            return Some(false);
+        }
+    }
+    is_right_cut(alloc, &domain, text, text.len())
+}
+
+#[test]
+fn broken_journals(rt: HostRuntime) {
+    for (domain, text) in &JOURNALS {
+        assert!(rt; is_right(rt.alloc(), domain, text) == Some(true));
+    }
+}
