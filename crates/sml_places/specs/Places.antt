@@ -1,0 +1,16 @@
+-- Where a byte of a text stands, as people count it.
+use Rattle.std.specs.Prelude.{◌≡◌, ◌==◌, ◌⊎◌, ◌+◌, ◌≤◌, ℕ, List, length, count_by, slice_get, Some}
+use Rattle.sml_places.specs.declared.place.Place.{Place}
+
+-- a line begins here: at the front of the bytes, or behind a line feed
+abbrev pub LineBegins : List ℕ → ℕ → Type 0
+LineBegins text at = (at ≡ 0) ⊎ ((i : ℕ) × (at ≡ i + 1) × (slice_get text i ≡ Some 10))
+
+-- no line feed stands from here on
+abbrev pub NoLineFeedFrom : ℕ → List ℕ → Type 0
+NoLineFeedFrom at text = (i : ℕ) → at ≤ i → slice_get text i ≡ Some 10 → ⊥
+
+-- the place of what stands behind these bytes: one line more than they have line feeds, and one column more than there are bytes in their last line
+abbrev pub IsPlace : List ℕ → Place → Type 0
+IsPlace before p = (p.line ≡ count_by (λ b. b == 10) before + 1)
+    × ((at : ℕ) × LineBegins before at × NoLineFeedFrom at before × (at + p.column ≡ length before + 1))
