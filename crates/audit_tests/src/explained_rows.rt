@@ -87,7 +87,7 @@ line 6: post C OUT 0 TAKE (V = 3, W = \"none\")
         Setting::Supplies,
         b"start RUN @1 0 SWITCH_ON\n",
         "line 2: start RUN @1 0 SWITCH_ON
-the class of RUN has no such action with these arguments.
+no state of the class of RUN declares SWITCH_ON.
 ",
     ),
 ];

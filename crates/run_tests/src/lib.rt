@@ -4,6 +4,8 @@
 #[cfg(test)]
 mod devices;
 #[cfg(test)]
+mod late;
+#[cfg(test)]
 mod one_by_one;
 #[cfg(test)]
 mod openings;

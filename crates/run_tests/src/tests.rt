@@ -1,5 +1,6 @@
 //! Runs of two supplies and what switches them on.
 
+use crate::late::drops_late_answers;
 use crate::one_by_one::{Asked, Case, Ended, NONE, answers, misses_one};
 use crate::openings::refuses;
 use crate::reports::Wanted;
@@ -328,5 +329,12 @@ fn not_opened(rt: HostRuntime) {
     ];
     for opening in &openings {
         assert!(rt; refuses(rt, rt.alloc(), opening));
+    }
+}
+
+#[test]
+fn late_answer(rt: HostRuntime) {
+    for _ in 0..RUNS {
+        assert!(rt; drops_late_answers(rt, rt.alloc()));
     }
 }

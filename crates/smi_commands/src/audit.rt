@@ -6,6 +6,7 @@ ghost use Rattle.smi_audit.specs.Audit.{Judges};
 ghost use Rattle.smi_commands.specs.Ruling.{IsNotJudged, ruling_status, ruling_text};
 ghost use Rattle.smi_commands.specs.declared.audit.TheConstants.{LONGEST_JOURNAL};
 
+use crate::advice::Advice;
 use crate::fault::Fault;
 use crate::loading::load_domain;
 use crate::ruling::Ruling;
@@ -47,10 +48,11 @@ pub fn run_audit<'a, R: Files + AllocGlobal, I: Read, W: Write, E: Write>(
     input: &mut I,
     output: &mut W,
     errors: &mut E,
+    advice: &mut Advice,
 ) -> Result<u8, Fault<'a>>
     ensures { IfOk result (λ status. status ≤ 4) }
 {
-    let domain = match load_domain(rt, input, options.file) {
+    let domain = match load_domain(rt, input, options.file, advice) {
         Ok(domain) => domain,
         Err(fault) => return Err(fault),
     };
@@ -66,6 +68,9 @@ pub fn run_audit<'a, R: Files + AllocGlobal, I: Read, W: Write, E: Write>(
         output,
         errors,
     );
+    if let Err(fault) = &judged {
+        advice.of_journal(&domain, options.journal, bytes.as_slice(), fault);
+    }
     drop(domain);
     drop(bytes);
     judged
@@ -145,7 +150,7 @@ fn explain_ruling<E: Sink>(
 }
 
 // The bytes of a journal.
-fn load_journal<'a, R: Files + AllocGlobal, I: Read>(
+pub(crate) fn load_journal<'a, R: Files + AllocGlobal, I: Read>(
     rt: &R,
     input: &mut I,
     journal: &'a str,

@@ -3,21 +3,25 @@
 ghost use Rattle.std.specs.Prelude.{◌≤◌, IfOk};
 ghost use Rattle.smi_commands.specs.Judgement.{IsTold};
 
+use crate::advice::Advice;
 use crate::fault::{Fault, tell_cause};
 use crate::judgement::{Judgement, judge};
 use crate::text::load_text;
 use bumpalo::Bump;
-use std::alloc::{AllocError, Allocator};
+use sml_text::writing::Sink;
+use std::alloc::{AllocError, Allocator, Global};
 use std::fs::Files;
 use std::io::{BufWriter, Read, Write};
 
 /// Tells of each file whether it is well-formed, or why not, and gives the exit status. A refused or
 /// unreadable file is told, and the next follows; a fault of the output, or being out of memory, ends it.
-/// Why a file is unreadable goes to `errors`. Each tree lies in an arena that is emptied for the next file. The
+/// Why a file is unreadable goes to `errors`, and where it is asked for, what is advised on a refused file, once its line
+/// is written out. Each tree lies in an arena that is emptied for the next file. The
 /// text of each file is handed to `judge`, and the line is that of its judgement.
 pub fn run_check<R: Files + AllocGlobal, I: Read, W: Write, E: Write>(
     rt: &R,
     files: &[&str],
+    explain: bool,
     input: &mut I,
     output: &mut W,
     errors: &mut E,
@@ -27,7 +31,7 @@ pub fn run_check<R: Files + AllocGlobal, I: Read, W: Write, E: Write>(
     let Ok(mut writer) = BufWriter::new(rt.alloc(), &mut *output) else {
         return Err(Fault::Memory);
     };
-    let told = tell_files(rt, files, input, &mut writer, errors);
+    let told = tell_files(rt, files, explain, input, &mut writer, errors);
     // After a fault too: what was told before it is written.
     let flushed = writer.flush();
     match told {
@@ -41,6 +45,7 @@ pub fn run_check<R: Files + AllocGlobal, I: Read, W: Write, E: Write>(
 fn tell_files<R: Files + AllocGlobal, I: Read, W: Write, E: Write>(
     rt: &R,
     files: &[&str],
+    explain: bool,
     input: &mut I,
     writer: &mut W,
     errors: &mut E,
@@ -50,11 +55,15 @@ fn tell_files<R: Files + AllocGlobal, I: Read, W: Write, E: Write>(
     let mut arena = Bump::new(rt.alloc());
     let mut worst = 0;
     for file in files {
-        let Ok(judgement) = judge_file(rt, &arena, file, input, errors) else {
+        let mut text = Vec::new(rt.alloc());
+        let Ok(judgement) = judge_file(rt, &arena, file, &mut text, input, errors) else {
             return Err(Fault::Memory);
         };
         if writeln!(writer, "{file} {judgement}").is_err() {
             return Err(Fault::Output);
+        }
+        if explain && writer.flush().is_ok() {
+            advise(rt.alloc(), file, text.as_slice(), judgement, errors);
         }
         worst = worst.max(judgement.status());
         if arena.reset().is_err() {
@@ -64,19 +73,35 @@ fn tell_files<R: Files + AllocGlobal, I: Read, W: Write, E: Write>(
     Ok(worst)
 }
 
-// Judges the file of a path. The error is out of memory, while the text is read (`Judgement::of_input`) or
-// judged.
+// Writes what is advised on a text that was judged so.
+fn advise<E: Sink>(heap: Global, file: &str, text: &[u8], judgement: Judgement, errors: &mut E) {
+    let fault = match judgement {
+        Judgement::Read(error) => Fault::of_text(file, error),
+        Judgement::Check(error) => Fault::of_file(file, error),
+        Judgement::Good | Judgement::Unreadable => return,
+    };
+    let mut advice = Advice::new(heap, true);
+    advice.of_domain(heap, file, text, &fault);
+    advice.tell(errors);
+}
+
+// Judges the file of a path, and gives its text. The error is out of memory, while the text is read
+// (`Judgement::of_input`) or judged.
 fn judge_file<R: Files + AllocGlobal, A: Allocator + Clone, I: Read, E: Write>(
     rt: &R,
     alloc: A,
     file: &str,
+    text: &mut Vec<u8>,
     input: &mut I,
     errors: &mut E,
 ) -> Result<Judgement, AllocError>
     ensures { IfOk result IsTold }
 {
     match load_text(rt, input, file) {
-        Ok(text) => judge(rt.alloc(), alloc, text.as_slice()),
+        Ok(read) => {
+            *text = read;
+            judge(rt.alloc(), alloc, text.as_slice())
+        }
         Err(error) => {
             let judgement = Judgement::of_input(&error)?;
             tell_cause(file, &error, errors);

@@ -3,6 +3,7 @@ ghost use Rattle.std.specs.Prelude.{IfOk};
 ghost use Rattle.std.specs.Arc.{arc_value};
 ghost use Rattle.sml_checkable.specs.Texts.{IsDomainOfText};
 
+use crate::advice::Advice;
 use crate::fault::Fault;
 use crate::text::load_text;
 use sml_checkable::TextFault;
@@ -12,16 +13,31 @@ use std::fs::Files;
 use std::io::Read;
 use std::sync::Arc;
 
-/// The domain of a file, which is read and checked.
+/// The domain of a file, which is read and checked. What is advised on a fault of its text goes to the advice.
 pub fn load_domain<'a, R: Files + AllocGlobal, I: Read>(
     rt: &R,
     input: &mut I,
     file: &'a str,
+    advice: &mut Advice,
 ) -> Result<Arc<Domain>, Fault<'a>> {
     match load_text(rt, input, file) {
-        Ok(text) => domain_of_bytes(rt.alloc(), file, text.as_slice()),
+        Ok(text) => advised_domain(rt.alloc(), file, text.as_slice(), advice),
         Err(error) => Err(Fault::of_input(file, &error)),
     }
+}
+
+// The domain of the text of a file. What is advised on a fault goes to the advice.
+fn advised_domain<'a>(
+    heap: Global,
+    file: &'a str,
+    text: &[u8],
+    advice: &mut Advice,
+) -> Result<Arc<Domain>, Fault<'a>> {
+    let domain = domain_of_bytes(heap, file, text);
+    if let Err(fault) = &domain {
+        advice.of_domain(heap, file, text, fault);
+    }
+    domain
 }
 
 /// The domain of the text of a file, which is read and checked. It is shared, as cores and judges keep it.

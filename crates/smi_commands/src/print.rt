@@ -5,6 +5,7 @@ ghost use Rattle.sml_tree.specs.Syntax.{ItemData};
 ghost use Rattle.sml_read.specs.Promise.{IsFileOf};
 ghost use Rattle.sml_print.specs.Items.{file_text};
 
+use crate::advice::Advice;
 use crate::fault::Fault;
 use crate::text::load_text;
 use bumpalo::Bump;
@@ -14,17 +15,34 @@ use std::fs::Files;
 use std::io::{BufWriter, Read, Write};
 
 /// Prints the canonical text of a domain file, which is read and not checked. At a fault of the
-/// output a prefix of the text is written. What is read is handed to `print_text`.
+/// output a prefix of the text is written. What is read is handed to `print_text`, and what is advised on it goes to the
+/// advice.
 pub fn run_print<'a, R: Files + AllocGlobal, I: Read, W: Write>(
     rt: &R,
     file: &'a str,
     input: &mut I,
     output: &mut W,
+    advice: &mut Advice,
 ) -> Result<(), Fault<'a>> {
     match load_text(rt, input, file) {
-        Ok(text) => print_all(rt.alloc(), file, text.as_slice(), output),
+        Ok(text) => print_advised(rt.alloc(), file, text.as_slice(), output, advice),
         Err(error) => Err(Fault::of_input(file, &error)),
     }
+}
+
+// Prints the text to its end. What is advised on a fault of it goes to the advice.
+fn print_advised<'a, W: Write>(
+    heap: Global,
+    file: &'a str,
+    text: &[u8],
+    output: &mut W,
+    advice: &mut Advice,
+) -> Result<(), Fault<'a>> {
+    let printed = print_all(heap, file, text, output);
+    if let Err(fault) = &printed {
+        advice.of_domain(heap, file, text, fault);
+    }
+    printed
 }
 
 // Prints the text to its end.

@@ -1,5 +1,6 @@
 //! The command `step`: a domain and a schedule go in, and what was done comes out.
 ghost use Rattle.std.specs.Prelude.{◌≡◌, ◌≤◌, ℕ, List, Err, IfOk, IfSome, OnErr, OnOk, length};
+ghost use Rattle.std.specs.Arc.{arc_value};
 ghost use Rattle.std.specs.Io.KnownBytes.{Appends, Consumes, IsAtEnd};
 ghost use Rattle.sml_text.specs.Written.{Wrote, WroteFront};
 ghost use Rattle.sml_checkable.specs.Texts.{IsDomainOfText};
@@ -10,17 +11,23 @@ ghost use Rattle.smi_core.specs.Output.{LineWrites};
 ghost use Rattle.smi_core.specs.declared.schedule.TheConstants.{LONGEST_SCHEDULE};
 ghost use Rattle.smi_commands.specs.Paths.{IsReadAs};
 
+use crate::advice::Advice;
 use crate::fault::Fault;
 use crate::loading::domain_of_bytes;
+use crate::notes::Notes;
 use crate::same_file::is_one_read;
+use crate::status::{DONE, REFUSED};
 use crate::text::{STANDARD_INPUT, load_text};
-use smi_core::{Core, Input, run_schedule};
+use smi_core::{Core, Input, Lookout, run_watched_schedule};
 use smi_journal::journal_text::write_journal;
+use smi_standing::standing::tell_standing;
+use sml_domain::domain::Domain;
 use sml_text::writing::{Sink, WriteFault};
-use std::alloc::Global;
+use std::alloc::{AllocError, Global};
 use std::fs;
 use std::fs::Files;
 use std::io::{BufWriter, LineWriter, Read, Write};
+use std::sync::Arc;
 
 /// What `step` is asked to do. The texts are words of a command line.
 #[derive(Drop)]
@@ -35,55 +42,84 @@ pub struct StepOptions<'a> {
     pub max_starts: usize,
     /// The path that the journal is written to, if it is. `-` is a file of that name, and a file that is read is refused.
     pub journal: Option<&'a str>,
+    /// Whether a refused line makes the status that of a refusal.
+    pub strict: bool,
+    /// Whether it is told why a line was refused.
+    pub explain: bool,
+    /// Whether it is written in the end how all stands.
+    pub states: bool,
 }
 
-/// Runs the schedule on the domain, and writes the journal where that is asked for.
+/// Runs the schedule on the domain, writes in the end how all stands and the journal where that is asked for, and gives the
+/// exit status: `DONE`, and in a strict run `REFUSED` where a line was refused.
 ///
 /// A journal with the path of the domain or of the schedule is refused before anything is read
 /// (`Fault::Overwrites`). The domain is read and checked before the schedule is opened. Then the file of the journal
 /// is made, or emptied, before the first step; the journal is written to it when all the output is written. The
 /// schedule is read as it runs, so at a fault a prefix of the output is written, and nothing of the journal. Where
-/// it is standard input, what the lines that were read write is written out before more is read.
+/// it is standard input, what the lines that were read write is written out before more is read. Why a line was refused
+/// goes to `errors` once the line of its refusal is written out, and what is advised on the domain to `advice`.
 ///
 /// What is read is handed to `core_of_bytes` and `run_steps`, and the core then to `write_run`.
-pub fn run_step<'a, R: Files + AllocGlobal, I: Read, W: Write>(
+pub fn run_step<'a, R: Files + AllocGlobal, I: Read, W: Write, E: Write>(
     rt: &R,
     options: &StepOptions<'a>,
     input: &mut I,
     output: &mut W,
-) -> Result<(), Fault<'a>>
+    errors: &mut E,
+    advice: &mut Advice,
+) -> Result<u8, Fault<'a>>
     ensures domain_stays { IfSome options.now.journal (λ path. IsReadAs options.now.file.now path.now
         → result ≡ Err (Fault.Overwrites path)) }
     ensures schedule_stays { IfSome options.now.journal (λ path. IsReadAs options.now.schedule.now path.now
         → result ≡ Err (Fault.Overwrites path)) }
+    ensures range { IfOk result (λ status. status ≤ 1) }
 {
     if let Some(path) = options.journal {
         if is_one_read(rt, options.file, options.schedule, path) {
             return Err(Fault::Overwrites(path));
         }
     }
-    let mut core = match load_core(rt, options, input) {
-        Ok(core) => core,
+    let (mut core, domain) = match load_core(rt, options, input, advice) {
+        Ok(made) => made,
         Err(fault) => return Err(fault),
     };
-    let done = run_in(rt, &mut core, options, input, output);
+    let notes = Notes::new(rt.alloc(), options, &domain, errors);
+    let done = run_noted(rt, &mut core, input, output, notes);
     drop(core);
+    drop(domain);
     done
 }
 
-// The core of a domain file.
+// The core of a domain file, and its domain.
 fn load_core<'a, R: Files + AllocGlobal, I: Read>(
     rt: &R,
     options: &StepOptions<'a>,
     input: &mut I,
-) -> Result<Core, Fault<'a>> {
+    advice: &mut Advice,
+) -> Result<(Core, Arc<Domain>), Fault<'a>> {
     match load_text(rt, input, options.file) {
-        Ok(text) => core_of_bytes(rt.alloc(), options, text.as_slice()),
+        Ok(text) => advised_core(rt.alloc(), options, text.as_slice(), advice),
         Err(error) => Err(Fault::of_input(options.file, &error)),
     }
 }
 
-/// The core of the text of a domain file, in the opening world of its domain, with the limits of the options.
+// The core of the text of a domain file, and its domain. What is advised on a fault goes to the advice.
+fn advised_core<'a>(
+    heap: Global,
+    options: &StepOptions<'a>,
+    text: &[u8],
+    advice: &mut Advice,
+) -> Result<(Core, Arc<Domain>), Fault<'a>> {
+    let made = core_of_bytes(heap, options, text);
+    if let Err(fault) = &made {
+        advice.of_domain(heap, options.file, text, fault);
+    }
+    made
+}
+
+/// The core of the text of a domain file, in the opening world of its domain, with the limits of the options, and that
+/// domain.
 ///
 /// The cost is that of reading, of checking and of `Core::new`. The error is the fault of the file, by its path,
 /// `WrongNumbers` or `Memory`.
@@ -91,121 +127,143 @@ pub fn core_of_bytes<'a>(
     heap: Global,
     options: &StepOptions<'a>,
     text: &[u8],
-) -> Result<Core, Fault<'a>>
-    ensures domain { IfOk result (λ core. IsDomainOfText text.now core.setup.domain) }
-    ensures limits { IfOk result (λ core. (core.setup.capacity ≡ options.now.capacity)
-        × (core.setup.max_starts ≡ options.now.max_starts)) }
-    ensures opening { IfOk result (λ core. core.world ≡ opening core.setup) }
+) -> Result<(Core, Arc<Domain>), Fault<'a>>
+    ensures domain { IfOk result (λ made. IsDomainOfText text.now made.0.setup.domain) }
+    ensures shared { IfOk result (λ made. made.0.setup.domain ≡ arc_value made.1) }
+    ensures limits { IfOk result (λ made. (made.0.setup.capacity ≡ options.now.capacity)
+        × (made.0.setup.max_starts ≡ options.now.max_starts)) }
+    ensures opening { IfOk result (λ made. made.0.world ≡ opening made.0.setup) }
 {
     let domain = match domain_of_bytes(heap, options.file, text) {
         Ok(domain) => domain,
         Err(fault) => return Err(fault),
     };
-    match Core::new(heap, domain, options.capacity, options.max_starts) {
-        Ok(core) => Ok(core),
+    let Ok(shared) = Arc::try_clone(&domain) else {
+        return Err(Fault::Memory);
+    };
+    match Core::new(heap, shared, options.capacity, options.max_starts) {
+        Ok(core) => Ok((core, domain)),
         Err(error) => Err(Fault::of_core(error)),
     }
 }
 
-// Runs the schedule in the core of the domain, and writes the journal where that is asked for.
-fn run_in<'a, R: Files + AllocGlobal, I: Read, W: Write>(
+// Runs the schedule in the core of the domain, and gives the exit status.
+fn run_noted<'a, R: Files + AllocGlobal, I: Read, W: Write, E: Write>(
     rt: &R,
     core: &mut Core,
-    options: &StepOptions<'a>,
     input: &mut I,
     output: &mut W,
+    notes: Result<Notes<'_, 'a, E>, AllocError>,
+) -> Result<u8, Fault<'a>>
+    ensures { IfOk result (λ status. status ≤ 1) }
+{
+    let Ok(mut notes) = notes else {
+        return Err(Fault::Memory);
+    };
+    match run_in(rt, core, input, output, &mut notes) {
+        Ok(()) if notes.options.strict && notes.is_refused => Ok(REFUSED),
+        Ok(()) => Ok(DONE),
+        Err(fault) => Err(fault),
+    }
+}
+
+// Runs the schedule in the core of the domain, and writes the journal where that is asked for.
+fn run_in<'a, R: Files + AllocGlobal, I: Read, W: Write, E: Write>(
+    rt: &R,
+    core: &mut Core,
+    input: &mut I,
+    output: &mut W,
+    notes: &mut Notes<'_, 'a, E>,
 ) -> Result<(), Fault<'a>> {
+    let options = notes.options;
     if options.schedule == STANDARD_INPUT {
-        return run_input(rt, core, options, input, output);
+        return run_by_lines(rt, core, input, output, notes);
     }
     match fs::open(rt, options.schedule) {
-        Ok(mut reader) => run_file(rt, core, options, &mut reader, output),
+        Ok(mut reader) if options.explain => run_by_lines(rt, core, &mut reader, output, notes),
+        Ok(mut reader) => run_file(rt, core, &mut reader, output, notes),
         Err(error) => Err(Fault::of_input(options.schedule, &error)),
     }
 }
 
-// Runs the schedule that standard input is. Who gives its lines one by one sees the answer to each.
-fn run_input<'a, R: Files + AllocGlobal, I: Read, W: Write>(
+// Runs a schedule, and writes each line out before more is read. So who gives the lines of standard input one by one sees
+// the answer to each, and why a line was refused is told behind it.
+fn run_by_lines<'a, R: Files + AllocGlobal, I: Read, W: Write, E: Write>(
     rt: &R,
     core: &mut Core,
-    options: &StepOptions<'a>,
-    input: &mut I,
+    reader: &mut I,
     output: &mut W,
+    notes: &mut Notes<'_, 'a, E>,
 ) -> Result<(), Fault<'a>> {
     match LineWriter::new(rt.alloc(), &mut *output) {
-        Ok(mut writer) => run_opened(rt, core, options, input, &mut writer),
+        Ok(mut writer) => run_opened(rt, core, reader, &mut writer, notes),
         Err(_) => Err(Fault::Memory),
     }
 }
 
 // Runs the schedule of a file.
-fn run_file<'a, R: Files + AllocGlobal, I: Read, W: Write>(
+fn run_file<'a, R: Files + AllocGlobal, I: Read, W: Write, E: Write>(
     rt: &R,
     core: &mut Core,
-    options: &StepOptions<'a>,
     reader: &mut I,
     output: &mut W,
+    notes: &mut Notes<'_, 'a, E>,
 ) -> Result<(), Fault<'a>> {
     match BufWriter::new(rt.alloc(), &mut *output) {
-        Ok(mut writer) => run_opened(rt, core, options, reader, &mut writer),
+        Ok(mut writer) => run_opened(rt, core, reader, &mut writer, notes),
         Err(_) => Err(Fault::Memory),
     }
 }
 
 // Runs a schedule that was opened, and writes the journal where that is asked for. The file of the journal is made
 // before the first step, so that no step is made whose journal has no place.
-fn run_opened<'a, R: Files + AllocGlobal, I: Read, W: Write>(
+fn run_opened<'a, R: Files + AllocGlobal, I: Read, W: Write, E: Write>(
     rt: &R,
     core: &mut Core,
-    options: &StepOptions<'a>,
     reader: &mut I,
     writer: &mut W,
+    notes: &mut Notes<'_, 'a, E>,
 ) -> Result<(), Fault<'a>> {
-    let Some(path) = options.journal else {
-        return run_all(rt.alloc(), core, options.schedule, reader, writer);
+    let Some(path) = notes.options.journal else {
+        return run_all(rt.alloc(), core, reader, writer, notes);
     };
     match fs::create(rt, path) {
-        Ok(mut file) => run_kept(
-            rt.alloc(),
-            core,
-            options.schedule,
-            reader,
-            writer,
-            path,
-            &mut file,
-        ),
+        Ok(mut file) => run_kept(rt.alloc(), core, reader, writer, notes, path, &mut file),
         Err(error) => Err(Fault::JournalUnwritten(path, Some(error))),
     }
 }
 
 // Runs a schedule, and then writes the journal to its file.
-fn run_kept<'a, I: Read, W: Write, J: Write>(
+fn run_kept<'a, I: Read, W: Write, E: Write, J: Write>(
     heap: Global,
     core: &mut Core,
-    schedule: &'a str,
     reader: &mut I,
     writer: &mut W,
+    notes: &mut Notes<'_, 'a, E>,
     path: &'a str,
     file: &mut J,
 ) -> Result<(), Fault<'a>> {
     let Ok(mut kept) = BufWriter::new(heap, &mut *file) else {
         return Err(Fault::Memory);
     };
-    match run_all(heap, core, schedule, reader, writer) {
+    match run_all(heap, core, reader, writer, notes) {
         Ok(()) => write_all_of(core, path, &mut kept),
         Err(fault) => Err(fault),
     }
 }
 
-// Runs a schedule, and writes out all of what it writes.
-fn run_all<'a, I: Read, W: Write>(
+// Runs a schedule, and writes out all of what it writes, and behind it how all stands where that is asked for.
+fn run_all<'a, I: Read, W: Write, E: Write>(
     heap: Global,
     core: &mut Core,
-    schedule: &'a str,
     reader: &mut I,
     writer: &mut W,
+    notes: &mut Notes<'_, 'a, E>,
 ) -> Result<(), Fault<'a>> {
-    let ran = run_steps(heap, core, schedule, reader, writer);
+    let mut ran = run_steps(heap, core, notes.options.schedule, reader, writer, notes);
+    if ran.is_ok() && notes.options.states {
+        ran = tell_states(heap, core, notes, writer);
+    }
     // After a fault too: what was done before it is told.
     let flushed = writer.flush();
     match ran {
@@ -215,23 +273,46 @@ fn run_all<'a, I: Read, W: Write>(
     }
 }
 
-/// Runs the steps of a schedule of this path in a core, and writes what they write.
+// Writes how all stands.
+fn tell_states<'a, W: Sink, E>(
+    heap: Global,
+    core: &Core,
+    notes: &Notes<'_, 'a, E>,
+    writer: &mut W,
+) -> Result<(), Fault<'a>> {
+    let mut failed = false;
+    match tell_standing(
+        heap,
+        notes.domain,
+        core,
+        &notes.history,
+        writer,
+        &mut failed,
+    ) {
+        Ok(()) if !failed => Ok(()),
+        Ok(()) => Err(Fault::Output),
+        Err(_) => Err(Fault::Memory),
+    }
+}
+
+/// Runs the steps of a schedule of this path in a core, and writes what they write. The lookout is told of each line.
 ///
 /// Cost, memory and what is done at a fault are those of `run_schedule`. The error is the fault of the schedule, by
 /// its path, `Output` or `Memory`.
-pub fn run_steps<'a, I: Input, W: Sink>(
+pub fn run_steps<'a, I: Input, W: Sink, L: Lookout>(
     heap: Global,
     core: &mut Core,
     schedule: &'a str,
     reader: &mut I,
     writer: &mut W,
+    lookout: &mut L,
 ) -> Result<(), Fault<'a>>
     ensures { OnOk result ((text : List ℕ) × Consumes (I.remaining reader.old) (I.remaining reader.new) text
         × IsAtEnd (I.remaining reader.new) × (length text ≤ LONGEST_SCHEDULE)
         × ((out : List ℕ) × Appends (W.contents writer.old) (W.contents writer.new) out
         × Outputs LineWrites core.old (lines_of text) out core.new)) }
 {
-    match run_schedule(heap, core, reader, writer) {
+    match run_watched_schedule(heap, core, reader, writer, lookout) {
         Ok(()) => Ok(()),
         Err(fault) => Err(Fault::of_schedule(schedule, fault)),
     }

@@ -2,12 +2,14 @@
 //! and its answer consist of, and the core itself, are re-exported from the crates that define them.
 #![tactic(auto)]
 
+mod lookout;
 mod runs;
 mod schedule;
 mod schedule_laws;
 
+pub use lookout::{LookAway, Lookout, Taken};
 pub use runs::run;
-pub use schedule::{Input, LONGEST_SCHEDULE, ScheduleFault, run_schedule};
+pub use schedule::{Input, LONGEST_SCHEDULE, ScheduleFault, run_schedule, run_watched_schedule};
 pub use schedule_laws::every_schedule;
 pub use smi_entry::session::SessionId;
 pub use smi_lines::line::{LONGEST_LINE, LineError, read_step};

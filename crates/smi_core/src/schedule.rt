@@ -9,6 +9,7 @@ ghost use Rattle.smi_core.specs.Output.{Writes, LineWrites};
 ghost use Rattle.smi_core.specs.FaultText.{schedule_fault_text};
 ghost use Rattle.smi_core.specs.declared.schedule.TheConstants.{LONGEST_SCHEDULE};
 
+use crate::lookout::{LookAway, Lookout, Taken};
 use smi_entry::entry::Entry;
 use smi_lines::answer::{tell_answer, tell_refused};
 use smi_lines::line::{LONGEST_LINE, LineError, read_step};
@@ -71,11 +72,12 @@ impl LineFault {
 /// How many bytes a schedule may have.
 pub const LONGEST_SCHEDULE: usize = 16_777_216;
 
-// What is kept of a line whose end has not come: its bytes, unless there are too many.
+// What is kept of a line whose end has not come: its bytes, or the first of them where there are too many, and its number.
 #[derive(Drop)]
 struct Pending {
     kept: Vec<u8>,
     over: bool,
+    number: usize,
 }
 
 impl Pending {
@@ -86,11 +88,8 @@ impl Pending {
         if self.over {
             return Ok(());
         }
-        if self.kept.len() >= LONGEST_LINE {
-            self.over = true;
-            return Ok(());
-        }
         self.kept.push(b)?;
+        self.over = self.kept.len() > LONGEST_LINE;
         Ok(())
     }
 
@@ -111,6 +110,15 @@ impl Pending {
     {
         self.kept.clear();
         self.over = false;
+        self.number = self.number.saturating_add(1);
+    }
+
+    // The line as it is shown to others.
+    fn taken(&self) -> Taken<'_> {
+        Taken {
+            number: self.number,
+            text: &self.kept,
+        }
     }
 }
 
@@ -126,11 +134,13 @@ fn behind(entries: &[Entry], first: usize) -> &[Entry]
 }
 
 // Makes a step and writes its lines. One that is out of memory changes nothing and writes nothing.
-fn make_step<W: Sink>(
+fn make_step<W: Sink, L: Lookout>(
     core: &mut Core,
     writer: &mut W,
     failed: &mut bool,
     step: &Step,
+    taken: Taken<'_>,
+    lookout: &mut L,
 ) -> Result<(), AllocError>
     ensures ok { OnOk result ((out : List ℕ) × Writes core.old (Ok (Some step.now)) out core.new × Told (W.contents writer.old) failed.old (W.contents writer.new) failed.new out) }
     ensures err { OnErr result ((core.new ≡ core.old) × (W.contents writer.new ≡ W.contents writer.old)) }
@@ -143,11 +153,18 @@ fn make_step<W: Sink>(
     }
     let added = behind(core.journal(), first);
     tell_answer(writer, failed, core.domain(), step, &answer, added);
+    lookout.answered(core, taken, step, &answer, added);
     Ok(())
 }
 
 // Makes a step and writes its lines, or the first part of them.
-fn step_line<W: Sink>(core: &mut Core, writer: &mut W, step: &Step) -> Result<(), LineFault>
+fn step_line<W: Sink, L: Lookout>(
+    core: &mut Core,
+    writer: &mut W,
+    step: &Step,
+    taken: Taken<'_>,
+    lookout: &mut L,
+) -> Result<(), LineFault>
     ensures ok { OnOk result ((out : List ℕ) × Writes core.old (Ok (Some step.now)) out core.new × Appends (W.contents writer.old) (W.contents writer.new) out) }
     ensures err { OnErr result
         (((core.new ≡ core.old) × Appends (W.contents writer.old) (W.contents writer.new) [])
@@ -155,7 +172,7 @@ fn step_line<W: Sink>(core: &mut Core, writer: &mut W, step: &Step) -> Result<()
     ensures write { result ≡ Err LineFault.Write → W.has_refused writer.new }
 {
     let mut failed = false;
-    let Ok(()) = make_step(core, writer, &mut failed, step) else {
+    let Ok(()) = make_step(core, writer, &mut failed, step, taken, lookout) else {
         return Err(LineFault::Memory);
     };
     if failed {
@@ -179,10 +196,12 @@ fn bad_line<W: Sink>(writer: &mut W) -> Result<(), LineFault>
 }
 
 // Does what a line asks and writes what it writes, or the first part of that.
-fn make_line<W: Sink>(
+fn make_line<W: Sink, L: Lookout>(
     core: &mut Core,
     writer: &mut W,
     asked: Result<Option<Step>, LineError>,
+    taken: Taken<'_>,
+    lookout: &mut L,
 ) -> Result<(), LineFault>
     ensures ok { OnOk result ((out : List ℕ) × Writes core.old asked out core.new × Appends (W.contents writer.old) (W.contents writer.new) out) }
     ensures err { OnErr result
@@ -191,19 +210,24 @@ fn make_line<W: Sink>(
     ensures write { result ≡ Err LineFault.Write → W.has_refused writer.new }
 {
     match asked {
-        Err(LineError::BadLine) => bad_line(writer),
+        Err(LineError::BadLine) => {
+            let told = bad_line(writer);
+            lookout.bad_line(core, taken);
+            told
+        }
         Err(LineError::Memory) => Err(LineFault::Memory),
         Ok(None) => Ok(()),
-        Ok(Some(step)) => step_line(core, writer, &step),
+        Ok(Some(step)) => step_line(core, writer, &step, taken, lookout),
     }
 }
 
 // Ends the line: does what it asks, writes what it writes, and begins the next line.
-fn end_line<W: Sink>(
+fn end_line<W: Sink, L: Lookout>(
     alloc: Global,
     core: &mut Core,
     writer: &mut W,
     pending: &mut Pending,
+    lookout: &mut L,
 ) -> Result<(), LineFault>
     ensures ok { (line : List ℕ) → IsPending pending.old.kept.items pending.old.over line → OnOk result
         ((out : List ℕ) × LineWrites core.old line out core.new × Appends (W.contents writer.old) (W.contents writer.new) out × IsPending pending.new.kept.items pending.new.over []) }
@@ -212,18 +236,19 @@ fn end_line<W: Sink>(
     ensures write { result ≡ Err LineFault.Write → W.has_refused writer.new }
 {
     let asked = pending.read(alloc);
-    if let Err(fault) = make_line(core, writer, asked) {
+    if let Err(fault) = make_line(core, writer, asked, pending.taken(), lookout) {
         return Err(fault);
     }
     pending.clear();
     Ok(())
 }
 
-fn feed_byte<W: Sink>(
+fn feed_byte<W: Sink, L: Lookout>(
     alloc: Global,
     core: &mut Core,
     writer: &mut W,
     pending: &mut Pending,
+    lookout: &mut L,
     b: u8,
 ) -> Result<(), LineFault>
     ensures ok { (line : List ℕ) → IsPending pending.old.kept.items pending.old.over line → OnOk result
@@ -233,7 +258,7 @@ fn feed_byte<W: Sink>(
     ensures write { result ≡ Err LineFault.Write → W.has_refused writer.new }
 {
     if b == b'\n' {
-        return end_line(alloc, core, writer, pending);
+        return end_line(alloc, core, writer, pending, lookout);
     }
     let Ok(()) = pending.add(b) else {
         return Err(LineFault::Memory);
@@ -241,11 +266,12 @@ fn feed_byte<W: Sink>(
     Ok(())
 }
 
-fn feed_chunk<W: Sink>(
+fn feed_chunk<W: Sink, L: Lookout>(
     alloc: Global,
     core: &mut Core,
     writer: &mut W,
     pending: &mut Pending,
+    lookout: &mut L,
     chunk: &[u8],
 ) -> Result<(), LineFault>
     ensures ok { (line : List ℕ) → IsPending pending.old.kept.items pending.old.over line → OnOk result
@@ -255,7 +281,7 @@ fn feed_chunk<W: Sink>(
     ensures write { result ≡ Err LineFault.Write → W.has_refused writer.new }
 {
     for b in chunk {
-        if let Err(fault) = feed_byte(alloc, core, writer, pending, *b) {
+        if let Err(fault) = feed_byte(alloc, core, writer, pending, lookout, *b) {
             return Err(fault);
         }
     }
@@ -329,10 +355,35 @@ pub fn run_schedule<R: Input, W: Sink>(
     ensures read { result ≡ Err ScheduleFault.Read → R.has_failed reader.new }
     ensures write { result ≡ Err ScheduleFault.Write → W.has_refused writer.new }
 {
+    run_watched_schedule(alloc, core, reader, writer, &mut LookAway)
+}
+
+/// Runs a schedule as `run_schedule` does, with one who is told of each line.
+pub fn run_watched_schedule<R: Input, W: Sink, L: Lookout>(
+    alloc: Global,
+    core: &mut Core,
+    reader: &mut R,
+    writer: &mut W,
+    lookout: &mut L,
+) -> Result<(), ScheduleFault>
+    ensures ok { OnOk result ((text : List ℕ) × Consumes (R.remaining reader.old) (R.remaining reader.new) text × IsAtEnd (R.remaining reader.new) × (length text ≤ LONGEST_SCHEDULE)
+        × ((out : List ℕ) × Appends (W.contents writer.old) (W.contents writer.new) out × Outputs LineWrites core.old (lines_of text) out core.new)) }
+    ensures err { OnErr result ((text : List ℕ) × Consumes (R.remaining reader.old) (R.remaining reader.new) text
+        × FirstLines LineWrites core.old text (IsAtEnd (R.remaining reader.new)) (result ≡ Err ScheduleFault.Write)
+        (W.contents writer.old) (W.contents writer.new) core.new
+        × ((length text ≤ LONGEST_SCHEDULE) ⊎ (result ≡ Err ScheduleFault.TooLong))) }
+    ensures too_long { result ≡ Err ScheduleFault.TooLong → (text : List ℕ) × (more : List ℕ) × Consumes (R.remaining reader.old) (R.remaining reader.new) (text ++ more) × (LONGEST_SCHEDULE < length (text ++ more))
+        × WholeLines LineWrites core.old text (W.contents writer.old) (W.contents writer.new) core.new }
+    ensures cut { result ≡ Err ScheduleFault.Read → (text : List ℕ) × Consumes (R.remaining reader.old) (R.remaining reader.new) text
+        × WholeLines LineWrites core.old text (W.contents writer.old) (W.contents writer.new) core.new }
+    ensures read { result ≡ Err ScheduleFault.Read → R.has_failed reader.new }
+    ensures write { result ≡ Err ScheduleFault.Write → W.has_refused writer.new }
+{
     let mut buf = [0u8; 4096];
     let mut pending = Pending {
         kept: Vec::new(alloc),
         over: false,
+        number: 1,
     };
     let mut total = 0usize;
     'reads: loop {
@@ -346,11 +397,11 @@ pub fn run_schedule<R: Input, W: Sink>(
             return Err(ScheduleFault::TooLong);
         }
         total += n;
-        if let Err(fault) = feed_chunk(alloc, core, writer, &mut pending, &buf[..n]) {
+        if let Err(fault) = feed_chunk(alloc, core, writer, &mut pending, lookout, &buf[..n]) {
             return Err(fault.of_schedule());
         }
     }
-    match end_line(alloc, core, writer, &mut pending) {
+    match end_line(alloc, core, writer, &mut pending, lookout) {
         Ok(()) => Ok(()),
         Err(fault) => Err(fault.of_schedule()),
     }

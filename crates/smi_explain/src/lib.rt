@@ -2,6 +2,7 @@
 //! the earlier lines that this rests on. Nothing here decides anything: that is the judge's.
 #![tactic(auto)]
 
+mod bad_request;
 mod earlier;
 pub mod explain;
 mod sentence;

@@ -2,6 +2,7 @@
 ghost use Rattle.std.specs.Prelude.{IsTrue, length};
 ghost use Rattle.smi_ledger.specs.Tables.{IsKnown};
 
+use crate::bad_request::tell_bad_request;
 use crate::earlier::{is_fault_without_device, owner};
 use smi_audit::past::Past;
 use smi_entry::args::Reading;
@@ -19,8 +20,6 @@ const NOT_SENT: &[u8] = b"its sender posted no such request under this number";
 
 // What stands behind an object.
 const SKIPPED: &[u8] = b" does not declare the action, which is skipped";
-
-const NO_ACTION: &[u8] = b" has no such action with these arguments";
 
 const NO_STATE: &[u8] = b" has no such state";
 
@@ -288,7 +287,7 @@ pub(crate) fn tell_sentence<W: Sink>(
         Rule::Open => tell_of(writer, failed, domain, b"an action is open at", o, b""),
         Rule::Number => tell_right_number(writer, failed, past, entry),
         Rule::NotSent => tell(writer, failed, NOT_SENT),
-        Rule::BadRequest => tell_of(writer, failed, domain, b"the class of", o, NO_ACTION),
+        Rule::BadRequest => tell_bad_request(writer, failed, domain, entry),
         Rule::NotOpen => tell_not_open(writer, failed, domain, entry),
         Rule::Meaning => tell_next(writer, failed, past, o),
         Rule::Dead => tell_dead(writer, failed, domain, entry),

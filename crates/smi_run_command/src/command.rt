@@ -8,7 +8,7 @@ use crate::outcome::{Outcome, tell_outcome};
 use crate::planning::load_plan;
 use crate::progress::Teller;
 use crate::running::{RunError, run_plan};
-use smi_commands::{Fault, is_one_read, load_domain};
+use smi_commands::{Advice, Fault, is_one_read, load_domain};
 use smi_plan::plan::Plan;
 use smi_scripts::watch::Unwatched;
 use sml_domain::domain::Domain;
@@ -16,7 +16,7 @@ use std::io::{Read, Write};
 use std::sync::Arc;
 
 /// Runs the script on the domain, in threads, and writes the summary, and the journal where that is asked for. How far
-/// the run is goes to `errors`, where that is asked for.
+/// the run is goes to `errors`, where that is asked for, and what is advised on the domain and the script to `advice`.
 ///
 /// A journal with the path of the domain or of the script is refused before anything is read (`Fault::Overwrites`).
 /// The domain is read and checked before the script is opened, and the script is read whole before anything runs. The
@@ -28,6 +28,7 @@ pub fn run_run<'a, R: Host, I: Read, W: Write, E: Write>(
     input: &mut I,
     output: &mut W,
     errors: &mut E,
+    advice: &mut Advice,
 ) -> Result<(), Fault<'a>>
     ensures domain_stays { IfSome options.now.journal (λ path. IsReadAs options.now.file.now path.now
         → result ≡ Err (Fault.Overwrites path)) }
@@ -39,11 +40,11 @@ pub fn run_run<'a, R: Host, I: Read, W: Write, E: Write>(
             return Err(Fault::Overwrites(path));
         }
     }
-    let domain = match load_domain(rt, input, options.file) {
+    let domain = match load_domain(rt, input, options.file, advice) {
         Ok(domain) => domain,
         Err(fault) => return Err(fault),
     };
-    let plan = match load_plan(rt, input, &domain, options.script) {
+    let plan = match load_plan(rt, input, &domain, options.script, advice) {
         Ok(plan) => plan,
         Err(fault) => return Err(fault),
     };

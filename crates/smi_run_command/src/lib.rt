@@ -14,7 +14,7 @@ mod summary;
 pub use command::run_run;
 pub use host::Host;
 pub use options::RunOptions;
-pub use outcome::{Outcome, tell_outcome};
+pub use outcome::{Outcome, tell_outcome, write_kept_journal};
 pub use planning::plan_of_bytes;
 pub use running::{RunError, RunNumbers, run_plan};
 pub use smi_plan::plan::LONGEST_SCRIPT;

@@ -15,4 +15,6 @@ pub struct RunOptions<'a> {
     pub journal: Option<&'a str>,
     /// Whether it is told on a terminal how far the run is. It is for whoever asks to see that there is one.
     pub progress: bool,
+    /// Whether it is told why a text or a line was refused.
+    pub explain: bool,
 }

@@ -1,6 +1,7 @@
 //! What a run came to, and how it is told.
-ghost use Rattle.std.specs.Prelude.{◌≡◌, ◌≢◌, IfErr, OnOk};
-ghost use Rattle.sml_text.specs.Written.{Wrote};
+ghost use Rattle.std.specs.Prelude.{◌≡◌, ◌≢◌, IfErr, OnErr, OnOk};
+ghost use Rattle.sml_text.specs.Written.{Wrote, WroteFront};
+ghost use Rattle.smi_journal.specs.JournalText.{journal_text};
 ghost use Rattle.smi_run_command.specs.Outcomes.{IsFaultOf};
 
 use smi_commands::Fault;
@@ -8,7 +9,7 @@ use smi_entry::journal::Journal;
 use smi_journal::journal_text::write_journal;
 use smi_shared::ending::ServeEnd;
 use sml_domain::domain::Domain;
-use sml_text::writing::put;
+use sml_text::writing::{Sink, WriteFault, put};
 use std::alloc::Global;
 use std::fs::Files;
 use std::io::{BufWriter, Write};
@@ -30,6 +31,8 @@ pub struct Outcome {
 /// Tells what a run came to: its summary goes to `output`, to its end, and then the journal to the file of the path,
 /// where there is one. What is behind the summary then is a fault: `Memory` where the run ended so, or else
 /// `ReportDiffers` where a receipt is unmet.
+///
+/// What is written to the file is what `write_kept_journal` writes.
 ///
 /// The cost is the length of what is written. The error is `Output`, where the summary cannot be written;
 /// `JournalUnwritten`; or what is told behind both.
@@ -93,13 +96,13 @@ fn keep_journal<R: Files + AllocGlobal>(
     path: &str,
 ) -> Result<(), Unkept> {
     match fs::create(rt, path) {
-        Ok(mut file) => write_kept(rt.alloc(), domain, journal, &mut file),
+        Ok(mut file) => write_to_end(rt.alloc(), domain, journal, &mut file),
         Err(error) => Err(Unkept::Unwritten(Some(error))),
     }
 }
 
 // Writes a journal to a file that was opened, to its end.
-fn write_kept<J: Write>(
+fn write_to_end<J: Write>(
     heap: Global,
     domain: &Domain,
     journal: &Journal,
@@ -108,11 +111,29 @@ fn write_kept<J: Write>(
     let Ok(mut kept) = BufWriter::new(heap, &mut *file) else {
         return Err(Unkept::Memory);
     };
-    let written = write_journal(domain, journal.entries(), &mut kept);
+    let written = write_kept_journal(domain, journal, &mut kept);
     // After a fault too: this says its cause.
     match kept.flush() {
         Ok(()) if written.is_ok() => Ok(()),
         Ok(()) => Err(Unkept::Unwritten(None)),
         Err(error) => Err(Unkept::Unwritten(Some(error))),
     }
+}
+
+/// Writes the text of the journal of a run.
+///
+/// The text goes out in many small parts, so that a writer to a file should be buffered. No memory is taken; the
+/// cost is the length of the text. The error comes from the writer alone; then a prefix of the text is written.
+pub fn write_kept_journal<W: Sink>(
+    domain: &Domain,
+    journal: &Journal,
+    writer: &mut W,
+) -> Result<(), WriteFault>
+    ensures ok { OnOk result (Wrote (W.contents writer.old) (W.contents writer.new)
+        (journal_text domain.now journal.now.entries)) }
+    ensures err { OnErr result (WroteFront (W.contents writer.old) (W.contents writer.new)
+        (journal_text domain.now journal.now.entries)) }
+    ensures refused { OnErr result (W.has_refused writer.new) }
+{
+    write_journal(domain, journal.entries(), writer)
 }

@@ -3,26 +3,44 @@ ghost use Rattle.std.specs.Prelude.{IfErr, IfOk};
 ghost use Rattle.smi_plan.specs.Plans.{IsPlanOfText};
 ghost use Rattle.smi_run_command.specs.Unplanned.{IsUnplanned};
 
-use smi_commands::{Fault, load_prefix};
+use smi_commands::{Advice, Fault, load_prefix};
 use smi_plan::error::ScriptError;
 use smi_plan::plan::{LONGEST_SCRIPT, Plan, read_script};
 use sml_domain::domain::Domain;
 use std::alloc::Global;
 use std::fs::Files;
 use std::io::Read;
+use std::sync::Arc;
 
-/// The plan of a script of this path, which is read whole.
+/// The plan of a script of this path, which is read whole. What is advised on its lines goes to the advice.
 pub(crate) fn load_plan<'a, R: Files + AllocGlobal, I: Read>(
     rt: &R,
     input: &mut I,
-    domain: &Domain,
+    domain: &Arc<Domain>,
     script: &'a str,
+    advice: &mut Advice,
 ) -> Result<Plan, Fault<'a>> {
     // One byte more, so that a script which is too long is seen to be so.
     match load_prefix(rt, input, script, LONGEST_SCRIPT as u64 + 1) {
-        Ok(text) => plan_of_bytes(rt.alloc(), domain, script, text.as_slice()),
+        Ok(text) => advised_plan(rt.alloc(), domain, script, text.as_slice(), advice),
         Err(error) => Err(Fault::of_input(script, &error)),
     }
+}
+
+// The plan of the text of a script. What is advised on a fault, or on lines that will be refused, goes to the advice.
+fn advised_plan<'a>(
+    heap: Global,
+    domain: &Arc<Domain>,
+    script: &'a str,
+    text: &[u8],
+    advice: &mut Advice,
+) -> Result<Plan, Fault<'a>> {
+    let plan = plan_of_bytes(heap, domain, script, text);
+    match &plan {
+        Ok(_) => advice.of_requests(heap, domain, script, text),
+        Err(fault) => advice.of_script(domain, script, text, fault),
+    }
+    plan
 }
 
 /// The plan of the text of a script: what each session does, and what the devices answer.

@@ -4,7 +4,8 @@ ghost use Rattle.std.specs.IoError.{error_kind};
 ghost use Rattle.smi_commands.specs.Status.{fault_status};
 
 use smi_commands::{
-    AuditOptions, DONE, Fault, StepOptions, WRONG_WORDS, run_audit, run_check, run_print, run_step,
+    Advice, AuditOptions, DONE, Fault, GraphOptions, StepOptions, WRONG_WORDS, run_audit,
+    run_check, run_graph, run_list, run_print, run_step,
 };
 use smi_run_command::{Host, RunOptions, run_run};
 use std::io;
@@ -13,23 +14,40 @@ use std::io::{ErrorKind, Read, Write};
 /// What the program is asked to do.
 #[derive(Drop)]
 pub enum Asked<'a> {
-    /// To check the domain files of these paths.
-    Check(Vec<&'a str>),
+    /// To check the domain files of these paths, and to say of refused ones why, if that is asked for.
+    Check { files: Vec<&'a str>, explain: bool },
     /// To run a schedule on a domain.
     Step(StepOptions<'a>),
     /// To run a script on a domain, in threads.
     Run(RunOptions<'a>),
-    /// To print the canonical text of the domain file of this path.
-    Print(&'a str),
+    /// To print the canonical text of the domain file of this path, or to say why it is refused, if that is asked for.
+    Print { file: &'a str, explain: bool },
+    /// To list what the domain file of this path declares.
+    List(&'a str),
+    /// To draw a domain, or the run of a journal.
+    Graph(GraphOptions<'a>),
     /// To judge a journal by a domain.
     Audit(AuditOptions<'a>),
+}
+
+impl Asked<'_> {
+    // Whether it is asked to say why a text or a line is refused.
+    fn explain(&self) -> bool {
+        match self {
+            Asked::Check { explain, .. } | Asked::Print { explain, .. } => *explain,
+            Asked::Step(options) => options.explain,
+            Asked::Run(options) => options.explain,
+            Asked::Audit(options) => options.explain,
+            Asked::List(_) | Asked::Graph(_) => false,
+        }
+    }
 }
 
 /// Does what is asked, and gives the exit status.
 ///
 /// A file that is named `-` is `input`. What the command gives goes to `output`, and a fault line
-/// (docs/FORMATS.md, "Fault lines and exit statuses") to `errors`. A fault of `errors` changes nothing, since
-/// there is no place left to tell it.
+/// (docs/FORMATS.md, "Fault lines and exit statuses") to `errors`, and behind it what is advised, where that is asked for.
+/// A fault of `errors` changes nothing, since there is no place left to tell it.
 pub fn perform<R: Host, I: Read, W: Write, E: Write>(
     rt: &R,
     asked: &Asked<'_>,
@@ -39,18 +57,59 @@ pub fn perform<R: Host, I: Read, W: Write, E: Write>(
 ) -> u8
     ensures { result ≤ 4 }
 {
+    let mut advice = Advice::new(rt.alloc(), asked.explain());
+    let status = perform_advised(rt, asked, input, output, errors, &mut advice);
+    advice.tell(errors);
+    status
+}
+
+// Does what is asked, and gives the exit status. What is advised goes to the advice.
+fn perform_advised<R: Host, I: Read, W: Write, E: Write>(
+    rt: &R,
+    asked: &Asked<'_>,
+    input: &mut I,
+    output: &mut W,
+    errors: &mut E,
+    advice: &mut Advice,
+) -> u8
+    ensures { result ≤ 4 }
+{
     match asked {
-        Asked::Check(files) => match run_check(rt, files.as_slice(), input, output, errors) {
-            Ok(status) => status,
-            Err(fault) => fault.tell(errors),
-        },
-        Asked::Print(file) => ended(&run_print(rt, file, input, output), errors),
-        Asked::Step(options) => ended(&run_step(rt, options, input, output), errors),
-        Asked::Run(options) => ended(&run_run(rt, options, input, output, errors), errors),
-        Asked::Audit(options) => match run_audit(rt, options, input, output, errors) {
-            Ok(status) => status,
-            Err(fault) => fault.tell(errors),
-        },
+        Asked::Check { files, explain } => {
+            status_of(
+                &run_check(rt, files, *explain, input, output, errors),
+                errors,
+            )
+        }
+        Asked::Print { file, .. } => ended(&run_print(rt, file, input, output, advice), errors),
+        Asked::List(file) => ended(&run_list(rt, file, input, output, advice), errors),
+        Asked::Graph(options) => ended(&run_graph(rt, options, input, output, advice), errors),
+        Asked::Step(options) => {
+            status_of(
+                &run_step(rt, options, input, output, errors, advice),
+                errors,
+            )
+        }
+        Asked::Run(options) => ended(&run_run(rt, options, input, output, errors, advice), errors),
+        Asked::Audit(options) => {
+            status_of(
+                &run_audit(rt, options, input, output, errors, advice),
+                errors,
+            )
+        }
+    }
+}
+
+// The status of a command that gives one, or that of its fault, which is told.
+fn status_of<E: Write>(outcome: &Result<u8, Fault<'_>>, errors: &mut E) -> u8
+    requires { IfOk outcome.now (λ status. status ≤ 4) }
+    ensures ok { IfOk outcome.now (λ status. result ≡ status) }
+    ensures err { IfErr outcome.now (λ fault. result ≡ fault_status fault) }
+    ensures range { result ≤ 4 }
+{
+    match outcome {
+        Ok(status) => *status,
+        Err(fault) => fault.tell(errors),
     }
 }
 

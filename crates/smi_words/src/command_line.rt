@@ -4,12 +4,19 @@ use crate::asked::Asked;
 use crate::help;
 use crate::help::audit::{AUDIT, AUDIT_MORE, EXPLAIN, JOURNAL};
 use crate::help::check::{CHECK, CHECK_MORE, FILES};
+use crate::help::graph::{COUNT, DRAWN_JOURNAL, FROM, GRAPH, GRAPH_MORE, OBJECTS};
+use crate::help::list::{LIST, LIST_MORE};
 use crate::help::print::{PRINT, PRINT_MORE};
 use crate::help::run::{PROGRESS, RUN, RUN_JOURNAL, RUN_MORE, SCRIPT, WORKERS};
-use crate::help::step::{CAPACITY, KEPT_JOURNAL, SCHEDULE, STARTS, STEP, STEP_MORE};
+use crate::help::step::{
+    CAPACITY, KEPT_JOURNAL, SCHEDULE, STARTS, STATES, STEP, STEP_MORE, STRICT,
+};
+use crate::help::{WHY_LINES, WHY_REFUSED};
 use clap::error::ErrorKind;
 use clap::{Arg, ArgAction, ArgMatches, Command, Error, value_parser};
-use smi_commands::{AuditOptions, MAX_CAPACITY, MAX_STARTS, STANDARD_INPUT, StepOptions};
+use smi_commands::{
+    AuditOptions, GraphOptions, MAX_CAPACITY, MAX_STARTS, STANDARD_INPUT, StepOptions,
+};
 use smi_run_command::{MAX_WORKERS, RunNumbers, RunOptions};
 use std::alloc::{AllocError, Global};
 
@@ -47,8 +54,9 @@ fn read_words<'a>(
 // How many files standard input is to stand for.
 fn inputs(asked: &Asked<'_>) -> usize {
     match asked {
-        Asked::Check(files) => inputs_in(files.as_slice()),
-        Asked::Print(file) => inputs_in(&[file]),
+        Asked::Check { files, .. } => inputs_in(files.as_slice()),
+        Asked::Print { file, .. } | Asked::List(file) => inputs_in(&[file]),
+        Asked::Graph(options) => inputs_in(&[options.file, options.journal.unwrap_or("")]),
         Asked::Step(options) => inputs_in(&[options.file, options.schedule]),
         Asked::Run(options) => inputs_in(&[options.file, options.script]),
         Asked::Audit(options) => inputs_in(&[options.file, options.journal]),
@@ -76,6 +84,12 @@ fn asked_of<'a>(
     if let Some(audit) = matches.subcommand_matches("audit") {
         return Ok(journal_to_judge(audit));
     }
+    if let Some(list) = matches.subcommand_matches("list") {
+        return Ok(file_to_list(list));
+    }
+    if let Some(graph) = matches.subcommand_matches("graph") {
+        return Ok(what_to_draw(graph));
+    }
     match matches.subcommand_matches("print") {
         Some(print) => Ok(file_to_print(print)),
         None => Ok(None),
@@ -87,13 +101,33 @@ fn files_to_check<'a>(
     check: &ArgMatches<'a>,
 ) -> Result<Option<Asked<'a>>, AllocError> {
     match check.get_strs("FILE") {
-        Some(files) => Ok(Some(Asked::Check(files.to_vec(alloc)?))),
+        Some(files) => Ok(Some(Asked::Check {
+            files: files.to_vec(alloc)?,
+            explain: check.get_flag("explain"),
+        })),
         None => Ok(None),
     }
 }
 
 fn file_to_print<'a>(print: &ArgMatches<'a>) -> Option<Asked<'a>> {
-    Some(Asked::Print(print.get_str("FILE")?))
+    Some(Asked::Print {
+        file: print.get_str("FILE")?,
+        explain: print.get_flag("explain"),
+    })
+}
+
+fn file_to_list<'a>(list: &ArgMatches<'a>) -> Option<Asked<'a>> {
+    Some(Asked::List(list.get_str("FILE")?))
+}
+
+fn what_to_draw<'a>(graph: &ArgMatches<'a>) -> Option<Asked<'a>> {
+    Some(Asked::Graph(GraphOptions {
+        file: graph.get_str("FILE")?,
+        journal: graph.get_str("JOURNAL"),
+        objects: graph.get_flag("objects"),
+        from: graph.get_one::<usize>("from")?,
+        count: graph.get_one::<usize>("count")?,
+    }))
 }
 
 fn schedule_to_run<'a>(step: &ArgMatches<'a>) -> Option<Asked<'a>> {
@@ -103,6 +137,9 @@ fn schedule_to_run<'a>(step: &ArgMatches<'a>) -> Option<Asked<'a>> {
         capacity: step.get_one::<usize>("capacity")?,
         max_starts: step.get_one::<usize>("max-starts")?,
         journal: step.get_str("journal"),
+        strict: step.get_flag("strict"),
+        explain: step.get_flag("explain"),
+        states: step.get_flag("states"),
     }))
 }
 
@@ -118,6 +155,7 @@ fn script_to_run<'a>(run: &ArgMatches<'a>, is_terminal: bool) -> Option<Asked<'a
         numbers,
         journal: run.get_str("journal"),
         progress: is_terminal && run.get_flag("progress"),
+        explain: run.get_flag("explain"),
     }))
 }
 
@@ -137,6 +175,8 @@ fn smirun_command<'a>(alloc: Global) -> Result<Command<'a>, AllocError> {
         .subcommand_required(true);
     let command = with_subcommand(command, check_command(alloc))?;
     let command = with_subcommand(command, print_command(alloc))?;
+    let command = with_subcommand(command, list_command(alloc))?;
+    let command = with_subcommand(command, graph_command(alloc))?;
     let command = with_subcommand(command, step_command(alloc))?;
     let command = with_subcommand(command, run_command(alloc))?;
     with_subcommand(command, audit_command(alloc))
@@ -154,14 +194,34 @@ fn check_command<'a>(alloc: Global) -> Result<Command<'a>, AllocError> {
     Command::new(alloc, "check")
         .about(CHECK)
         .after_help(CHECK_MORE)
-        .arg(file(alloc).num_args(1..).help(FILES))
+        .arg(file(alloc).num_args(1..).help(FILES))?
+        .arg(explain(alloc, WHY_REFUSED))
 }
 
 fn print_command<'a>(alloc: Global) -> Result<Command<'a>, AllocError> {
     Command::new(alloc, "print")
         .about(PRINT)
         .after_help(PRINT_MORE)
+        .arg(file(alloc))?
+        .arg(explain(alloc, WHY_REFUSED))
+}
+
+fn list_command<'a>(alloc: Global) -> Result<Command<'a>, AllocError> {
+    Command::new(alloc, "list")
+        .about(LIST)
+        .after_help(LIST_MORE)
         .arg(file(alloc))
+}
+
+fn graph_command<'a>(alloc: Global) -> Result<Command<'a>, AllocError> {
+    Command::new(alloc, "graph")
+        .about(GRAPH)
+        .after_help(GRAPH_MORE)
+        .arg(file(alloc))?
+        .arg(drawn_journal(alloc))?
+        .arg(objects(alloc)?)?
+        .arg(from(alloc)?)?
+        .arg(count(alloc)?)
 }
 
 fn step_command<'a>(alloc: Global) -> Result<Command<'a>, AllocError> {
@@ -172,7 +232,10 @@ fn step_command<'a>(alloc: Global) -> Result<Command<'a>, AllocError> {
         .arg(schedule(alloc))?
         .arg(capacity(alloc))?
         .arg(max_starts(alloc))?
-        .arg(kept_journal(alloc))
+        .arg(kept_journal(alloc))?
+        .arg(explain(alloc, WHY_LINES))?
+        .arg(strict(alloc))?
+        .arg(states(alloc))
 }
 
 fn run_command<'a>(alloc: Global) -> Result<Command<'a>, AllocError> {
@@ -185,7 +248,8 @@ fn run_command<'a>(alloc: Global) -> Result<Command<'a>, AllocError> {
         .arg(capacity(alloc))?
         .arg(max_starts(alloc))?
         .arg(run_journal(alloc))?
-        .arg(progress(alloc))
+        .arg(progress(alloc))?
+        .arg(explain(alloc, WHY_LINES))
 }
 
 fn audit_command<'a>(alloc: Global) -> Result<Command<'a>, AllocError> {
@@ -194,7 +258,7 @@ fn audit_command<'a>(alloc: Global) -> Result<Command<'a>, AllocError> {
         .after_help(AUDIT_MORE)
         .arg(file(alloc))?
         .arg(journal(alloc))?
-        .arg(explain(alloc))
+        .arg(explain(alloc, EXPLAIN))
 }
 
 fn file<'a>(alloc: Global) -> Arg<'a> {
@@ -213,11 +277,57 @@ fn journal<'a>(alloc: Global) -> Arg<'a> {
     Arg::new(alloc, "JOURNAL").required(true).help(JOURNAL)
 }
 
-fn explain<'a>(alloc: Global) -> Arg<'a> {
+fn explain<'a>(alloc: Global, help: &'static str) -> Arg<'a> {
     Arg::new(alloc, "explain")
         .long("explain")
         .action(ArgAction::SetTrue)
-        .help(EXPLAIN)
+        .help(help)
+}
+
+fn strict<'a>(alloc: Global) -> Arg<'a> {
+    Arg::new(alloc, "strict")
+        .long("strict")
+        .action(ArgAction::SetTrue)
+        .help(STRICT)
+}
+
+fn states<'a>(alloc: Global) -> Arg<'a> {
+    Arg::new(alloc, "states")
+        .long("states")
+        .action(ArgAction::SetTrue)
+        .help(STATES)
+}
+
+fn drawn_journal<'a>(alloc: Global) -> Arg<'a> {
+    Arg::new(alloc, "JOURNAL").help(DRAWN_JOURNAL)
+}
+
+fn objects<'a>(alloc: Global) -> Result<Arg<'a>, AllocError> {
+    Arg::new(alloc, "objects")
+        .long("objects")
+        .action(ArgAction::SetTrue)
+        .help(OBJECTS)
+        .conflicts_with("JOURNAL")
+}
+
+fn from<'a>(alloc: Global) -> Result<Arg<'a>, AllocError> {
+    Arg::new(alloc, "from")
+        .long("from")
+        .value_name("N")
+        .value_parser(value_parser!(usize).range(1..))
+        .default_value("1")
+        .help(FROM)
+        .requires_arg("JOURNAL")
+}
+
+fn count<'a>(alloc: Global) -> Result<Arg<'a>, AllocError> {
+    Arg::new(alloc, "count")
+        .long("count")
+        .value_name("M")
+        .value_parser(value_parser!(usize).range(1..))
+        .default_value("1000")
+        .help(COUNT)
+        .requires_arg("JOURNAL")
 }
 
 fn kept_journal<'a>(alloc: Global) -> Arg<'a> {

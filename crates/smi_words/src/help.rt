@@ -2,6 +2,8 @@
 
 pub mod audit;
 pub mod check;
+pub mod graph;
+pub mod list;
 pub mod print;
 pub mod run;
 pub mod step;
@@ -31,3 +33,9 @@ could not be read or the output not be written; 2 a wrong command line; 3 not en
 that is not legal.";
 
 pub const FILE: &str = "The domain file, or - for standard input";
+
+pub const WHY_REFUSED: &str =
+    "Say on standard error why a file is refused: line, column, and what could stand there instead";
+
+pub const WHY_LINES: &str =
+    "Say on standard error why a file or a line is refused: line, column, and what could stand there instead";

@@ -1,6 +1,6 @@
 //! The lines of a script: their first byte tells what they do.
 
-use crate::calls::{ask, call, call_in_vain, call_with_no_memory, tell_no_words};
+use crate::calls::{ask, call, call_cut_off, call_in_vain, call_with_no_memory, tell_no_words};
 use crate::limits::tell_untold;
 use crate::outcomes::tell_run;
 use crate::place::Place;
@@ -29,6 +29,8 @@ pub fn perform<R: Host>(rt: &R, line: &str, place: &mut Place) -> io::Result<()>
         "?" => tell_part(rest, place),
         // performs a command line with outputs that cannot be written
         "&" => call_in_vain(rt, rest, place),
+        // performs a command line, and again with outputs that fail at each byte of it
+        "^" => call_cut_off(rt, rest, place),
         // performs a command line where there is no memory
         "~" => call_with_no_memory(rt, rest, place),
         // does something with a file

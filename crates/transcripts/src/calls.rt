@@ -1,7 +1,7 @@
 //! Calls of command lines.
 
 use crate::place::Place;
-use crate::writers::{Fails, FailsLate, NoMemory, TakesNothing};
+use crate::writers::{Fails, FailsLate, NoMemory, TakesNothing, TakesSome};
 use smi_run_command::Host;
 use smi_words::asked::refuse_words;
 use smi_words::drive::drive_from;
@@ -81,6 +81,38 @@ pub fn call_in_vain<R: Host>(rt: &R, line: &str, place: &mut Place) -> io::Resul
     call_into(rt, line, place, &mut Fails)?;
     call_into(rt, line, place, &mut TakesNothing)?;
     call_into(rt, line, place, &mut FailsLate)
+}
+
+// Whether a command line whose output takes so many bytes and then fails writes a prefix of what it wrote before, and
+// tells that its output cannot be written.
+fn is_cut_off<R: Host>(rt: &R, line: &str, place: &Place, taken: usize) -> io::Result<bool> {
+    let mut errors = Vec::new(rt.alloc());
+    let mut output = TakesSome {
+        taken: Vec::new(rt.alloc()),
+        left: taken,
+    };
+    let status = run(rt, line, place.text.as_slice(), &mut output, &mut errors)?;
+    Ok(
+        status == 1
+            && errors.as_slice() == b"output fault\n".as_slice()
+            && output.taken.len() == taken
+            && place.output.starts_with(output.taken.as_slice()),
+    )
+}
+
+/// Performs a command line, and then again for each byte of its output, where an output that takes one byte a call fails
+/// there. Tells where that does not go as it must, and how often it was done.
+pub fn call_cut_off<R: Host>(rt: &R, line: &str, place: &mut Place) -> io::Result<()> {
+    call(rt, line, place)?;
+    for taken in 0..place.output.len() {
+        if !is_cut_off(rt, line, place, taken)? {
+            let told = format!(in rt.alloc(); "{taken}")?;
+            place.tell_line("  otherwise at ", told.as_str())?;
+        }
+    }
+    let told = format!(in rt.alloc(); "{}", place.output.len())?;
+    place.tell_line("  cut off at each byte: ", told.as_str())?;
+    Ok(())
 }
 
 /// Performs a command line where there is no memory to read a file.

@@ -50,6 +50,28 @@ impl Write for FailsLate {
     }
 }
 
+/// A writer that takes one byte a call, so many in all, and then fails.
+#[derive(Drop)]
+pub struct TakesSome {
+    pub taken: Vec<u8>,
+    pub left: usize,
+}
+
+impl Write for TakesSome {
+    fn write(&mut self, bytes: &[u8]) -> io::Result<usize> {
+        let (Some(byte), Some(left)) = (bytes.first(), self.left.checked_sub(1)) else {
+            return Err(io::Error::from(ErrorKind::StorageFull));
+        };
+        self.taken.push(*byte)?;
+        self.left = left;
+        Ok(1)
+    }
+
+    fn flush(&mut self) -> io::Result<()> {
+        Ok(())
+    }
+}
+
 /// Files that are never opened, as there is no memory. Threads are those of another runtime.
 #[derive(Clone, Copy)]
 pub struct NoMemory<R>(pub R);

@@ -71,8 +71,9 @@ KIND NAME` (the domain; `smirun check --help` has the kinds), `unreadable`, and 
 `bad header` (it does not begin with the line of journals), `bad line NO` (the line is no entry: another
 form, a name that the domain does not have, a number past 64 bits, arguments that are not named and
 ordered as the action's parameters, or no line feed at its end). A bad header or line goes before every
-rule. `output fault` says that the output cannot be written, `memory` that there is not enough memory. Where
-`memory` comes behind `Illegal`, it ends what `--explain` has to say, and the exit status is still 4.
+rule; with `--explain` standard error has why it is bad. `output fault` says that the output cannot be
+written, `memory` that there is not enough memory. Where `memory` comes behind `Illegal`, it ends what
+`--explain` has to say, and the exit status is still 4.
 
 The time grows with the length of the journal and with what its actions do: a million lines take less than a
 second. The journal is read whole; beside its text it takes some 150 bytes a line.

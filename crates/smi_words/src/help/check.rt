@@ -24,6 +24,23 @@ OFFSET lies in. For example
 is told as `FILE read 4 Unexpected at 20`: there ON begins, and a colon is missing before it. One line stands
 before it, so it is in the second.
 
+With `--explain` standard error has why, behind the line of each refused file: the place as FILE:LINE:COLUMN,
+both counted from 1, one sentence, the line of the text and a caret under the place; for each fault of a file
+that is not well-formed, in the order of its text, up to twenty. Of the file above
+
+  FILE:2:9: expected `:` behind `state`, found `ON`
+    state ON
+          ^
+
+The condition of an `if` stands in brackets. It is one of these, where STATES is a state or a list of states
+in braces, as in { ON, OFF }:
+
+  OBJECT in_state STATES            OBJECT is in one of STATES
+  OBJECT not_in_state STATES        OBJECT is in none of STATES
+  all_in SET in_state STATES        each member of SET is in one of STATES; not_in_state as above
+  any_in SET in_state STATES        some member of SET is in one of STATES; not_in_state as above
+  not C,  C and C,  C or C,  ( C )  `not` binds closest, then `and`, then `or`
+
 The kinds of `read`. The first three are looked for in this order over the whole text; then the first
 place in the text is told:
 

@@ -22,7 +22,8 @@ is printed as
 
 A file that is refused is told on standard error, by FILE and one of: `read NO KIND at OFFSET` (no
 text of the language; `smirun check --help` has the kinds), `unreadable`. `output fault` says that the
-output cannot be written, `memory` that there is not enough memory.
+output cannot be written, `memory` that there is not enough memory. With `--explain` standard error then has
+why a text is refused, as `smirun check --help` has it.
 
 Exit status: 0 done; 1 the file was refused, could not be read or the output not be written; 2 a
 wrong command line; 3 not enough memory.";

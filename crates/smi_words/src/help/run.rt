@@ -90,6 +90,10 @@ written, or that the journal cannot be made or written (then a second line has P
 there is not enough memory: behind a summary where it says `end Memory`. `report differs` behind a summary
 says that a session was told of a kill which the journal does not have; it is a fault of this program.
 
+With `--explain` standard error has why a text or a line of SCRIPT is refused: the place as FILE:LINE:COLUMN, both
+counted from 1, one sentence, the line and a caret under the place; and behind the summary the same for the
+requests and kills that the domain refuses whenever they come, up to twenty.
+
 SCRIPT is kept while the run goes on, and so are the journal, some 100 to 150 bytes an entry, and what each
 session was told is accepted.
 

@@ -12,6 +12,11 @@ pub const STARTS: &str = "How many actions are started at most, 1 to 1000000";
 pub const KEPT_JOURNAL: &str =
     "Writes the journal to this file, when the schedule is done; a file that is read is refused";
 
+pub const STRICT: &str = "Ends with status 1 where a line was refused";
+
+pub const STATES: &str =
+    "Writes behind the schedule the state and the parameters of each object, and what is open or waits";
+
 pub const STEP_MORE: &str = "\
 FILE, the domain file, has at most 1048576 bytes of ASCII, without a byte order mark. `!` begins a
 comment. For example:
@@ -115,6 +120,19 @@ journal is written to it when the whole schedule is done: the line `smi-journal 
 above but `accept`, `set`, `still` and `refused`. `smirun audit FILE PATH` judges it. Where PATH is FILE or
 SCHEDULE, by this path or another, the command line is a wrong one, and nothing is read or written.
 
+With `--states` these lines follow what the schedule writes:
+
+  state OBJECT STATE              the state of each object
+  param OBJECT NAME=VALUE         each of its parameters
+  open OBJECT ACTION              an action is open at OBJECT, and `go` is its next move
+  open OBJECT ACTION waits device     the same; its device is to answer
+  open OBJECT ACTION waits OBJECT1 ..  the same; its next `if` waits for these objects
+  waiting OBJECT COUNT            so many requests wait in the mailbox of OBJECT
+
+With `--explain` standard error has why, behind the line of each refused step: the place in SCHEDULE as
+SCHEDULE:LINE:COLUMN, both counted from 1, one sentence, the line and a caret under the place. With `--strict`
+the exit status is 1 where a line was refused, so that a schedule can be a test.
+
 Where SCHEDULE is -, what the lines that were read write is written before more is read.
 
 A file that is refused is told on standard error, by FILE and one of: `read NO KIND at OFFSET` (no text
@@ -130,5 +148,5 @@ cost; `start`, `answer`, `fault` and `kill` what the parameters of OBJECT cost; 
 costs, and where OBJECT waits, also the count of the objects. Memory is taken for one line and for the
 journal, which is kept whole while the schedule runs: some 100 to 150 bytes an entry.
 
-Exit status: 0 done, also where steps were refused; 1 an input was refused, or a file could not be
-read or the output not be written; 2 a wrong command line; 3 not enough memory.";
+Exit status: 0 done, also where steps were refused; 1 an input was refused, or with `--strict` a line, or a
+file could not be read or the output not be written; 2 a wrong command line; 3 not enough memory.";

@@ -4,7 +4,7 @@ use Rattle.std.proofs.lemmas.Grind.{common_steps}
 use Rattle.std.proofs.Common.{length-append, length-take-le}
 use Rattle.smi_core.proofs.Io.{consumes_none, consumes_more, consumes_kept, consumes_empty}
 use Rattle.smi_core.proofs.Parts.{went_none, went_more, halted_more, halted_here, halted_now, first_lines, whole, torn, whole_lines}
-use Rattle.smi_core.proofs.schedule.run_schedule.Goals as goal
+use Rattle.smi_core.proofs.schedule.run_watched_schedule.Goals as goal
 
 pub returns-in_default-clause-err : goal.returns-in_default-clause-err
 returns-in_default-clause-err g c =

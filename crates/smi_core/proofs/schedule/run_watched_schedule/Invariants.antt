@@ -3,7 +3,7 @@ use Rattle.std.proofs.Common.{◌≡◌, ◌-◌, ◌≤◌, List, ℕ, [], leng
 use Rattle.std.specs.Io.KnownBytes.{Consumes}
 use Rattle.smi_core.specs.Feeds.{Went}
 use Rattle.smi_core.specs.declared.schedule.TheConstants.{LONGEST_SCHEDULE}
-use Rattle.smi_core.proofs.schedule.run_schedule.Given as goal
+use Rattle.smi_core.proofs.schedule.run_watched_schedule.Given as goal
 
 abbrev pub invariant-reads : goal.invariant-reads
 invariant-reads g l = record {

@@ -1,0 +1,46 @@
+//! Why a line of a journal is no entry's.
+
+use crate::entry_fault::{EntryCause, EntryFault};
+use crate::entry_lines::fault_in_entry;
+use crate::entry_reader::{line_of, text_from};
+use crate::entry_sentence::tell_entry_fault;
+use crate::source_line::{SourceLine, tell_back, tell_front};
+use sml_domain::domain::Domain;
+use sml_text::writing::Sink;
+
+/// Writes why a line of the text of a journal is no entry's: the place of its first fault, one sentence, the line, and
+/// a caret. Lines count from 1, the header included. Nothing is written where the line is an entry's.
+///
+/// It is text for people, and no part of a format. The cost is the length of the text up to the end of the line, and
+/// where a name is unknown the count of the names that it may have meant. No memory is taken.
+pub fn explain_bad_entry<W: Sink>(
+    domain: &Domain,
+    file: &str,
+    text: &[u8],
+    number: usize,
+    writer: &mut W,
+    failed: &mut bool,
+) {
+    let line = SourceLine {
+        file,
+        number,
+        text: line_of(text, number),
+    };
+    let is_ended = line.text.len() < text_from(text, number).len();
+    if let Some(fault) = fault_of(domain, line.text, is_ended) {
+        tell_front(writer, failed, &line, fault.at);
+        tell_entry_fault(writer, failed, domain, line.text, &fault);
+        tell_back(writer, failed, &line, fault.at);
+    }
+}
+
+// The first fault of a line, which a line feed ends or does not.
+fn fault_of(domain: &Domain, line: &[u8], is_ended: bool) -> Option<EntryFault> {
+    match fault_in_entry(domain, line) {
+        None if !is_ended => Some(EntryFault {
+            at: line.len(),
+            cause: EntryCause::NoFeed,
+        }),
+        found => found,
+    }
+}

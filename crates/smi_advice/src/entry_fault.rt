@@ -1,0 +1,56 @@
+//! Why a line of a journal is no entry's.
+
+use sml_domain::ids::{ActionId, ObjId};
+
+/// What an entry has to have at a place.
+#[derive(Clone, Copy)]
+pub(crate) enum Wanted {
+    Object,
+    Sender,
+    Number,
+    /// A number, or `refused full` or `refused dead`.
+    Verdict,
+    FullOrDead,
+    Action,
+    State,
+    /// An object, `=` and a state.
+    Reading,
+    /// A state, or `skipped`.
+    End,
+    /// A session, or `fault`.
+    Cause,
+}
+
+/// Why a line is no entry's.
+#[derive(Clone, Copy)]
+pub(crate) enum EntryCause {
+    NoFeed,
+    Returned,
+    Empty,
+    /// The first word is none of an entry.
+    NoWord,
+    /// The first word does not stand in lower case.
+    UpperWord,
+    /// A blank too many, or one at the end.
+    Blank,
+    Expected(Wanted),
+    /// A name that does not stand in upper case.
+    LowerName,
+    UnknownObject,
+    UnknownAction,
+    UnknownState,
+    /// A digit behind a session, or another session.
+    NoSession,
+    /// The action is declared by no state of the object's class, so that nothing may stand behind it.
+    Undeclared(ObjId),
+    /// The arguments are not spelled as those of the action.
+    Arguments(ObjId, ActionId),
+    TooMuch,
+}
+
+/// The first thing of a line that may not stand, and its place.
+#[derive(Clone, Copy)]
+pub(crate) struct EntryFault {
+    pub(crate) at: usize,
+    pub(crate) cause: EntryCause,
+}

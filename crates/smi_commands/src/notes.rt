@@ -1,0 +1,97 @@
+//! What is noted and told of the lines of a schedule.
+
+use crate::step::StepOptions;
+use smi_advice::bad_line::{LineKind, explain_bad_line};
+use smi_advice::history::History;
+use smi_advice::refused::explain_refused;
+use smi_advice::source_line::SourceLine;
+use smi_core::{Answer, Core, Lookout, Step, StepError, Taken};
+use smi_entry::entry::Entry;
+use sml_domain::domain::Domain;
+use sml_text::writing::Sink;
+use std::alloc::{AllocError, Global};
+use std::sync::Arc;
+
+/// What a schedule is run for, whether a line of it was refused, and what its lines did, where that is asked for.
+#[derive(Drop)]
+pub(crate) struct Notes<'n, 'a, E> {
+    pub(crate) options: &'n StepOptions<'a>,
+    pub(crate) domain: &'n Arc<Domain>,
+    pub(crate) is_refused: bool,
+    /// What the lines did: nothing, where neither why a line was refused is asked for nor how all stands.
+    pub(crate) history: History,
+    errors: &'n mut E,
+}
+
+impl<'n, 'a, E> Notes<'n, 'a, E> {
+    /// Nothing is noted yet. To `errors` goes why a line was refused.
+    pub(crate) fn new(
+        alloc: Global,
+        options: &'n StepOptions<'a>,
+        domain: &'n Arc<Domain>,
+        errors: &'n mut E,
+    ) -> Result<Self, AllocError> {
+        Ok(Notes {
+            options,
+            domain,
+            is_refused: false,
+            history: History::new(alloc, domain)?,
+            errors,
+        })
+    }
+}
+
+// A line as it is told.
+fn told<'t>(file: &'t str, taken: Taken<'t>) -> SourceLine<'t> {
+    SourceLine {
+        file,
+        number: taken.number,
+        text: taken.text,
+    }
+}
+
+impl<E: Sink> Lookout for Notes<'_, '_, E> {
+    fn bad_line(&mut self, core: &Core, taken: Taken<'_>) {
+        self.is_refused = true;
+        if self.options.explain {
+            let mut failed = false;
+            explain_bad_line(
+                LineKind::Schedule,
+                core.domain(),
+                &told(self.options.schedule, taken),
+                self.errors,
+                &mut failed,
+            );
+        }
+    }
+
+    fn answered(
+        &mut self,
+        core: &Core,
+        taken: Taken<'_>,
+        step: &Step,
+        answer: &Result<Answer, StepError>,
+        added: &[Entry],
+    ) {
+        if self.options.explain || self.options.states {
+            self.history
+                .note(taken.number, core.domain(), step, answer, added);
+        }
+        let Err(error) = answer else {
+            return;
+        };
+        self.is_refused = true;
+        if self.options.explain {
+            let mut failed = false;
+            explain_refused(
+                &self.history,
+                core.domain(),
+                &told(self.options.schedule, taken),
+                step,
+                *error,
+                self.errors,
+                &mut failed,
+            );
+        }
+    }
+}

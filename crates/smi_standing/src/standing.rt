@@ -1,0 +1,154 @@
+//! The lines of how all stands.
+
+use smi_advice::history::History;
+use smi_audit::past::{Past, PastError};
+use smi_core::Core;
+use smi_follower::follower::Expected;
+use smi_journal::call_text::{tell_object, tell_value};
+use smi_journal::journal_text::write_journal;
+use smi_journal::read::read_journal;
+use sml_domain::domain::Domain;
+use sml_domain::ids::ObjId;
+use sml_text::decimal::tell_u64;
+use sml_text::writing::{Sink, tell};
+use sml_tree::name::Name;
+use std::alloc::{AllocError, Global};
+use std::sync::Arc;
+
+// What is known of a run from its journal, which is written out for that and read again.
+fn past_of(alloc: Global, domain: &Arc<Domain>, core: &Core) -> Result<Past, AllocError> {
+    let mut text = Vec::new(alloc);
+    if write_journal(core.domain(), core.journal(), &mut text).is_err() {
+        return Err(AllocError);
+    }
+    let Ok(journal) = read_journal(alloc, domain, text.as_slice()) else {
+        return Err(AllocError);
+    };
+    let shared = Arc::try_clone(domain)?;
+    match Past::of(alloc, shared, journal.entries()) {
+        Ok(past) => Ok(past),
+        Err(PastError::Illegal { .. } | PastError::Memory) => Err(AllocError),
+    }
+}
+
+// A name, with a blank in front.
+fn tell_name<W: Sink>(writer: &mut W, failed: &mut bool, name: Option<Name>) {
+    if let Some(name) = name {
+        tell(writer, failed, b" ");
+        tell(writer, failed, name.as_bytes());
+    }
+}
+
+// The states of all objects.
+fn tell_states<W: Sink>(writer: &mut W, failed: &mut bool, core: &Core) {
+    let domain = core.domain();
+    for o in 0..domain.objects() {
+        let o = ObjId::new(o);
+        tell(writer, failed, b"state");
+        tell_object(writer, failed, domain, o);
+        tell_name(writer, failed, domain.state_name(core.state(o)));
+        tell(writer, failed, b"\n");
+    }
+}
+
+// The parameters of an object.
+fn tell_params_of<W: Sink>(writer: &mut W, failed: &mut bool, core: &Core, o: ObjId) {
+    let domain = core.domain();
+    if !domain.has(o) {
+        return;
+    }
+    for (param, value) in domain.class_parameters(o).iter().zip(core.params(o)) {
+        tell(writer, failed, b"param");
+        tell_object(writer, failed, domain, o);
+        tell_name(writer, failed, Some(param.name));
+        tell(writer, failed, b"=");
+        tell_value(writer, failed, value);
+        tell(writer, failed, b"\n");
+    }
+}
+
+// The parameters of all objects.
+fn tell_params<W: Sink>(writer: &mut W, failed: &mut bool, core: &Core) {
+    for o in 0..core.domain().objects() {
+        tell_params_of(writer, failed, core, ObjId::new(o));
+    }
+}
+
+// The objects for which the open action of an object waits.
+fn tell_busy<W: Sink>(writer: &mut W, failed: &mut bool, past: &Past, o: ObjId, objects: &[ObjId]) {
+    let ledger = past.ledger();
+    let domain = ledger.domain();
+    let mut is_first = true;
+    for busy in objects {
+        if domain.has(o) && domain.has(*busy) && !ledger.is_clear(o, *busy) {
+            if is_first {
+                tell(writer, failed, b" waits");
+                is_first = false;
+            }
+            tell_object(writer, failed, domain, *busy);
+        }
+    }
+}
+
+// The action that is open at an object, and what it waits for.
+fn tell_open_at<W: Sink>(writer: &mut W, failed: &mut bool, past: &Past, o: ObjId) {
+    let domain = past.ledger().domain();
+    if !domain.has(o) {
+        return;
+    }
+    let Some(letter) = past.ledger().opened(o) else {
+        return;
+    };
+    tell(writer, failed, b"open");
+    tell_object(writer, failed, domain, o);
+    tell_name(writer, failed, domain.action_name(letter.action));
+    if domain.associated(o) {
+        tell(writer, failed, b" waits device");
+    } else if let Some(Expected::Read(objects)) = past.next(o) {
+        tell_busy(writer, failed, past, o, objects.list());
+    }
+    tell(writer, failed, b"\n");
+}
+
+// How many requests wait at an object, where any do.
+fn tell_waiting_at<W: Sink>(
+    writer: &mut W,
+    failed: &mut bool,
+    domain: &Domain,
+    history: &History,
+    o: ObjId,
+) {
+    let count = history.waiting(o);
+    if count > 0 {
+        tell(writer, failed, b"waiting");
+        tell_object(writer, failed, domain, o);
+        tell(writer, failed, b" ");
+        tell_u64(writer, failed, count as u64);
+        tell(writer, failed, b"\n");
+    }
+}
+
+/// Writes how all stands behind the steps of a core: a line for each state, each parameter, each open action with what it
+/// waits for, and each mailbox that is not empty. (docs/FORMATS.md, "How all stands".)
+///
+/// The domain is that of the core, and the history that of its steps. The time and the memory are those of writing the
+/// journal, reading it and judging it. The error is out of memory; then nothing is written.
+pub fn tell_standing<W: Sink>(
+    alloc: Global,
+    domain: &Arc<Domain>,
+    core: &Core,
+    history: &History,
+    writer: &mut W,
+    failed: &mut bool,
+) -> Result<(), AllocError> {
+    let past = past_of(alloc, domain, core)?;
+    tell_states(writer, failed, core);
+    tell_params(writer, failed, core);
+    for o in 0..domain.objects() {
+        tell_open_at(writer, failed, &past, ObjId::new(o));
+    }
+    for o in 0..domain.objects() {
+        tell_waiting_at(writer, failed, domain, history, ObjId::new(o));
+    }
+    Ok(())
+}

@@ -1,0 +1,55 @@
+//! The texts of `graph --help`.
+
+pub const GRAPH: &str = "\
+Draws a domain as a graph of its states, or, with a journal, the run that this is of.";
+
+pub const DRAWN_JOURNAL: &str =
+    "The journal of the run to draw: a text as `step --journal` writes it; - is standard input";
+
+pub const OBJECTS: &str = "Draw the objects and sets too, and who sends what to whom";
+
+pub const FROM: &str = "The first entry of the journal to draw; the first of all is 1";
+
+pub const COUNT: &str = "How many entries of the journal to draw at most";
+
+pub const GRAPH_MORE: &str = "\
+FILE, the domain file, has at most 1048576 bytes, and JOURNAL at most 67108864, both ASCII without a
+byte order mark. The domain is read and checked.
+
+Without JOURNAL a text for Graphviz is written to standard output; `dot` of that makes a picture:
+
+  smirun graph detector.sml | dot -Tsvg > detector.svg
+
+Each class has a frame, and each of its states a box: a thick one where objects begin in it, a grey and
+broken one where killed objects are in it. An arrow from a state has the actions that may end in the
+state to which it leads, one a line. An action may end where `move_to` or `terminate_action` says so,
+and keeps its state where its instructions run out; whether a condition can hold is not looked at.
+Actions of a device may end in any state of their class: they stand in the boxes of the states that
+declare them. With `--objects` there is a frame of all objects and sets. An arrow from an object has
+what actions of its class send to the object or set to which it leads, and a broken line leads from a
+set to each of its members.
+
+With JOURNAL a picture in SVG is written to standard output, which a browser shows:
+
+  smirun graph detector.sml run.journal > run.svg
+
+Each object has a line of life, and each session that the entries name has one. Each entry has a row,
+with its number (its line in the journal is one more), and its line is shown where one points at it:
+
+  a bar             an action, from its start to its end; the call stands at the one, the state at the other
+  an arrow          what an object posts, what a session asked for, or a kill by one; red where refused
+  a ring            a wait
+  a dotted line     what is read, with the state of each object that was read
+  a cross           a kill, behind which the line of life is broken
+
+`--from N` and `--count M` choose the entries that are shown, and the first line of the picture says
+which of how many they are. A bar that began before them, or does not end in them, goes to the edge.
+The journal need not be legal; `smirun audit` judges it. What is cut for want of room ends with `..`.
+
+A file that is refused is told on standard error, by its path and one of: `read NO KIND at OFFSET`, `check
+NO KIND NAME` (the domain; `smirun check --help` has the kinds), `unreadable`, and of the journal `too
+long`, `bad header`, `bad line NO` (`smirun audit --help` has them). `output fault` says that the output
+cannot be written, `memory` that there is not enough memory.
+
+Exit status: 0 done; 1 an input was refused, or a file could not be read or the output not be written; 2
+a wrong command line; 3 not enough memory.";

@@ -1,0 +1,200 @@
+//! The faults of a file that was read.
+
+use crate::directory::Directory;
+use crate::finding::{Finding, Findings};
+use crate::sentence::tell_sentence;
+use crate::spots::Spots;
+use crate::subject::Subject;
+use crate::teller::Teller;
+use crate::walk::{Before, Walk};
+use sml_read::{ReadError, ReadErrorKind, read};
+use sml_text::writing::Sink;
+use sml_tree::file::SmlFile;
+use std::alloc::{AllocError, Global};
+
+// How many faults are told.
+const MOST: usize = 20;
+
+/// Explains each fault of a file that was read and is not well-formed: for each its place, one sentence, and the
+/// line with a caret below it, in the order of the text, twenty at most, and then how many more there are. Nothing
+/// is written for a text that is refused by the reader, or has no faults.
+///
+/// It is text for people, and no part of a format: what is written is not promised, and only tests hold it. The text
+/// is read once more, with its tree and tables in memory.
+pub fn explain_check<W: Sink>(
+    alloc: Global,
+    file: &str,
+    text: &[u8],
+    writer: &mut W,
+    failed: &mut bool,
+) -> Result<(), AllocError> {
+    let mut out = Teller {
+        file,
+        text,
+        writer,
+        failed,
+    };
+    match read(alloc, text) {
+        Ok(tree) => {
+            let told = explain_tree(alloc, &tree, &mut out);
+            drop(tree);
+            told
+        }
+        Err(error) => of_refusal(&error),
+    }
+}
+
+/// The faults of a text, of which the first so many are kept, in the order of the text; None where it is refused by
+/// the reader.
+///
+/// The time is that of reading and checking, and some looks at each member of a set for each `do` and test of the set;
+/// where a `do` leaves an argument out, as many as the square of the members, of which there are `MAX_MEMBERS` at
+/// most. The memory is that of the tree, of its tables, and of the faults that are kept.
+pub fn faults_of_text(
+    alloc: Global,
+    text: &[u8],
+    most: usize,
+) -> Result<Option<Findings>, AllocError> {
+    match read(alloc, text) {
+        Ok(tree) => {
+            let mut findings = Findings::new(alloc, most);
+            let found = find_in_tree(alloc, text, &tree, &mut findings);
+            drop(tree);
+            handed(found, findings)
+        }
+        Err(error) => match of_refusal(&error) {
+            Ok(()) => Ok(None),
+            Err(error) => Err(error),
+        },
+    }
+}
+
+// What was found, where there was memory.
+fn handed(
+    found: Result<(), AllocError>,
+    findings: Findings,
+) -> Result<Option<Findings>, AllocError> {
+    match found {
+        Ok(()) => Ok(Some(findings)),
+        Err(error) => {
+            drop(findings);
+            Err(error)
+        }
+    }
+}
+
+// Whether a refusal of the reader is want of memory.
+fn of_refusal(error: &ReadError) -> Result<(), AllocError> {
+    match error.kind {
+        ReadErrorKind::Memory => Err(AllocError),
+        _ => Ok(()),
+    }
+}
+
+// Finds the faults of a tree.
+fn find_in_tree(
+    alloc: Global,
+    text: &[u8],
+    tree: &SmlFile<Global>,
+    findings: &mut Findings,
+) -> Result<(), AllocError> {
+    let mut directory = Directory::new(alloc, tree);
+    let mut spots = Spots::new(alloc);
+    let found = match directory.fill() {
+        Ok(()) => match spots.fill(text) {
+            Ok(()) => find(alloc, &directory, &spots, findings),
+            Err(error) => Err(error),
+        },
+        Err(error) => Err(error),
+    };
+    drop(spots);
+    drop(directory);
+    found
+}
+
+// Finds the faults of a file.
+fn find(
+    alloc: Global,
+    directory: &Directory<'_>,
+    spots: &Spots,
+    findings: &mut Findings,
+) -> Result<(), AllocError> {
+    let mut before = Before::new(alloc);
+    let mut walk = Walk {
+        directory,
+        spots,
+        passed: 0,
+        before: &mut before,
+        findings,
+    };
+    walk.items();
+    let lacks_memory = walk.findings.lacks_memory();
+    drop(before);
+    if lacks_memory {
+        Err(AllocError)
+    } else {
+        Ok(())
+    }
+}
+
+// Explains the faults of a tree.
+fn explain_tree<W: Sink>(
+    alloc: Global,
+    tree: &SmlFile<Global>,
+    out: &mut Teller<'_, W>,
+) -> Result<(), AllocError> {
+    let mut directory = Directory::new(alloc, tree);
+    let mut spots = Spots::new(alloc);
+    let told = match directory.fill() {
+        Ok(()) => match spots.fill(out.text) {
+            Ok(()) => explain_file(alloc, &directory, &spots, out),
+            Err(error) => Err(error),
+        },
+        Err(error) => Err(error),
+    };
+    drop(spots);
+    drop(directory);
+    told
+}
+
+// Explains the faults of a file.
+fn explain_file<W: Sink>(
+    alloc: Global,
+    directory: &Directory<'_>,
+    spots: &Spots,
+    out: &mut Teller<'_, W>,
+) -> Result<(), AllocError> {
+    let mut findings = Findings::new(alloc, MOST);
+    let found = find(alloc, directory, spots, &mut findings);
+    if found.is_ok() {
+        let subject = Subject { directory, spots };
+        for finding in &findings.kept {
+            tell_finding(out, subject, finding);
+        }
+        tell_rest(out, findings.told.saturating_sub(findings.kept.len()));
+    }
+    drop(findings);
+    found
+}
+
+// Explains one fault.
+fn tell_finding<W: Sink>(out: &mut Teller<'_, W>, subject: Subject<'_>, finding: &Finding) {
+    out.begin(finding.at);
+    tell_sentence(out, subject, finding);
+    out.end(finding.at);
+}
+
+// How many faults are not told.
+fn tell_rest<W: Sink>(out: &mut Teller<'_, W>, count: usize) {
+    if count == 0 {
+        return;
+    }
+    out.say(out.file.as_bytes());
+    out.say(b": and ");
+    out.number(count as u64);
+    out.say(if count == 1 {
+        b" more fault\n"
+    } else {
+        b" more faults\n"
+    });
+}

@@ -1,0 +1,159 @@
+//! What was found wrong with a file, and where.
+
+use sml_faults::CheckKind;
+use sml_tree::file::Kind;
+use sml_tree::name::Name;
+use std::alloc::{AllocError, Global};
+
+/// What a name that stands twice names.
+#[derive(Clone, Copy, Debug, PartialEq, Eq)]
+pub enum Sort {
+    Class,
+    Object,
+    Set,
+    State,
+    Action,
+    /// A parameter of a class.
+    ClassParam,
+    /// A parameter of an action, which one of its class or of the action has the name of.
+    Param,
+    Member,
+    Argument,
+}
+
+/// Where a name stands that should be an object's.
+#[derive(Clone, Copy, Debug, PartialEq, Eq)]
+pub enum Site {
+    Member,
+    Target,
+    Tested,
+}
+
+/// What a value of the wrong kind was to be.
+#[derive(Clone, Copy, Debug, PartialEq, Eq)]
+pub enum Role {
+    Default,
+    Assigned,
+    /// An argument of the `do` whose action is named at this byte of the text.
+    Passed(usize),
+}
+
+/// What is told of a fault besides its name and its place. Classes, objects and sets are places among the items of
+/// the file, from 0; all others are bytes of the text, from 0.
+#[derive(Clone, Copy)]
+pub enum Detail {
+    Plain,
+    /// What stands twice, and where it stands first.
+    First {
+        sort: Sort,
+        at: usize,
+    },
+    /// Where a name stands that should be an object's.
+    Site(Site),
+    /// The class that lacks something, or which it is about.
+    Class(usize),
+    /// The action that lacks a parameter, by its class and its places there.
+    Own {
+        class: usize,
+        state: usize,
+        action: usize,
+    },
+    /// The class of an object that a `do` is sent to, and where the name of its action stands.
+    Called {
+        class: usize,
+        object: Name,
+        call: usize,
+    },
+    /// The class of an object that a test reads, and whether it reads a set.
+    Tested {
+        class: usize,
+        object: Name,
+        is_set: bool,
+    },
+    /// The kind that a value was to have, and where the parameter stands that the value is, if it is one.
+    Kinds {
+        wanted: Kind,
+        role: Role,
+        value: Option<usize>,
+    },
+}
+
+/// A fault, with the name that it has, and the byte of the text where that stands, from 0.
+#[derive(Clone, Copy)]
+pub struct Finding {
+    pub kind: CheckKind,
+    pub name: Name,
+    pub at: usize,
+    pub detail: Detail,
+}
+
+/// The faults of a text, in the order of their places.
+#[derive(Drop)]
+pub struct Findings {
+    /// The first of those that are told.
+    pub kept: Vec<Finding>,
+    /// How many are told, in all.
+    pub told: usize,
+    /// How many faults the file has. More than are told: what follows from another fault alone, as an unknown action
+    /// of an unknown object, is not told, nor what is the same at a further member of a set.
+    pub count: usize,
+    most: usize,
+    lacks_memory: bool,
+}
+
+impl Findings {
+    /// None yet. So many are to be kept at most.
+    pub(crate) fn new(alloc: Global, most: usize) -> Findings {
+        Findings {
+            kept: Vec::new(alloc),
+            told: 0,
+            count: 0,
+            most,
+            lacks_memory: false,
+        }
+    }
+
+    /// Adds a fault, which is told unless it follows from another.
+    pub(crate) fn add(
+        &mut self,
+        kind: CheckKind,
+        name: &Name,
+        at: usize,
+        detail: Detail,
+        follows: bool,
+    ) {
+        self.count = self.count.saturating_add(1);
+        if follows {
+            return;
+        }
+        self.told = self.told.saturating_add(1);
+        if self.kept.len() < self.most {
+            let finding = Finding {
+                kind,
+                name: *name,
+                at,
+                detail,
+            };
+            let is_kept = keep(&mut self.kept, finding).is_ok();
+            self.note_memory(is_kept);
+        }
+    }
+
+    /// Notes whether there was memory.
+    pub(crate) fn note_memory(&mut self, had_memory: bool) {
+        if !had_memory {
+            self.lacks_memory = true;
+        }
+    }
+
+    /// Whether memory was lacking once.
+    pub(crate) fn lacks_memory(&self) -> bool {
+        self.lacks_memory
+    }
+}
+
+// Puts an item behind others.
+fn keep<T: Drop>(kept: &mut Vec<T>, item: T) -> Result<(), AllocError> {
+    kept.push(item)?;
+    Ok(())
+}
