@@ -2,6 +2,8 @@
 #![tactic(auto)]
 
 #[cfg(test)]
+mod advised;
+#[cfg(test)]
 mod broken;
 #[cfg(test)]
 mod domains;

@@ -1,4 +1,5 @@
 //! The faults of a file that was read.
+ghost use Rattle.std.specs.Prelude.{◌≡◌, IfOk, IfSome, min};
 
 use crate::directory::Directory;
 use crate::finding::{Finding, Findings};
@@ -54,7 +55,9 @@ pub fn faults_of_text(
     alloc: Global,
     text: &[u8],
     most: usize,
-) -> Result<Option<Findings>, AllocError> {
+) -> Result<Option<Findings>, AllocError>
+    ensures { IfOk result (λ r. IfSome r (λ found. found.kept ≡ min found.told found.most)) }
+{
     match read(alloc, text) {
         Ok(tree) => {
             let mut findings = Findings::new(alloc, most);
@@ -70,17 +73,14 @@ pub fn faults_of_text(
 }
 
 // What was found, where there was memory.
-fn handed(
-    found: Result<(), AllocError>,
-    findings: Findings,
-) -> Result<Option<Findings>, AllocError> {
-    match found {
-        Ok(()) => Ok(Some(findings)),
-        Err(error) => {
-            drop(findings);
-            Err(error)
-        }
+fn handed(found: Result<(), AllocError>, findings: Findings) -> Result<Option<Findings>, AllocError>
+    ensures { IfOk result (λ r. IfSome r (λ found. found.kept ≡ min found.told found.most)) }
+{
+    if found.is_ok() && !findings.lacks_memory() {
+        return Ok(Some(findings));
     }
+    drop(findings);
+    Err(AllocError)
 }
 
 // Whether a refusal of the reader is want of memory.
@@ -168,10 +168,10 @@ fn explain_file<W: Sink>(
     let found = find(alloc, directory, spots, &mut findings);
     if found.is_ok() {
         let subject = Subject { directory, spots };
-        for finding in &findings.kept {
+        for finding in findings.kept() {
             tell_finding(out, subject, finding);
         }
-        tell_rest(out, findings.told.saturating_sub(findings.kept.len()));
+        tell_rest(out, findings.told().saturating_sub(findings.kept().len()));
     }
     drop(findings);
     found

@@ -1,9 +1,11 @@
 //! What was found wrong with a file, and where.
+ghost use Rattle.std.specs.Prelude.{◌≡◌, ◌+◌, false, length, min, OnOk};
 
 use sml_faults::CheckKind;
 use sml_tree::file::Kind;
 use sml_tree::name::Name;
 use std::alloc::{AllocError, Global};
+use std::marker::Model;
 
 /// What a name that stands twice names.
 #[derive(Clone, Copy, Debug, PartialEq, Eq)]
@@ -90,19 +92,32 @@ pub struct Finding {
 /// The faults of a text, in the order of their places.
 #[derive(Drop)]
 pub struct Findings {
-    /// The first of those that are told.
-    pub kept: Vec<Finding>,
-    /// How many are told, in all.
-    pub told: usize,
-    /// How many faults the file has. More than are told: what follows from another fault alone, as an unknown action
-    /// of an unknown object, is not told, nor what is the same at a further member of a set.
-    pub count: usize,
+    kept: Vec<Finding>,
+    told: usize,
+    count: usize,
     most: usize,
     lacks_memory: bool,
 }
 
+impl Model for Findings {
+    ghost use Rattle.std.specs.Prelude.{◌≡◌, false, length, min};
+    ghost use Rattle.sml_advice.specs.Found.{FoundView};
+
+    ghost Value = { FoundView };
+
+    ghost view = { λ f. record {
+      kept = length f.kept.items;
+      told = f.told;
+      count = f.count;
+      most = f.most;
+      lacks_memory = f.lacks_memory;
+    } };
+
+    ghost invariant = { λ f. f.lacks_memory ≡ false → length f.kept.items ≡ min f.told f.most };
+}
+
 impl Findings {
-    /// None yet. So many are to be kept at most.
+    /// None yet, of which as many may be kept.
     pub(crate) fn new(alloc: Global, most: usize) -> Findings {
         Findings {
             kept: Vec::new(alloc),
@@ -111,6 +126,28 @@ impl Findings {
             most,
             lacks_memory: false,
         }
+    }
+
+    /// The first of those that are told.
+    pub fn kept(&self) -> &[Finding]
+        ensures { length result.now ≡ self.now.kept }
+    {
+        &self.kept
+    }
+
+    /// How many are told, in all.
+    pub fn told(&self) -> usize
+        ensures { result ≡ self.now.told }
+    {
+        self.told
+    }
+
+    /// How many faults the file has. More than are told: what follows from another fault alone, as an unknown action
+    /// of an unknown object, is not told, nor what is the same at a further member of a set.
+    pub fn count(&self) -> usize
+        ensures { result ≡ self.now.count }
+    {
+        self.count
     }
 
     /// Adds a fault, which is told unless it follows from another.
@@ -126,17 +163,18 @@ impl Findings {
         if follows {
             return;
         }
-        self.told = self.told.saturating_add(1);
-        if self.kept.len() < self.most {
+        if self.told < self.most {
             let finding = Finding {
                 kind,
                 name: *name,
                 at,
                 detail,
             };
-            let is_kept = keep(&mut self.kept, finding).is_ok();
-            self.note_memory(is_kept);
+            if keep(&mut self.kept, finding).is_err() {
+                self.lacks_memory = true;
+            }
         }
+        self.told = self.told.saturating_add(1);
     }
 
     /// Notes whether there was memory.
@@ -147,13 +185,17 @@ impl Findings {
     }
 
     /// Whether memory was lacking once.
-    pub(crate) fn lacks_memory(&self) -> bool {
+    pub(crate) fn lacks_memory(&self) -> bool
+        ensures { result ≡ self.now.lacks_memory }
+    {
         self.lacks_memory
     }
 }
 
 // Puts an item behind others.
-fn keep<T: Drop>(kept: &mut Vec<T>, item: T) -> Result<(), AllocError> {
+fn keep<T: Drop>(kept: &mut Vec<T>, item: T) -> Result<(), AllocError>
+    ensures ok { OnOk result (length kept.new.items ≡ length kept.old.items + 1) }
+{
     kept.push(item)?;
     Ok(())
 }
