@@ -284,9 +284,7 @@ fn is_next_state(state: StateId, next: Next) -> bool {
 fn expects(follower: &Follower, next: Next) -> bool {
     match follower.expected() {
         Expected::Post(post) => follower.reads().is_none() && is_next_post(post, next),
-        Expected::Read(objects) => {
-            follower.reads().is_some() && are_next_objects(objects.list(), next)
-        }
+        Expected::Read(objects) => { follower.reads().is_some() && are_next_objects(objects, next) }
         Expected::End(state) => follower.reads().is_none() && is_next_state(state, next),
     }
 }

@@ -4,6 +4,7 @@ use crate::beginnings::task_of;
 use crate::boards::envelope_of;
 use crate::lines::Asked;
 use smi_interp::contact::Contact;
+use smi_interp::expanding::{objects_for, posts_count};
 use smi_interp::task::Task;
 use sml_checkable::domain_of;
 use sml_domain::ids::{ObjId, StateId};
@@ -60,32 +61,35 @@ fn begun(alloc: Global, text: &[u8]) -> Option<Task> {
 }
 
 // Makes a move that asks nobody, and tells whether the action goes on.
-fn moves_on(task: &mut Task) -> bool {
+fn moves_on(alloc: Global, task: &mut Task) -> bool {
     let Ok(contact) = task.advance() else {
         return false;
     };
     match &contact {
         Contact::Local { .. } => true,
-        Contact::Send(posts) if posts.list().is_empty() => {
+        Contact::Send(wanted) if posts_count(task.domain(), wanted) == 0 => {
             task.sent(&[]);
             true
         }
-        Contact::Read(objects) if objects.list().is_empty() => {
-            task.tell(&[]);
-            true
-        }
+        Contact::Read(names) => match objects_for(alloc, task.domain(), names) {
+            Ok(objects) if objects.len() == 0 => {
+                task.tell(&[]);
+                true
+            }
+            _ => false,
+        },
         _ => false,
     }
 }
 
 // Whether the task makes so many moves that ask nobody, and no more.
-fn makes(task: &mut Task, most: usize) -> bool {
+fn makes(alloc: Global, task: &mut Task, most: usize) -> bool {
     for _ in 0..most {
-        if !moves_on(task) {
+        if !moves_on(alloc, task) {
             return false;
         }
     }
-    task.turn().moves.len() == most && !moves_on(task)
+    task.turn().moves.len() == most && !moves_on(alloc, task)
 }
 
 // The task of a block with an instruction so often.
@@ -99,7 +103,7 @@ fn is_long(alloc: Global, piece: &[u8], count: usize, each: usize) -> bool {
         return false;
     };
     let mut task = task;
-    let long = makes(&mut task, count.saturating_mul(each));
+    let long = makes(alloc, &mut task, count.saturating_mul(each));
     // By a call, which is less to prove than on the spot.
     drop(task);
     long

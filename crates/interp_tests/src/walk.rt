@@ -1,14 +1,18 @@
 //! Walks of a task: its contacts in order, and how each is answered.
+ghost use Rattle.std.specs.Prelude.{◌≡◌, IfSome};
+ghost use Rattle.smi_interp.specs.Expanded.{objects_by_names};
 
 use crate::beginnings::task_of;
 use crate::boards::envelope_of;
 use crate::lines::Asked;
 use smi_entry::args::Reading;
 use smi_entry::entry::Verdict;
-use smi_interp::contact::{Contact, Post};
+use smi_interp::contact::{Contact, Names, Post, Wanted as Asks};
+use smi_interp::expanding::{objects_for, posts_count, posts_for};
 use smi_interp::task::Task;
 use smi_interp::turn::{Move, TurnRecord};
 use sml_checkable::domain_of;
+use sml_domain::domain::Domain;
 use sml_domain::ids::{ObjId, StateId};
 use sml_domain::text::Text;
 use sml_domain::value::Value;
@@ -127,35 +131,69 @@ fn is_end(wanted: Option<usize>, state: Option<StateId>) -> bool {
     }
 }
 
+// The posts of a `do`, asked for a second time where memory was refused.
+fn posts_at_last(alloc: Global, domain: &Domain, wanted: &Asks) -> Option<Vec<Post>> {
+    match posts_for(alloc, domain, wanted) {
+        Ok(posts) => Some(posts),
+        Err(_) => posts_for(alloc, domain, wanted).ok(),
+    }
+}
+
+// The objects of a condition, so too.
+fn objects_at_last(alloc: Global, domain: &Domain, names: &Names) -> Option<Vec<ObjId>>
+    ensures { IfSome result (λ objects. objects.items ≡ objects_by_names domain.now names.now) }
+{
+    match objects_for(alloc, domain, names) {
+        Ok(objects) => Some(objects),
+        Err(_) => objects_for(alloc, domain, names).ok(),
+    }
+}
+
+fn wants_posts(alloc: Global, domain: &Domain, asks: &Asks, wanted: &[Wanted]) -> bool {
+    match posts_at_last(alloc, domain, asks) {
+        Some(posts) => are_posts(&posts, wanted),
+        None => false,
+    }
+}
+
+fn names_objects(alloc: Global, domain: &Domain, names: &Names, numbers: &[usize]) -> bool {
+    match objects_at_last(alloc, domain, names) {
+        Some(objects) => are_objects(&objects, numbers),
+        None => false,
+    }
+}
+
 // Whether a contact is that of a step.
-fn is_contact(contact: &Contact, step: Step) -> bool {
+fn is_contact(alloc: Global, domain: &Domain, contact: &Contact, step: Step) -> bool {
     match (contact, step) {
         (Contact::Local { param, value }, Step::Sets(number, plain)) => {
             param.get() == number && is_value(value, plain)
         }
-        (Contact::Send(posts), Step::Sends(wanted, _)) => are_posts(posts.list(), wanted),
-        (Contact::Read(objects), Step::Reads(numbers, _)) => are_objects(objects.list(), numbers),
+        (Contact::Send(asks), Step::Sends(wanted, _)) => wants_posts(alloc, domain, asks, wanted),
+        (Contact::Read(names), Step::Reads(numbers, _)) => {
+            names_objects(alloc, domain, names, numbers)
+        }
         (Contact::End(state), Step::Ends(wanted)) => is_end(wanted, *state),
         _ => false,
     }
 }
 
 // Whether the task asks for what the step does.
-fn asks(task: &mut Task, step: Step) -> bool {
+fn asks(alloc: Global, task: &mut Task, step: Step) -> bool {
     match task.advance() {
-        Ok(contact) => is_contact(&contact, step),
+        Ok(contact) => is_contact(alloc, task.domain(), &contact, step),
         Err(_) => false,
     }
 }
 
-fn asks_twice(task: &mut Task, step: Step) -> bool {
-    asks(task, step) && asks(task, step)
+fn asks_twice(alloc: Global, task: &mut Task, step: Step) -> bool {
+    asks(alloc, task, step) && asks(alloc, task, step)
 }
 
 // Whether the task waits for so many verdicts, and is told these.
 fn is_sent(task: &mut Task, verdicts: &[Verdict]) -> bool {
     match task.pending() {
-        Some(Contact::Send(posts)) if posts.list().len() == verdicts.len() => {
+        Some(Contact::Send(wanted)) if posts_count(task.domain(), wanted) == verdicts.len() => {
             task.sent(verdicts);
             true
         }
@@ -172,26 +210,29 @@ fn states_of(alloc: Global, numbers: &[usize]) -> Option<Vec<StateId>> {
 }
 
 // Whether the task waits for so many states, and is told these.
-fn is_told(task: &mut Task, states: &[StateId]) -> bool {
+fn is_told(alloc: Global, task: &mut Task, states: &[StateId]) -> bool {
     match task.pending() {
-        Some(Contact::Read(objects)) if objects.list().len() == states.len() => {
-            task.tell(states);
-            true
-        }
+        Some(Contact::Read(names)) => match objects_at_last(alloc, task.domain(), names) {
+            Some(objects) if objects.len() == states.len() => {
+                task.tell(states);
+                true
+            }
+            _ => false,
+        },
         _ => false,
     }
 }
 
 fn is_told_numbers(alloc: Global, task: &mut Task, numbers: &[usize]) -> bool {
     match states_of(alloc, numbers) {
-        Some(states) => is_told(task, &states),
+        Some(states) => is_told(alloc, task, &states),
         None => false,
     }
 }
 
-fn waits_for(task: &Task, step: Step) -> bool {
+fn waits_for(alloc: Global, task: &Task, step: Step) -> bool {
     match task.pending() {
-        Some(contact) => is_contact(contact, step),
+        Some(contact) => is_contact(alloc, task.domain(), contact, step),
         None => false,
     }
 }
@@ -200,16 +241,16 @@ fn waits_for(task: &Task, step: Step) -> bool {
 // answer it waits for nothing, nor behind a set, and for ever behind the end.
 fn makes(alloc: Global, task: &mut Task, step: Step) -> bool {
     match step {
-        Step::Sets(_, _) => asks(task, step) && task.pending().is_none(),
+        Step::Sets(_, _) => asks(alloc, task, step) && task.pending().is_none(),
         Step::Sends(_, verdicts) => {
-            asks_twice(task, step) && is_sent(task, verdicts) && task.pending().is_none()
+            asks_twice(alloc, task, step) && is_sent(task, verdicts) && task.pending().is_none()
         }
         Step::Reads(_, states) => {
-            asks_twice(task, step)
+            asks_twice(alloc, task, step)
                 && is_told_numbers(alloc, task, states)
                 && task.pending().is_none()
         }
-        Step::Ends(_) => asks_twice(task, step) && waits_for(task, step),
+        Step::Ends(_) => asks_twice(alloc, task, step) && waits_for(alloc, task, step),
     }
 }
 
@@ -218,14 +259,18 @@ fn are_verdicts(verdicts: &[Verdict], told: &[Verdict]) -> bool {
 }
 
 // Whether a move that was recorded is that of a step.
-fn is_made(made: &Move, step: Step) -> bool {
+fn is_made(alloc: Global, domain: &Domain, made: &Move, step: Step) -> bool {
     match (made, step) {
         (Move::Set { param, value }, Step::Sets(number, plain)) => {
             param.get() == number && is_value(value, plain)
         }
-        (Move::Sent { posts, verdicts }, Step::Sends(wanted, told)) => {
-            are_posts(posts.list(), wanted) && are_verdicts(verdicts, told)
-        }
+        (
+            Move::Sent {
+                wanted: asks,
+                verdicts,
+            },
+            Step::Sends(wanted, told),
+        ) => wants_posts(alloc, domain, asks, wanted) && are_verdicts(verdicts, told),
         (Move::Saw { readings }, Step::Reads(objects, states)) => {
             are_readings(readings, objects, states)
         }
@@ -234,7 +279,7 @@ fn is_made(made: &Move, step: Step) -> bool {
 }
 
 // Whether the record is that of the walk, whose last step is the end and no move.
-fn is_recorded(turn: &TurnRecord, walk: &Walk) -> bool {
+fn is_recorded(alloc: Global, domain: &Domain, turn: &TurnRecord, walk: &Walk) -> bool {
     turn.object.get() == walk.object
         && turn.state.get() == walk.state
         && turn.letter.action.get() == walk.action
@@ -244,7 +289,7 @@ fn is_recorded(turn: &TurnRecord, walk: &Walk) -> bool {
             .moves
             .iter()
             .zip(walk.steps.iter())
-            .all(|(made, step)| is_made(made, *step))
+            .all(|(made, step)| is_made(alloc, domain, made, *step))
 }
 
 // A task in the hands of another worker.
@@ -268,8 +313,8 @@ fn begun(alloc: Global, walk: &Walk) -> Option<Task> {
 }
 
 // Whether the task recorded the moves of the walk, and leaves its parameters.
-fn is_left(task: Task, walk: &Walk) -> bool {
-    let recorded = is_recorded(task.turn(), walk);
+fn is_left(alloc: Global, task: Task, walk: &Walk) -> bool {
+    let recorded = is_recorded(alloc, task.domain(), task.turn(), walk);
     let all = task.turn().moves.len() == walk.steps.len().saturating_sub(1);
     let left = task.into_params();
     recorded && all && are_values(&left, walk.left)
@@ -283,7 +328,7 @@ fn is_made_by(alloc: Global, task: Task, walk: &Walk) -> bool {
         made = made && makes(alloc, &mut task, *step);
         task = handed(task);
     }
-    is_left(task, walk) && made
+    is_left(alloc, task, walk) && made
 }
 
 /// Whether the task of a walk makes its steps, each in the hands of another worker, records them, and
@@ -307,7 +352,7 @@ fn begun_at_last(alloc: Global, walk: &Walk) -> Option<Task> {
 fn makes_at_last(alloc: Global, task: &mut Task, step: Step) -> bool {
     if !matches!(step, Step::Sets(_, _)) {
         // What waits for an answer is asked for again below.
-        let _ = asks(task, step);
+        let _ = asks(alloc, task, step);
     }
     makes(alloc, task, step) || makes(alloc, task, step)
 }
@@ -327,7 +372,7 @@ pub fn is_walked_at_last(alloc: Global, walk: &Walk) -> bool {
         Some(task) => {
             let mut task = task;
             let made = makes_all_at_last(alloc, &mut task, walk.steps);
-            is_left(task, walk) && made
+            is_left(alloc, task, walk) && made
         }
         None => false,
     }

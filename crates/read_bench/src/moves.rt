@@ -11,6 +11,7 @@ use smi_entry::args::Args;
 use smi_entry::entry::Verdict;
 use smi_entry::envelope::Envelope;
 use smi_interp::contact::Contact;
+use smi_interp::expanding::{objects_for, posts_count};
 use smi_interp::task::{Ready, Task};
 use sml_domain::domain::Domain;
 use sml_domain::ids::{ActionId, ObjId, StateId};
@@ -221,33 +222,36 @@ fn task_of(alloc: Global, domain: &Arc<Domain>, action: ActionId) -> Result<Task
 }
 
 // One move of a task, with its answer. Answers whether the task goes on.
-fn goes_on(task: &mut Task, states: &[StateId]) -> Result<bool> {
+fn goes_on(alloc: Global, task: &mut Task, states: &[StateId]) -> Result<bool> {
     drop(task.advance()?);
     match task.pending() {
         None => Ok(true),
-        Some(Contact::Send(posts)) => match VERDICTS.get(..posts.list().len()) {
+        Some(Contact::Send(wanted)) => match VERDICTS.get(..posts_count(task.domain(), wanted)) {
             Some(verdicts) => {
                 task.sent(verdicts);
                 Ok(true)
             }
             None => bail!("there are too many posts"),
         },
-        Some(Contact::Read(objects)) => match states.get(..objects.list().len()) {
-            Some(states) => {
-                task.tell(states);
-                Ok(true)
+        Some(Contact::Read(names)) => {
+            let objects = objects_for(alloc, task.domain(), names)?;
+            match states.get(..objects.len()) {
+                Some(states) => {
+                    task.tell(states);
+                    Ok(true)
+                }
+                None => bail!("there are too many objects"),
             }
-            None => bail!("there are too many objects"),
-        },
+        }
         Some(_) => Ok(false),
     }
 }
 
 // Runs a task to its end, and counts its moves.
-fn walk(task: &mut Task) -> Result<usize> {
+fn walk(alloc: Global, task: &mut Task) -> Result<usize> {
     let states = [StateId::new(0); 64];
     for moves in 0..MOST_MOVES {
-        if !goes_on(task, &states)? {
+        if !goes_on(alloc, task, &states)? {
             return Ok(moves);
         }
     }
@@ -255,9 +259,9 @@ fn walk(task: &mut Task) -> Result<usize> {
 }
 
 // How long an action was run, and how many moves it makes.
-fn time_walk<R: Clock>(rt: &R, task: &mut Task) -> Result<(Duration, usize)> {
+fn time_walk<R: Clock + AllocGlobal>(rt: &R, task: &mut Task) -> Result<(Duration, usize)> {
     let begin = Instant::now(rt)?;
-    let moves = walk(task)?;
+    let moves = walk(rt.alloc(), task)?;
     Ok((begin.elapsed(rt)?, moves))
 }
 

@@ -1,5 +1,6 @@
 -- What a board answers to a task that is handed in, and what it does.
-use Rattle.std.specs.Prelude.{◌≡◌, ◌<◌, ◌++◌, ◌∷◌, ℕ, Bool, true, false, List, [], Option, Some, None, length, map, slice_set, MatchBool}
+use Rattle.std.specs.Prelude.{◌≡◌, ◌<◌, ◌++◌, ◌∷◌, ℕ, Bool, true, false, List, [], Option, Some, None, MatchBool}
+use Rattle.std.specs.Prelude.{length, map, slice_set}
 use Rattle.sml_domain.specs.Domain.{Domain}
 use Rattle.smi_board.specs.declared.starting.Started.{Started}
 use Rattle.smi_board.specs.declared.starting.Started.TheVariants.{Run, Perform, Skipped}
@@ -11,7 +12,8 @@ use Rattle.smi_meaning.specs.EntryLaws.{are_clear, reading_of}
 use Rattle.smi_meaning.specs.Items.{Post}
 use Rattle.smi_meaning.specs.Meaning.{state_left}
 use Rattle.smi_interp.specs.declared.contact.Contact.{Contact}
-use Rattle.smi_interp.specs.declared.contact.Contact.TheVariants.{Local, Send, Read, End}
+use Rattle.smi_interp.specs.declared.contact.Contact.TheVariants as named
+use Rattle.smi_interp.specs.Expanded.{Expanded, Local, Send, Read, End}
 use Rattle.smi_interp.specs.Task.{TaskView, outcome_of, with_states, with_verdicts}
 use Rattle.smi_board.specs.Boards.{BoardView, kept_at}
 use Rattle.smi_board.specs.Posting.{Lists, AreJudged, target_of}
@@ -42,10 +44,10 @@ IsMemory error.Memory = Unit {0}
 
 -- an action ends, so that its end may not want memory
 abbrev pub IsEnding : Option Contact → Type 0
-IsEnding (Some (End s)) = Unit {0}
-IsEnding (Some (Local p v)) = ⊥
-IsEnding (Some (Send posts)) = ⊥
-IsEnding (Some (Read objects)) = ⊥
+IsEnding (Some (named.End s)) = Unit {0}
+IsEnding (Some (named.Local p v)) = ⊥
+IsEnding (Some (named.Send wanted)) = ⊥
+IsEnding (Some (named.Read names)) = ⊥
 IsEnding None = ⊥
 
 -- ---- replies
@@ -85,8 +87,9 @@ pub record Waits {M : Type 0} (t : TaskView) (b b2 : BoardView M) (r : Reply) : 
     kept = slice_set b.kept t.turn.object (Some t);
   }
 
--- by the contact that waits: objects are read exactly where all of them are clear
-abbrev pub Replies : {M : Type 0} → TaskView → Option Contact → BoardView M → Lists → BoardView M → Lists → Reply → Type 0
+-- by the contact that waits, of objects: they are read exactly where all of them are clear
+abbrev pub Replies : {M : Type 0}
+    → TaskView → Option Expanded → BoardView M → Lists → BoardView M → Lists → Reply → Type 0
 Replies t (Some (End s)) b m b2 m2 r = Ends t s b b2 r
 Replies t (Some (Send posts)) b m b2 m2 r = Posts t posts b m b2 m2 r
 Replies t (Some (Read objects)) b m b2 m2 r =

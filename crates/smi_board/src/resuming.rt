@@ -1,6 +1,6 @@
 //! What can go on.
 ghost use Rattle.std.specs.Prelude.{◌≡◌, ◌<◌, ℕ, [], IfNone, IfSome, None, false, length, slice_set, true};
-ghost use Rattle.smi_interp.specs.Task.{IsNext, LeftAsks};
+ghost use Rattle.smi_interp.specs.Task.{IsNext, LeftAsks, awaited};
 ghost use Rattle.smi_board.specs.Boards.{kept_at};
 ghost use Rattle.smi_board.specs.Contacts.{GivesWork, ResumesTaskOf};
 ghost use Rattle.smi_board.specs.Turns.{can_go_on};
@@ -8,7 +8,7 @@ ghost use Rattle.smi_board.specs.Waking.{NothingNext};
 
 use crate::board::Board;
 use crate::kept::let_go;
-use crate::reading::are_clear;
+use crate::reading::names_clear;
 use crate::waking::take_first;
 use smi_interp::contact::Contact;
 use smi_interp::task::Task;
@@ -35,7 +35,7 @@ impl<M: Mail> Board<M> {
             return false;
         };
         match task.pending() {
-            Some(Contact::Read(objects)) => are_clear(&self.ledger, o, objects.list()),
+            Some(Contact::Read(names)) => names_clear(&self.ledger, o, names),
             _ => true,
         }
     }
@@ -43,8 +43,8 @@ impl<M: Mail> Board<M> {
     /// A law, whose function does nothing: what the task that is kept of an object waits for comes next.
     pub fn waits_next(&self, o: ObjId)
         requires { o < length self.now.domain.objects }
-        ensures next { IfSome (kept_at self.now.kept o) (λ t. IfSome t.pending (IsNext t)) }
-        ensures left { IfSome (kept_at self.now.kept o) (λ t. IfSome t.pending (LeftAsks t)) }
+        ensures next { IfSome (kept_at self.now.kept o) (λ t. IfSome (awaited t) (IsNext t)) }
+        ensures left { IfSome (kept_at self.now.kept o) (λ t. IfSome (awaited t) (LeftAsks t)) }
     {
         if let Some(task) = &self.kept[o.get()] {
             let _waits = task.pending();

@@ -8,7 +8,6 @@ use smi_audit::past::Past;
 use smi_entry::args::Reading;
 use smi_entry::entry::{Entry, Sender, Verdict};
 use smi_follower::follower::Expected;
-use smi_interp::contact::Objects;
 use smi_journal::call_text::{tell_call, tell_object};
 use smi_journal::entry_text::{tell_number, tell_session};
 use smi_rules::rule::Rule;
@@ -53,11 +52,11 @@ fn tell_of<W: Sink>(
     tell(writer, failed, behind);
 }
 
-fn tell_objects<W: Sink>(writer: &mut W, failed: &mut bool, domain: &Domain, objects: &Objects) {
-    if objects.list().is_empty() {
+fn tell_objects<W: Sink>(writer: &mut W, failed: &mut bool, domain: &Domain, objects: &[ObjId]) {
+    if objects.is_empty() {
         tell(writer, failed, b" no object");
     }
-    for object in objects.list() {
+    for object in objects {
         tell_object(writer, failed, domain, *object);
     }
 }

@@ -12,15 +12,14 @@ use Rattle.smi_meaning.specs.Meaning.{Move, DidSend, DidRead, state_left}
 use Rattle.smi_meaning.specs.Shown.{Question, ToPost, ToRead, question_in, shown_moves}
 use Rattle.smi_meaning.proofs.Showing.{shown-append}
 use Rattle.smi_meaning.proofs.Asking.{asks_one, ends_or_asks}
-use Rattle.smi_interp.specs.declared.contact.Contact.{Contact}
-use Rattle.smi_interp.specs.declared.contact.Contact.TheVariants.{Send, Read, End}
+use Rattle.smi_interp.specs.Expanded.{Expanded, Send, Read, End}
 use Rattle.smi_interp.specs.Turn.{posted_of, readings_of}
 use Rattle.smi_interp.specs.Task.{TaskView, env_now, IsNext, outcome_of, posts_waiting}
 use Rattle.smi_follower.specs.Following.{FollowerView, block_of, env_of, MayShow, Asks, EndsIn}
 use Rattle.smi_follower.specs.Matching.{state_shown}
 
 -- a task that waits for a contact, and the verdicts on its first posts, as an action that has shown them all
-abbrev pub seen_at : TaskView → Option Contact → List Verdict → FollowerView
+abbrev pub seen_at : TaskView → Option Expanded → List Verdict → FollowerView
 seen_at t p vs = record {
   domain = t.domain;
   object = t.turn.object;

@@ -12,10 +12,9 @@ use Rattle.smi_meaning.specs.Conditions.{object_read}
 use Rattle.smi_meaning.specs.Meaning.{Move, DidSend, DidRead, state_left}
 use Rattle.smi_meaning.specs.Shown.{ToPost, ToRead, shown_moves}
 use Rattle.smi_meaning.proofs.Showing.{shown-append}
-use Rattle.smi_interp.specs.declared.contact.Contact.{Contact}
-use Rattle.smi_interp.specs.declared.contact.Contact.TheVariants.{Local, Send, Read, End}
+use Rattle.smi_interp.specs.Expanded.{Expanded, Local, Send, Read, End}
 use Rattle.smi_interp.specs.Turn.{posted_of, readings_of}
-use Rattle.smi_interp.specs.Task.{TaskView, IsNext, outcome_of, posts_waiting, objects_waiting, WantsVerdicts, with_verdicts, with_states}
+use Rattle.smi_interp.specs.Task.{TaskView, IsNext, outcome_of, posts_waiting, objects_waiting, WantsVerdicts, with_verdicts, with_states, awaited}
 use Rattle.smi_follower.specs.Following.{FollowerView, MayShow, Asks, EndsIn, MayEnd, seen_of, with_item}
 use Rattle.smi_follower.specs.declared.follower.Expected.{Expected}
 use Rattle.smi_follower.specs.declared.follower.Expected.TheVariants as next
@@ -35,7 +34,7 @@ there posts n h = go (slice_get_cases posts n).1
     go (inr s) = let le = s.0 in absurd (omega (arith, h, le))
 
 -- a post may be shown only where it is the next that is wanted
-post_at : (t : TaskView) (p : Option Contact) (vs : List Verdict) (x : Posted) → IfSome p (IsNext t) → Stands p vs → MayShow (seen_at t p vs) (item_of x)
+post_at : (t : TaskView) (p : Option Expanded) (vs : List Verdict) (x : Posted) → IfSome p (IsNext t) → Stands p vs → MayShow (seen_at t p vs) (item_of x)
     → slice_get (posts_waiting p) (length vs) ≡ Some x.post
 post_at t None vs x next stands m = absurd stands
 post_at t (Some (Local q v)) vs x next stands m = absurd stands
@@ -48,11 +47,11 @@ post_at t (Some (Read objects)) vs x next stands m =
     let e : ToPost x.post ≡ ToRead objects = (read_asks t objects vs next (item_of x)).0 m in absurd (cc e)
 post_at t (Some (End o)) vs x next stands m = absurd (ends_silent (seen_at t (Some (End o)) vs) _ _ (item_of x) (end_ends t o vs next) m)
 
-pub may_post : (t : TaskView) (vs : List Verdict) (x : Posted) → IfSome t.pending (IsNext t) → Stands t.pending vs → MayShow (seen_of t vs) (item_of x)
-    → slice_get (posts_waiting t.pending) (length vs) ≡ Some x.post
-may_post t vs x next stands m = post_at t t.pending vs x next stands m
+pub may_post : (t : TaskView) (vs : List Verdict) (x : Posted) → IfSome (awaited t) (IsNext t) → Stands (awaited t) vs → MayShow (seen_of t vs) (item_of x)
+    → slice_get (posts_waiting (awaited t)) (length vs) ≡ Some x.post
+may_post t vs x next stands m = post_at t (awaited t) vs x next stands m
 
-post_from : (t : TaskView) (p : Option Contact) (vs : List Verdict) (x : Posted) → IfSome p (IsNext t) → slice_get (posts_waiting p) (length vs) ≡ Some x.post
+post_from : (t : TaskView) (p : Option Expanded) (vs : List Verdict) (x : Posted) → IfSome p (IsNext t) → slice_get (posts_waiting p) (length vs) ≡ Some x.post
     → MayShow (seen_at t p vs) (item_of x)
 post_from t None vs x next at = let e : None ≡ Some x.post = at in absurd (cc)
 post_from t (Some (Local q v)) vs x next at = let e : None ≡ Some x.post = at in absurd (cc)
@@ -61,9 +60,9 @@ post_from t (Some (Read objects)) vs x next at = let e : None ≡ Some x.post = 
 post_from t (Some (End o)) vs x next at = let e : None ≡ Some x.post = at in absurd (cc)
 
 -- and it may be shown where it is
-pub post_may : (t : TaskView) (vs : List Verdict) (x : Posted) → IfSome t.pending (IsNext t) → slice_get (posts_waiting t.pending) (length vs) ≡ Some x.post
+pub post_may : (t : TaskView) (vs : List Verdict) (x : Posted) → IfSome (awaited t) (IsNext t) → slice_get (posts_waiting (awaited t)) (length vs) ≡ Some x.post
     → MayShow (seen_of t vs) (item_of x)
-post_may t vs x next at = post_from t t.pending vs x next at
+post_may t vs x next at = post_from t (awaited t) vs x next at
 
 posted_more : (posts : List Post) (vs : List Verdict) (x : Posted) → slice_get posts (length vs) ≡ Some x.post
     → map item_of (posted_of posts (vs ++ x.verdict ∷ [])) ≡ map item_of (posted_of posts vs) ++ item_of x ∷ []
@@ -73,12 +72,12 @@ posted_more (p ∷ (q ∷ ps)) [] x h = let e : p ≡ x.post = cc in ap (λ r. i
 posted_more (p ∷ ps) (v ∷ vs) x h = ap (λ l. item_of (record { post = p; verdict = v }) ∷ l) (posted_more ps vs x h)
 
 -- one more post is seen
-pub seen_more : (t : TaskView) (vs : List Verdict) (x : Posted) → slice_get (posts_waiting t.pending) (length vs) ≡ Some x.post
+pub seen_more : (t : TaskView) (vs : List Verdict) (x : Posted) → slice_get (posts_waiting (awaited t)) (length vs) ≡ Some x.post
     → seen_of t (vs ++ x.verdict ∷ []) ≡ with_item (seen_of t vs) (item_of x)
 seen_more t vs x at =
     let S = shown_moves t.turn.moves in
-    let e : S ++ map item_of (posted_of (posts_waiting t.pending) (vs ++ x.verdict ∷ [])) ≡ (S ++ map item_of (posted_of (posts_waiting t.pending) vs)) ++ item_of x ∷ [] =
-    ap (λ l. S ++ l) (posted_more (posts_waiting t.pending) vs x at) ∙ sym (append_assoc S (map item_of (posted_of (posts_waiting t.pending) vs)) (item_of x ∷ [])) in
+    let e : S ++ map item_of (posted_of (posts_waiting (awaited t)) (vs ++ x.verdict ∷ [])) ≡ (S ++ map item_of (posted_of (posts_waiting (awaited t)) vs)) ++ item_of x ∷ [] =
+    ap (λ l. S ++ l) (posted_more (posts_waiting (awaited t)) vs x at) ∙ sym (append_assoc S (map item_of (posted_of (posts_waiting (awaited t)) vs)) (item_of x ∷ [])) in
     ap (λ l. record (seen_of t vs) { shown = l }) e
 
 -- whether something is found does not change with how it is seen
@@ -103,7 +102,7 @@ lost_behind posts n h = go (slice_get_cases posts n).1
     go (inr s) = s.0
 
 -- it stands while a post has no verdict
-pub stands_more : (p : Option Contact) (vs : List Verdict) → is_some (slice_get (posts_waiting p) (length vs)) ≡ true → Stands p vs
+pub stands_more : (p : Option Expanded) (vs : List Verdict) → is_some (slice_get (posts_waiting p) (length vs)) ≡ true → Stands p vs
 stands_more None vs h = absurd (cc h)
 stands_more (Some (Local a v)) vs h = absurd (cc h)
 stands_more (Some (Send posts)) vs h = found_within posts (length vs) h
@@ -111,7 +110,7 @@ stands_more (Some (Read objects)) vs h = absurd (cc h)
 stands_more (Some (End o)) vs h = absurd (cc h)
 
 -- with the last verdict the posts have theirs
-pub all_judged : (p : Option Contact) (vs more : List Verdict) (x : Posted) → more ≡ vs ++ x.verdict ∷ [] → slice_get (posts_waiting p) (length vs) ≡ Some x.post
+pub all_judged : (p : Option Expanded) (vs more : List Verdict) (x : Posted) → more ≡ vs ++ x.verdict ∷ [] → slice_get (posts_waiting p) (length vs) ≡ Some x.post
     → is_some (slice_get (posts_waiting p) (length more)) ≡ false → IsSomeAnd p (WantsVerdicts (length more))
 all_judged None vs more x e at none = absurd (cc at)
 all_judged (Some (Local a w)) vs more x e at none = absurd (cc at)
@@ -124,26 +123,26 @@ all_judged (Some (Read objects)) vs more x e at none = absurd (cc at)
 all_judged (Some (End o)) vs more x e at none = absurd (cc at)
 
 -- and the move shows what was seen
-judged_at : (t : TaskView) (p : Option Contact) (vs : List Verdict) → p ≡ t.pending → IsSomeAnd p (WantsVerdicts (length vs)) → seen_of (with_verdicts t vs) [] ≡ seen_at t p vs
+judged_at : (t : TaskView) (p : Option Expanded) (vs : List Verdict) → p ≡ (awaited t) → IsSomeAnd p (WantsVerdicts (length vs)) → seen_of (with_verdicts t vs) [] ≡ seen_at t p vs
 judged_at t None vs e w = absurd w
 judged_at t (Some (Local a v)) vs e w = absurd w
 judged_at t (Some (Read objects)) vs e w = absurd w
 judged_at t (Some (End o)) vs e w = absurd w
 judged_at t (Some (Send posts)) vs e w =
     let S = shown_moves t.turn.moves in
-    let m : Move = DidSend (posted_of (posts_waiting t.pending) vs) in
+    let m : Move = DidSend (posted_of (posts_waiting (awaited t)) vs) in
     let k : (shown_moves (t.turn.moves ++ m ∷ [])) ++ [] ≡ S ++ map item_of (posted_of posts vs) =
-    append-nil (shown_moves (t.turn.moves ++ m ∷ [])) ∙ shown-append t.turn.moves (m ∷ []) ∙ ap (λ l. S ++ l) (append-nil (map item_of (posted_of (posts_waiting t.pending) vs)))
+    append-nil (shown_moves (t.turn.moves ++ m ∷ [])) ∙ shown-append t.turn.moves (m ∷ []) ∙ ap (λ l. S ++ l) (append-nil (map item_of (posted_of (posts_waiting (awaited t)) vs)))
     ∙ ap (λ q. S ++ map item_of (posted_of (posts_waiting q) vs)) (sym e) in
     ap (λ l. record (seen_of (with_verdicts t vs) []) { shown = l }) k
 
-pub judged_seen : (t : TaskView) (vs : List Verdict) → IsSomeAnd t.pending (WantsVerdicts (length vs)) → seen_of (with_verdicts t vs) [] ≡ seen_of t vs
-judged_seen t vs w = judged_at t t.pending vs refl w
+pub judged_seen : (t : TaskView) (vs : List Verdict) → IsSomeAnd (awaited t) (WantsVerdicts (length vs)) → seen_of (with_verdicts t vs) [] ≡ seen_of t vs
+judged_seen t vs w = judged_at t (awaited t) vs refl w
 
 -- ---- readings
 
 -- only an if reads, and only its objects
-read_at : (t : TaskView) (p : Option Contact) (vs : List Verdict) (readings : List Reading) → IfSome p (IsNext t) → Stands p vs → MayShow (seen_at t p vs) (Saw readings)
+read_at : (t : TaskView) (p : Option Expanded) (vs : List Verdict) (readings : List Reading) → IfSome p (IsNext t) → Stands p vs → MayShow (seen_at t p vs) (Saw readings)
     → p ≡ Some (Read (map object_read readings))
 read_at t None vs readings next stands m = absurd stands
 read_at t (Some (Local q v)) vs readings next stands m = absurd stands
@@ -156,18 +155,18 @@ read_at t (Some (Read objects)) vs readings next stands m =
     ap (λ os. Some (Read os)) (sym k)
 read_at t (Some (End o)) vs readings next stands m = absurd (ends_silent (seen_at t (Some (End o)) vs) _ _ (Saw readings) (end_ends t o vs next) m)
 
-pub may_read : (t : TaskView) (vs : List Verdict) (readings : List Reading) → IfSome t.pending (IsNext t) → Stands t.pending vs → MayShow (seen_of t vs) (Saw readings)
-    → t.pending ≡ Some (Read (map object_read readings))
-may_read t vs readings next stands m = read_at t t.pending vs readings next stands m
+pub may_read : (t : TaskView) (vs : List Verdict) (readings : List Reading) → IfSome (awaited t) (IsNext t) → Stands (awaited t) vs → MayShow (seen_of t vs) (Saw readings)
+    → (awaited t) ≡ Some (Read (map object_read readings))
+may_read t vs readings next stands m = read_at t (awaited t) vs readings next stands m
 
 -- and the move shows them
-pub read_seen : (t : TaskView) (readings : List Reading) → t.pending ≡ Some (Read (map object_read readings))
+pub read_seen : (t : TaskView) (readings : List Reading) → (awaited t) ≡ Some (Read (map object_read readings))
     → seen_of (with_states t (map state_shown readings)) [] ≡ with_item (seen_of t []) (Saw readings)
 read_seen t readings e =
     let S = shown_moves t.turn.moves in
     let states = map state_shown readings in
-    let m : Move = DidRead (readings_of (objects_waiting t.pending) states) in
-    let k : shown_moves (t.turn.moves ++ m ∷ []) ++ [] ≡ (S ++ map item_of (posted_of (posts_waiting t.pending) [])) ++ Saw readings ∷ [] =
+    let m : Move = DidRead (readings_of (objects_waiting (awaited t)) states) in
+    let k : shown_moves (t.turn.moves ++ m ∷ []) ++ [] ≡ (S ++ map item_of (posted_of (posts_waiting (awaited t)) [])) ++ Saw readings ∷ [] =
     append-nil (shown_moves (t.turn.moves ++ m ∷ [])) ∙ shown-append t.turn.moves (m ∷ [])
     ∙ ap (λ q. S ++ Saw (readings_of (objects_waiting q) states) ∷ []) e ∙ ap (λ rs. S ++ Saw rs ∷ []) (readings_are (map object_read readings) readings refl)
     ∙ ap (λ l. l ++ Saw readings ∷ []) (sym (append-nil S))
@@ -175,10 +174,10 @@ read_seen t readings e =
     ap (λ l. record (seen_of t []) { shown = l }) k
 
 -- what waits to be read has no verdicts
-pub read_bare : (p : Option Contact) (vs : List Verdict) (objects : List ℕ) → p ≡ Some (Read objects) → Stands p vs → vs ≡ []
+pub read_bare : (p : Option Expanded) (vs : List Verdict) (objects : List ℕ) → p ≡ Some (Read objects) → Stands p vs → vs ≡ []
 read_bare p vs objects e stands = subst (λ q. Stands q vs) e stands
 
-pub read_may : (t : TaskView) (vs : List Verdict) (readings : List Reading) → IfSome t.pending (IsNext t) → t.pending ≡ Some (Read (map object_read readings))
+pub read_may : (t : TaskView) (vs : List Verdict) (readings : List Reading) → IfSome (awaited t) (IsNext t) → (awaited t) ≡ Some (Read (map object_read readings))
     → MayShow (seen_of t vs) (Saw readings)
 read_may t vs readings next e =
     let n : IsNext t (Read (map object_read readings)) = subst (λ q. IfSome q (IsNext t)) e next in
@@ -186,13 +185,13 @@ read_may t vs readings next e =
 
 -- ---- what is expected
 
-pub expects_post : (t : TaskView) (vs : List Verdict) (posts : List Post) (p : Post) → t.pending ≡ Some (Send posts) → IfSome t.pending (IsNext t) → slice_get posts (length vs) ≡ Some p
+pub expects_post : (t : TaskView) (vs : List Verdict) (posts : List Post) (p : Post) → (awaited t) ≡ Some (Send posts) → IfSome (awaited t) (IsNext t) → slice_get posts (length vs) ≡ Some p
     → Asks (seen_of t vs) (ToPost p)
 expects_post t vs posts p e next at =
     let n : IsNext t (Send posts) = subst (λ q. IfSome q (IsNext t)) e next in
     subst (λ q. Asks (seen_at t q vs) (ToPost p)) (sym e) (send_asks t posts vs p n at)
 
-pub expects_read : (t : TaskView) (vs : List Verdict) (objects : List ℕ) → t.pending ≡ Some (Read objects) → IfSome t.pending (IsNext t)
+pub expects_read : (t : TaskView) (vs : List Verdict) (objects : List ℕ) → (awaited t) ≡ Some (Read objects) → IfSome (awaited t) (IsNext t)
     → Asks (seen_of t vs) (ToRead objects)
 expects_read t vs objects e next =
     let n : IsNext t (Read objects) = subst (λ q. IfSome q (IsNext t)) e next in
@@ -200,7 +199,7 @@ expects_read t vs objects e next =
 
 -- ---- ends
 
-ends_at : (t : TaskView) (p : Option Contact) (vs : List Verdict) (s : ℕ) → IfSome p (IsNext t) → end_of t.turn.state p ≡ Some s → EndsIn (seen_at t p vs) s t.params
+ends_at : (t : TaskView) (p : Option Expanded) (vs : List Verdict) (s : ℕ) → IfSome p (IsNext t) → end_of t.turn.state p ≡ Some s → EndsIn (seen_at t p vs) s t.params
 ends_at t None vs s next e = absurd (cc e)
 ends_at t (Some (Local q v)) vs s next e = absurd (cc e)
 ends_at t (Some (Send posts)) vs s next e = absurd (cc e)
@@ -209,10 +208,10 @@ ends_at t (Some (End o)) vs s next e =
     let k : state_left t.turn.state (outcome_of o) ≡ s = cc e in
     subst (λ x. EndsIn (seen_at t (Some (End o)) vs) x t.params) k (end_ends t o vs next)
 
-pub ends_so : (t : TaskView) (vs : List Verdict) (s : ℕ) → IfSome t.pending (IsNext t) → end_of t.turn.state t.pending ≡ Some s → EndsIn (seen_of t vs) s t.params
-ends_so t vs s next e = ends_at t t.pending vs s next e
+pub ends_so : (t : TaskView) (vs : List Verdict) (s : ℕ) → IfSome (awaited t) (IsNext t) → end_of t.turn.state (awaited t) ≡ Some s → EndsIn (seen_of t vs) s t.params
+ends_so t vs s next e = ends_at t (awaited t) vs s next e
 
-goes_at : (t : TaskView) (p : Option Contact) (vs : List Verdict) (s : ℕ) (own2 : List Value) → IfSome p (IsNext t) → Stands p vs → end_of t.turn.state p ≡ None
+goes_at : (t : TaskView) (p : Option Expanded) (vs : List Verdict) (s : ℕ) (own2 : List Value) → IfSome p (IsNext t) → Stands p vs → end_of t.turn.state p ≡ None
     → EndsIn (seen_at t p vs) s own2 → ⊥
 goes_at t None vs s own2 next stands e h = stands
 goes_at t (Some (Local q v)) vs s own2 next stands e h = stands
@@ -223,9 +222,9 @@ goes_at t (Some (Read objects)) vs s own2 next stands e h =
     asks_on (seen_at t (Some (Read objects)) vs) (ToRead objects) s own2 (read_asks t objects vs next) h
 goes_at t (Some (End o)) vs s own2 next stands e h = absurd (cc e)
 
-pub goes_further : (t : TaskView) (vs : List Verdict) (s : ℕ) (own2 : List Value) → IfSome t.pending (IsNext t) → Stands t.pending vs → end_of t.turn.state t.pending ≡ None
+pub goes_further : (t : TaskView) (vs : List Verdict) (s : ℕ) (own2 : List Value) → IfSome (awaited t) (IsNext t) → Stands (awaited t) vs → end_of t.turn.state (awaited t) ≡ None
     → EndsIn (seen_of t vs) s own2 → ⊥
-goes_further t vs s own2 next stands e h = goes_at t t.pending vs s own2 next stands e h
+goes_further t vs s own2 next stands e h = goes_at t (awaited t) vs s own2 next stands e h
 
 -- ---- what is not read
 

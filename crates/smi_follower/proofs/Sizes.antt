@@ -12,12 +12,15 @@ use Rattle.smi_meaning.specs.Meaning.{Move, DidSet, DidSend}
 use Rattle.smi_meaning.specs.Shown.{shown_moves}
 use Rattle.smi_meaning.specs.Steps.{with_rest, After, Leads}
 use Rattle.smi_meaning.proofs.Showing.{shown-append}
+use Rattle.smi_meaning.specs.Meaning.{Wanted}
 use Rattle.smi_interp.specs.declared.contact.Contact.{Contact}
 use Rattle.smi_interp.specs.declared.contact.Contact.TheVariants.{Local, Send}
+use Rattle.smi_interp.specs.Expanded.{expanded, posts_in}
 use Rattle.smi_interp.specs.Turn.{posted_of}
-use Rattle.smi_interp.specs.Task.{TaskView, body, env_before, env_now, IsUnderWay, posts_waiting, shown, with_verdicts}
+use Rattle.smi_interp.specs.Task.{TaskView, body, env_before, env_now, IsUnderWay, posts_waiting, shown, awaited, with_verdicts}
 use Rattle.smi_follower.specs.Following.{FollowerView, block_of, seen_of}
-use Rattle.smi_follower.specs.Passing.{size, Passes, Stands}
+use Rattle.smi_follower.specs.declared.passing.Stop.{Stop}
+use Rattle.smi_follower.specs.Passing.{size, stop_of, Passes, Stands}
 
 -- ---- sizes
 
@@ -78,10 +81,10 @@ posted_none (p ∷ ps) = refl
 -- with no verdicts, a task has shown what its moves show
 pub seen_fresh : (t : TaskView) → seen_of t [] ≡ showing t (shown_moves t.turn.moves)
 seen_fresh t =
-    ap (λ l. showing t (shown_moves t.turn.moves ++ map item_of l)) (posted_none (posts_waiting t.pending)) ∙ ap (showing t) (append-nil (shown_moves t.turn.moves))
+    ap (λ l. showing t (shown_moves t.turn.moves ++ map item_of l)) (posted_none (posts_waiting (awaited t))) ∙ ap (showing t) (append-nil (shown_moves t.turn.moves))
 
 -- a set shows nothing
-pub local_passes : (t u : TaskView) (p : ℕ) (v : Value) → t.pending ≡ None → u ≡ shown t (Local p v) → IsUnderWay u → Passes t u false
+pub local_passes : (t u : TaskView) (p : ℕ) (v : Value) → t.pending ≡ None → u ≡ shown t (Local p v) → IsUnderWay u → Passes t u None
 local_passes t u p v idle is way =
     let few : length u.turn.moves ≤ size (body u) = moves_few u way in
     let moves : u.turn.moves ≡ t.turn.moves ++ DidSet p v ∷ [] = ap (λ (x : TaskView). x.turn.moves) is in
@@ -94,9 +97,10 @@ local_passes t u p v idle is way =
     )
 
 -- nor does a send to nobody
-pub send_passes : (t mid u : TaskView) (posts : List Post) → mid ≡ shown t (Send posts) → length posts ≡ 0 → u ≡ with_verdicts mid [] → IsUnderWay u → Passes t u false
-send_passes t mid u posts is none told way =
-    let e : u ≡ with_verdicts (shown t (Send posts)) [] = told ∙ ap (λ k. with_verdicts k []) is in
+pub send_passes : (t mid u : TaskView) (wanted : Wanted) → mid ≡ shown t (Send wanted) → length (posts_in t.domain wanted) ≡ 0 → u ≡ with_verdicts mid [] → IsUnderWay u → Passes t u None
+send_passes t mid u wanted is none told way =
+    let posts = posts_in t.domain wanted in
+    let e : u ≡ with_verdicts (shown t (Send wanted)) [] = told ∙ ap (λ k. with_verdicts k []) is in
     let few : length u.turn.moves ≤ size (body u) = moves_few u way in
     let moves : u.turn.moves ≡ t.turn.moves ++ DidSend (posted_of posts []) ∷ [] = ap (λ (x : TaskView). x.turn.moves) e in
     let items : shown_moves (t.turn.moves ++ DidSend (posted_of posts []) ∷ []) ≡ shown_moves t.turn.moves =
@@ -108,9 +112,10 @@ send_passes t mid u posts is none told way =
     )
 
 -- a task that waits has shown what it had
-pub stays : (t u : TaskView) (c : Contact) → u ≡ record t { pending = Some c } → Stands (Some c) [] → Passes t u true
-stays t u c is h = (
-  subst (λ p. Stands p []) (sym (ap (λ (x : TaskView). x.pending) is)) h,
+pub stays : (t u : TaskView) (c : Contact) (at : Stop) → u ≡ record t { pending = Some c } → expanded t.domain c ≡ stop_of at → Stands (Some (stop_of at)) [] → Passes t u (Some at)
+stays t u c at is same h = (
+  ap awaited is ∙ ap (λ x. Some x) same,
+  h,
   seen_fresh u ∙ ap (λ (x : TaskView). showing x (shown_moves x.turn.moves)) is ∙ sym (seen_fresh t),
 )
 

@@ -13,7 +13,7 @@ use Rattle.smi_meaning.specs.Environment.{Env}
 use Rattle.smi_meaning.specs.Meaning.{Move, Outcome, Means, state_left}
 use Rattle.smi_meaning.specs.Shown.{Question, question_in, shown_moves, BeginsToShow}
 use Rattle.smi_interp.specs.Turn.{posted_of}
-use Rattle.smi_interp.specs.Task.{TaskView, posts_waiting, this_program}
+use Rattle.smi_interp.specs.Task.{TaskView, posts_waiting, this_program, awaited}
 
 -- an action of an object that was in a state and had these parameters when it began, and what it has shown since
 pub record FollowerView : Type 0 where
@@ -75,5 +75,5 @@ seen_of t verdicts = record {
   state = t.turn.state;
   own = t.turn.start;
   letter = t.turn.letter;
-  shown = shown_moves t.turn.moves ++ map item_of (posted_of (posts_waiting t.pending) verdicts);
+  shown = shown_moves t.turn.moves ++ map item_of (posted_of (posts_waiting (awaited t)) verdicts);
 }

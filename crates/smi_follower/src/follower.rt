@@ -2,16 +2,16 @@
 ghost use Rattle.std.specs.Prelude.{◌≡◌, ◌↔◌, IfSome, IsTrue, Some, length, map, option_map, slice_get};
 ghost use Rattle.smi_meaning.specs.Conditions.{object_read};
 ghost use Rattle.smi_meaning.specs.Meaning.{state_left};
-ghost use Rattle.smi_interp.specs.declared.contact.Contact.TheVariants as contact;
-ghost use Rattle.smi_interp.specs.Task.{IsNext, outcome_of, posts_waiting};
-ghost use Rattle.smi_follower.specs.Passing.{end_of};
+ghost use Rattle.smi_interp.specs.Expanded as asked;
+ghost use Rattle.smi_interp.specs.Task.{outcome_of, posts_waiting};
+ghost use Rattle.smi_follower.specs.Passing.{end_of, stop_of};
 
 use crate::matching::{are_of, is_post, states_of};
-use crate::passing::settle;
+use crate::passing::{Stop, settle};
 use smi_entry::args::Reading;
 use smi_entry::entry::Verdict;
 use smi_entry::letter::Letter;
-use smi_interp::contact::{Contact, Objects, Post};
+use smi_interp::contact::Post;
 use smi_interp::task::{Ready, Task};
 use sml_domain::ids::{ActionId, ObjId, StateId};
 use sml_domain::value::Value;
@@ -32,7 +32,7 @@ pub enum Expected<'a> {
     /// It posts this request, with any verdict.
     Post(&'a Post),
     /// It reads these objects, in any states.
-    Read(&'a Objects),
+    Read(&'a [ObjId]),
     /// It ends in this state.
     End(StateId),
 }
@@ -43,8 +43,10 @@ pub enum Expected<'a> {
 /// so. What it costs is what the action costs from one such thing to the next, whatever came before.
 #[derive(Drop)]
 pub struct Follower {
-    // The action, at a contact that shows something, or at its end.
+    // The action, which stands.
     task: Task,
+    // What it waits for.
+    at: Stop,
     // The verdicts on the first posts of that contact.
     verdicts: Vec<Verdict>,
     alloc: Global,
@@ -53,8 +55,10 @@ pub struct Follower {
 impl Model for Follower {
     ghost use Rattle.std.specs.Coded.{codes};
     ghost use Rattle.sml_domain.specs.Codes.{formula_code};
+    ghost use Rattle.std.specs.Prelude.{◌≡◌, Some};
+    ghost use Rattle.smi_interp.specs.Task.{awaited};
     ghost use Rattle.smi_follower.specs.Following.{FollowerView, seen_of};
-    ghost use Rattle.smi_follower.specs.Passing.{Stands};
+    ghost use Rattle.smi_follower.specs.Passing.{Stands, stop_of};
 
     ghost Value = { FollowerView };
 
@@ -62,46 +66,43 @@ impl Model for Follower {
 
     ghost view = { λ f. seen_of f.task f.verdicts.items };
 
-    ghost invariant = { λ f. Stands f.task.pending f.verdicts.items };
+    ghost invariant = { λ f. (awaited f.task ≡ Some (stop_of f.at)) × Stands (Some (stop_of f.at)) f.verdicts.items };
 }
 
 // The first post that waits and has no verdict.
-fn wanted<'a>(task: &'a Task, verdicts: &[Verdict]) -> Option<&'a Post>
-    ensures is { option_map (λ p. p.now) result ≡ slice_get (posts_waiting task.now.pending) (length verdicts.now) }
-    ensures next { IfSome task.now.pending (IsNext task.now) }
+fn wanted<'a>(at: &'a Stop, verdicts: &[Verdict]) -> Option<&'a Post>
+    ensures { option_map (λ p. p.now) result ≡ slice_get (posts_waiting (Some (stop_of at.now))) (length verdicts.now) }
 {
-    match task.pending() {
-        Some(Contact::Send(posts)) => posts.list().get(verdicts.len()),
-        _ => None,
+    match at {
+        Stop::Posts(posts) => posts.get(verdicts.len()),
+        Stop::Objects(_) | Stop::End(_) => None,
     }
 }
 
 // Whether the first post that waits and has no verdict is this request.
 fn is_wanted(
-    task: &Task,
+    at: &Stop,
     verdicts: &[Verdict],
     target: ObjId,
     action: ActionId,
     args: &[Value],
 ) -> bool
-    ensures is { IsTrue result ↔ (slice_get (posts_waiting task.now.pending) (length verdicts.now)
+    ensures { IsTrue result ↔ (slice_get (posts_waiting (Some (stop_of at.now))) (length verdicts.now)
         ≡ Some (record { target = target; action = action; args = args.now })) }
-    ensures next { IfSome task.now.pending (IsNext task.now) }
 {
-    match wanted(task, verdicts) {
+    match wanted(at, verdicts) {
         Some(post) => is_post(post, target, action, args),
         None => false,
     }
 }
 
-// Whether a task waits to read these objects, in this order.
-fn reads_those(task: &Task, readings: &[Reading]) -> bool
-    ensures is { IsTrue result ↔ (task.now.pending ≡ Some (contact.Read (map object_read readings.now))) }
-    ensures next { IfSome task.now.pending (IsNext task.now) }
+// Whether these objects wait to be read, in this order.
+fn reads_those(at: &Stop, readings: &[Reading]) -> bool
+    ensures { IsTrue result ↔ (stop_of at.now ≡ asked.Read (map object_read readings.now)) }
 {
-    match task.pending() {
-        Some(Contact::Read(objects)) => are_of(readings, objects.list()),
-        _ => false,
+    match at {
+        Stop::Objects(objects) => are_of(readings, objects),
+        Stop::Posts(_) | Stop::End(_) => false,
     }
 }
 
@@ -115,14 +116,13 @@ fn state_after(was: StateId, end: Option<StateId>) -> StateId
     }
 }
 
-// The state in which a task ends, where its end waits.
-fn end_state(task: &Task) -> Option<StateId>
-    ensures is { result ≡ end_of task.now.turn.state task.now.pending }
-    ensures next { IfSome task.now.pending (IsNext task.now) }
+// The state in which an action ends that was in a state before, where its end waits.
+fn end_state(at: &Stop, was: StateId) -> Option<StateId>
+    ensures { result ≡ end_of was (Some (stop_of at.now)) }
 {
-    match task.pending() {
-        Some(Contact::End(end)) => Some(state_after(task.turn().state, *end)),
-        _ => None,
+    match at {
+        Stop::End(end) => Some(state_after(was, *end)),
+        Stop::Posts(_) | Stop::Objects(_) => None,
     }
 }
 
@@ -156,9 +156,10 @@ impl Follower {
         ensures { IfOk result (λ f. f ≡ seen_of task []) }
     {
         let mut task = task;
-        settle(&mut task)?;
+        let at = settle(alloc, &mut task)?;
         Ok(Follower {
             task,
+            at,
             verdicts: Vec::new(alloc),
             alloc,
         })
@@ -169,11 +170,12 @@ impl Follower {
     pub fn expected(&self) -> Expected<'_>
         ensures { IsExpected self.now result }
     {
-        match self.task.pending() {
-            Some(Contact::Send(posts)) => Expected::Post(&posts.list()[self.verdicts.len()]),
-            Some(Contact::Read(objects)) => Expected::Read(objects),
-            Some(Contact::End(end)) => Expected::End(state_after(self.task.turn().state, *end)),
-            _ => unreachable!(),
+        // What a task waits for comes next.
+        let _waits = self.task.pending();
+        match &self.at {
+            Stop::Posts(posts) => Expected::Post(&posts[self.verdicts.len()]),
+            Stop::Objects(objects) => Expected::Read(objects),
+            Stop::End(end) => Expected::End(state_after(self.task.turn().state, *end)),
         }
     }
 
@@ -183,7 +185,7 @@ impl Follower {
         ensures none { IfNone result ((readings : List truth.Reading) → ¬ MayShow self.now (Saw readings)) }
     {
         match self.expected() {
-            Expected::Read(objects) => Some(objects.list()),
+            Expected::Read(objects) => Some(objects),
             Expected::Post(_) | Expected::End(_) => None,
         }
     }
@@ -202,17 +204,20 @@ impl Follower {
     {
         let Follower {
             task,
+            at,
             verdicts,
             alloc,
         } = self;
-        if !is_wanted(&task, &verdicts, target, action, args) {
+        let _waits = task.pending();
+        if !is_wanted(&at, &verdicts, target, action, args) {
             return Ok(None);
         }
         let mut verdicts = verdicts;
         verdicts.push(verdict)?;
-        if wanted(&task, &verdicts).is_some() {
+        if wanted(&at, &verdicts).is_some() {
             return Ok(Some(Follower {
                 task,
+                at,
                 verdicts,
                 alloc,
             }));
@@ -229,8 +234,14 @@ impl Follower {
     pub fn seen(self, readings: &[Reading]) -> Result<Option<Follower>, AllocError>
         ensures { IfOk result (GoesOn self (Saw readings.now)) }
     {
-        let Follower { task, alloc, .. } = self;
-        if !reads_those(&task, readings) {
+        let Follower {
+            task,
+            at,
+            alloc,
+            ..
+        } = self;
+        let _waits = task.pending();
+        if !reads_those(&at, readings) {
             return Ok(None);
         }
         let states = states_of(alloc, readings)?;
@@ -245,8 +256,9 @@ impl Follower {
     pub fn end(self) -> Option<Ended>
         ensures { Ends self result }
     {
-        let Follower { task, .. } = self;
-        match end_state(&task) {
+        let Follower { task, at, .. } = self;
+        let _waits = task.pending();
+        match end_state(&at, task.turn().state) {
             Some(state) => Some(Ended {
                 state,
                 params: task.into_params(),

@@ -2,7 +2,6 @@
 use Rattle.std.specs.Prelude.{◌≡◌, [], All, IfSome, None}
 use Rattle.std.specs.Arc.{arc_value}
 use Rattle.sml_domain.specs.Program.{Program, Nothing}
-use Rattle.sml_domain.specs.Lookups.{members_at}
 use Rattle.smi_interp.specs.declared.contact.Contact.{Contact}
 use Rattle.smi_interp.specs.declared.run.Run.{Run}
 use Rattle.smi_interp.specs.Turn.{HasAVerdictEach, turn_of}
@@ -13,7 +12,7 @@ use Rattle.smi_interp.specs.Task.{TaskView, HasLeft, env_now}
 abbrev pub task_of : Run → TaskView
 task_of r = record {
   domain = arc_value r.domain;
-  turn = turn_of r.turn;
+  turn = turn_of (arc_value r.domain) r.turn;
   params = r.params.items;
   pending = r.pending;
 }
@@ -24,18 +23,19 @@ here r = left_in (arc_value r.domain) r.at
 
 -- the contact that comes next
 abbrev pub contact_here : Run → Contact
-contact_here r = first_contact (arc_value r.domain) (members_at (arc_value r.domain)) (here r) (env_now (task_of r))
+contact_here r = first_contact (here r) (env_now (task_of r))
 
 -- what the fields keep: the place is where the moves led, each send has its verdicts, the contact that waits is what comes
 -- there, and there is room for its answer
 pub record IsSound (r : Run) : Type 0 where
   pub leads : HasLeft (task_of r) (left_of (arc_value r.domain) r.at r.later.items)
-  pub each : All HasAVerdictEach r.turn.moves.items
+  pub each : All (HasAVerdictEach (arc_value r.domain)) r.turn.moves.items
   pub asks : IfSome r.pending (λ c. c ≡ contact_here r)
   pub settled : IfSome r.pending (λ c. here r ≡ Nothing → r.later.items ≡ [])
-  pub room : IfSome r.pending (λ c. HasRoom c r.turn.moves r.verdicts r.readings r.later)
+  pub room : IfSome r.pending (λ c. HasRoom (arc_value r.domain) c r.turn.moves r.verdicts r.objects r.readings r.later)
   pub waits : IfSome r.pending Waits
   pub verdicts : r.verdicts.items ≡ []
+  pub objects : r.objects.items ≡ []
   pub readings : r.readings.items ≡ []
 
 -- a task that is not begun
@@ -45,4 +45,5 @@ pub record IsBlank (r : Run) : Type 0 where
   pub later : r.later.items ≡ []
   pub pending : r.pending ≡ None
   pub verdicts : r.verdicts.items ≡ []
+  pub objects : r.objects.items ≡ []
   pub readings : r.readings.items ≡ []

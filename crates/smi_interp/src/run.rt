@@ -2,11 +2,13 @@
 ghost use Rattle.std.specs.Prelude.{◌≡◌, ◌≤◌, ◌+◌, ◌++◌, [], IsSome, IsTrue, is_some, None, Some, length, slice_set, vec_capacity, vec_len};
 ghost use Rattle.sml_domain.specs.Lookups.{block_at, program_at};
 ghost use Rattle.smi_meaning.specs.Meaning.{DidSend};
+ghost use Rattle.smi_interp.specs.Expanded.{posts_in};
 ghost use Rattle.smi_interp.specs.Turn.{HasAVerdictEach, move_of, posted_of, readings_of};
 ghost use Rattle.smi_interp.specs.Cursor.{left_in};
 
-use crate::contact::{Contact, Objects, Posts};
+use crate::contact::{Contact, Names, Wanted};
 use crate::cursor::{Place, branch_of, contact_at, make_room, next_of, settle};
+use crate::expanding::add_objects;
 use crate::turn::{Move, TurnRecord};
 use smi_entry::args::{Args, Reading};
 use smi_entry::entry::{Sender, Verdict};
@@ -33,7 +35,9 @@ pub struct Run {
     pub pending: Option<Contact>,
     /// Room for the verdicts of the contact that waits.
     pub verdicts: Vec<Verdict>,
-    /// Room for the readings of the contact that waits.
+    /// Room for the objects of the contact that waits.
+    pub objects: Vec<ObjId>,
+    /// Room for their readings.
     pub readings: Vec<Reading>,
     pub alloc: Global,
 }
@@ -45,9 +49,10 @@ impl Run {
     ghost use Rattle.sml_domain.specs.Program.{Nothing};
     ghost use Rattle.smi_meaning.specs.Meaning.{DidRead, DidSend};
     ghost use Rattle.smi_interp.specs.declared.contact.Contact.TheVariants as contact;
+    ghost use Rattle.smi_interp.specs.Expanded.{expanded, objects_by_names, posts_in};
     ghost use Rattle.smi_interp.specs.Turn.{posted_of, readings_of};
     ghost use Rattle.smi_interp.specs.Cursor.{HasRoom, Waits};
-    ghost use Rattle.smi_interp.specs.Task.{IsNext, LeftAsks, WantsStates, WantsVerdicts, begun, shown, with_move, with_states, with_verdicts};
+    ghost use Rattle.smi_interp.specs.Task.{IsNext, LeftAsks, LeftNames, WantsStates, WantsVerdicts, begun, shown, awaited, with_move, with_states, with_verdicts};
     ghost use Rattle.smi_interp.specs.Run.{IsBlank, IsSound, contact_here, here, task_of};
 
     /// A task that is not begun, of an object with these parameters. The arguments stand in its letter until it is.
@@ -87,6 +92,7 @@ impl Run {
             later: Vec::new(alloc),
             pending: None,
             verdicts: Vec::new(alloc),
+            objects: Vec::new(alloc),
             readings: Vec::new(alloc),
             alloc,
         }
@@ -108,8 +114,8 @@ impl Run {
     pub fn advance(&mut self) -> Result<Contact, AllocError>
         requires sound { IsSound self.old }
         ensures sound { IsSound self.new }
-        ensures next { IfOk result (IsNext (task_of self.old)) }
-        ensures left { IfOk result (LeftAsks (task_of self.old)) }
+        ensures next { IfOk result (λ c. IsNext (task_of self.old) (expanded (arc_value self.old.domain) c)) }
+        ensures names { IfOk result (LeftNames (task_of self.old)) }
         ensures waiting { IfOk result (λ c. IfSome self.old.pending (λ w. c ≡ w)) }
         ensures ok { IfOk result (λ c. task_of self.new ≡ shown (task_of self.old) c) }
         ensures err { OnErr result (task_of self.new ≡ task_of self.old) }
@@ -127,8 +133,8 @@ impl Run {
         requires sound { IsSound self.old }
         requires idle { self.old.pending ≡ None }
         ensures sound { IsSound self.new }
-        ensures next { IfOk result (IsNext (task_of self.old)) }
-        ensures left { IfOk result (LeftAsks (task_of self.old)) }
+        ensures next { IfOk result (λ c. IsNext (task_of self.old) (expanded (arc_value self.old.domain) c)) }
+        ensures names { IfOk result (LeftNames (task_of self.old)) }
         ensures ok { IfOk result (λ c. task_of self.new ≡ shown (task_of self.old) c) }
         ensures err { OnErr result (task_of self.new ≡ task_of self.old) }
     {
@@ -142,16 +148,18 @@ impl Run {
         )?;
         let told = contact.share()?;
         make_room(
+            &self.domain,
             &contact,
             &mut self.turn.moves,
             &mut self.verdicts,
+            &mut self.objects,
             &mut self.readings,
             &mut self.later,
         )?;
         match contact {
             Contact::Local { param, value } => self.set(param, value)?,
-            Contact::Send(posts) => self.wait(Contact::Send(posts)),
-            Contact::Read(objects) => self.wait(Contact::Read(objects)),
+            Contact::Send(wanted) => self.wait(Contact::Send(wanted)),
+            Contact::Read(names) => self.wait(Contact::Read(names)),
             Contact::End(state) => self.wait(Contact::End(state)),
         }
         Ok(told)
@@ -160,55 +168,61 @@ impl Run {
     /// The verdicts on the posts that wait.
     pub fn sent(&mut self, verdicts: &[Verdict])
         requires sound { IsSound self.old }
-        requires waits { IsSomeAnd self.old.pending (WantsVerdicts (length verdicts.now)) }
+        requires waits { IsSomeAnd (awaited (task_of self.old)) (WantsVerdicts (length verdicts.now)) }
         ensures sound { IsSound self.new }
         ensures sent { task_of self.new ≡ with_verdicts (task_of self.old) verdicts.now }
     {
         match take_contact(&mut self.pending) {
-            Contact::Send(posts) => self.note_sent(posts, verdicts),
+            Contact::Send(wanted) => self.note_sent(wanted, verdicts),
             _ => unreachable!(),
         }
     }
 
-    fn note_sent(&mut self, posts: Posts, verdicts: &[Verdict])
+    fn note_sent(&mut self, wanted: Wanted, verdicts: &[Verdict])
         requires sound { IsSound self.old }
         requires idle { self.old.pending ≡ None }
-        requires asks { contact.Send posts ≡ contact_here self.old }
-        requires room { HasRoom (contact.Send posts) self.old.turn.moves self.old.verdicts self.old.readings self.old.later }
-        requires each { length verdicts.now ≡ length posts }
+        requires asks { contact.Send wanted ≡ contact_here self.old }
+        requires room { HasRoom (arc_value self.old.domain) (contact.Send wanted) self.old.turn.moves self.old.verdicts
+            self.old.objects self.old.readings self.old.later }
+        requires each { length verdicts.now ≡ length (posts_in (arc_value self.old.domain) wanted) }
         ensures sound { IsSound self.new }
-        ensures sent { task_of self.new ≡ with_move (task_of self.old) (DidSend (posted_of posts verdicts.now)) }
+        ensures sent { task_of self.new ≡ with_move (task_of self.old)
+            (DidSend (posted_of (posts_in (arc_value self.old.domain) wanted) verdicts.now)) }
     {
         let room = mem::replace(&mut self.verdicts, Vec::new(self.alloc));
         self.turn
             .moves
-            .push_reserved(sent_move(room, posts, verdicts));
+            .push_reserved(sent_move(&self.domain, room, wanted, verdicts));
         self.at = next_of(&self.domain, self.at);
     }
 
     /// The states of the objects that wait to be read.
     pub fn tell(&mut self, states: &[StateId])
         requires sound { IsSound self.old }
-        requires waits { IsSomeAnd self.old.pending (WantsStates (length states.now)) }
+        requires waits { IsSomeAnd (awaited (task_of self.old)) (WantsStates (length states.now)) }
         ensures sound { IsSound self.new }
         ensures told { task_of self.new ≡ with_states (task_of self.old) states.now }
     {
         match take_contact(&mut self.pending) {
-            Contact::Read(objects) => self.note_read(objects, states),
+            Contact::Read(names) => self.note_read(names, states),
             _ => unreachable!(),
         }
     }
 
-    fn note_read(&mut self, objects: Objects, states: &[StateId])
+    fn note_read(&mut self, names: Names, states: &[StateId])
         requires sound { IsSound self.old }
         requires idle { self.old.pending ≡ None }
-        requires asks { contact.Read objects ≡ contact_here self.old }
-        requires room { HasRoom (contact.Read objects) self.old.turn.moves self.old.verdicts self.old.readings self.old.later }
-        requires each { length states.now ≡ length objects }
+        requires asks { contact.Read names ≡ contact_here self.old }
+        requires room { HasRoom (arc_value self.old.domain) (contact.Read names) self.old.turn.moves self.old.verdicts
+            self.old.objects self.old.readings self.old.later }
+        requires each { length states.now ≡ length (objects_by_names (arc_value self.old.domain) names) }
         ensures sound { IsSound self.new }
-        ensures told { task_of self.new ≡ with_move (task_of self.old) (DidRead (readings_of objects states.now)) }
+        ensures told { task_of self.new ≡ with_move (task_of self.old)
+            (DidRead (readings_of (objects_by_names (arc_value self.old.domain) names) states.now)) }
     {
-        add_readings(&mut self.readings, objects.list(), states);
+        add_objects(&self.domain, &names, &mut self.objects);
+        add_readings(&mut self.readings, &self.objects, states);
+        self.objects.clear();
         let branch = branch_of(&self.domain, self.at, &self.readings);
         let next = next_of(&self.domain, self.at);
         let readings = mem::replace(&mut self.readings, Vec::new(self.alloc));
@@ -241,7 +255,8 @@ impl Run {
         requires sound { IsSound self.old }
         requires asks { contact ≡ contact_here self.old }
         requires settled { here self.old ≡ Nothing → self.old.later.items ≡ [] }
-        requires room { HasRoom contact self.old.turn.moves self.old.verdicts self.old.readings self.old.later }
+        requires room { HasRoom (arc_value self.old.domain) contact self.old.turn.moves self.old.verdicts
+            self.old.objects self.old.readings self.old.later }
         requires waits { Waits contact }
         ensures sound { IsSound self.new }
         ensures shown { task_of self.new ≡ shown (task_of self.old) contact }
@@ -297,17 +312,18 @@ fn take_contact(pending: &mut Option<Contact>) -> Contact
 }
 
 // A `do` that sent its posts and was answered by these verdicts, which are kept in the room for them.
-fn sent_move(room: Vec<Verdict>, posts: Posts, verdicts: &[Verdict]) -> Move
+fn sent_move(domain: &Domain, room: Vec<Verdict>, wanted: Wanted, verdicts: &[Verdict]) -> Move
     requires room { vec_len room + length verdicts.now ≤ vec_capacity room }
     requires empty { room.items ≡ [] }
-    requires each { length verdicts.now ≡ length posts }
-    ensures each { HasAVerdictEach result }
-    ensures is { move_of result ≡ DidSend (posted_of posts verdicts.now) }
+    requires each { length verdicts.now ≡ length (posts_in domain.now wanted) }
+    ensures each { HasAVerdictEach domain.now result }
+    ensures is { move_of domain.now result ≡ DidSend (posted_of (posts_in domain.now wanted) verdicts.now) }
 {
+    let _domain = domain;
     let mut told = room;
     add_verdicts(&mut told, verdicts);
     Move::Sent {
-        posts,
+        wanted,
         verdicts: told,
     }
 }

@@ -128,16 +128,18 @@ impl Task {
     ghost use Rattle.std.specs.Prelude.{◌≡◌, All, IfOk, IfSome, IsSomeAnd, OnErr, length, option_map};
     ghost use Rattle.smi_interp.specs.Turn.{HasAVerdictEach, turn_of};
     ghost use Rattle.smi_interp.specs.Cursor.{Waits};
-    ghost use Rattle.smi_interp.specs.Task.{EndsWhole, IsNext, IsUnderWay, LeftAsks, WantsStates, WantsVerdicts, shown, with_states, with_verdicts};
+    ghost use Rattle.smi_interp.specs.Expanded.{expanded};
+    ghost use Rattle.smi_interp.specs.Task.{EndsWhole, IsNext, IsUnderWay, LeftAsks, LeftNames, WantsStates, WantsVerdicts, shown, awaited, with_states, with_verdicts};
 
     /// Makes one move: a `set`, or what a `do` or an `if` asks for, or the end of the action. After an
     /// error, which is want of memory, the task is the same, and a contact that waits for its answer is
     /// given again. Entering a branch and leaving it are no moves.
     pub fn advance(&mut self) -> Result<Contact, AllocError>
-        ensures next { IfOk result (IsNext self.old) }
-        ensures left { IfOk result (LeftAsks self.old) }
+        ensures next { IfOk result (λ c. IsNext self.old (expanded self.old.domain c)) }
+        ensures names { IfOk result (LeftNames self.old) }
+        ensures left { IfOk result (λ c. LeftAsks self.old (expanded self.old.domain c)) }
         // The end comes exactly where the moves are whole.
-        ensures whole { IfOk result (EndsWhole self.old) }
+        ensures whole { IfOk result (λ c. EndsWhole self.old (expanded self.old.domain c)) }
         ensures waiting { IfOk result (λ c. IfSome self.old.pending (λ w. c ≡ w)) }
         ensures ok { IfOk result (λ c. self.new ≡ shown self.old c) }
         ensures err { OnErr result (self.new ≡ self.old) }
@@ -145,21 +147,28 @@ impl Task {
         self.run.advance()
     }
 
-    /// Answers a Send: the verdicts on its posts, in order. Takes no memory.
+    /// Answers a Send: the verdicts on its posts (`posts_for`), in order. Takes no memory.
     pub fn sent(&mut self, verdicts: &[Verdict])
-        requires { IsSomeAnd self.old.pending (WantsVerdicts (length verdicts.now)) }
+        requires { IsSomeAnd (awaited self.old) (WantsVerdicts (length verdicts.now)) }
         ensures { self.new ≡ with_verdicts self.old verdicts.now }
     {
         self.run.sent(verdicts)
     }
 
-    /// Answers a Read: the states of its objects, in order. Takes no memory. The cost is that of the
-    /// condition.
+    /// Answers a Read: the states of its objects (`objects_for`), in order. Takes no memory. The cost is that of
+    /// the condition, and of expanding its names.
     pub fn tell(&mut self, states: &[StateId])
-        requires { IsSomeAnd self.old.pending (WantsStates (length states.now)) }
+        requires { IsSomeAnd (awaited self.old) (WantsStates (length states.now)) }
         ensures { self.new ≡ with_states self.old states.now }
     {
         self.run.tell(states)
+    }
+
+    /// The domain of the task's object.
+    pub fn domain(&self) -> &Domain
+        ensures { result.now ≡ self.now.domain }
+    {
+        &self.run.domain
     }
 
     /// The contact that waits for its answer, or None where none waits: no `set`, which is made at once.
@@ -168,18 +177,19 @@ impl Task {
         ensures is { option_map (λ c. c.now) result ≡ self.now.pending }
         ensures waits { IfSome self.now.pending Waits }
         // What waits is what comes next.
-        ensures next { IfSome self.now.pending (IsNext self.now) }
-        ensures left { IfSome self.now.pending (LeftAsks self.now) }
-        ensures whole { IfSome self.now.pending (EndsWhole self.now) }
+        ensures next { IfSome (awaited self.now) (IsNext self.now) }
+        ensures names { IfSome self.now.pending (LeftNames self.now) }
+        ensures left { IfSome (awaited self.now) (LeftAsks self.now) }
+        ensures whole { IfSome (awaited self.now) (EndsWhole self.now) }
     {
         self.run.pending.as_ref()
     }
 
     /// The record of the turn: the moves so far with their verdicts and readings.
     pub fn turn(&self) -> &TurnRecord
-        ensures is { turn_of result.now ≡ self.now.turn }
+        ensures is { turn_of self.now.domain result.now ≡ self.now.turn }
         // The verdicts on a `do` are as many as its posts.
-        ensures each { All HasAVerdictEach result.now.moves.items }
+        ensures each { All (HasAVerdictEach self.now.domain) result.now.moves.items }
         ensures under_way { IsUnderWay self.now }
     {
         &self.run.turn

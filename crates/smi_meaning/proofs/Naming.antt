@@ -1,12 +1,14 @@
 -- The objects of a condition, each once.
-use Rattle.std.proofs.Common.{◌≡◌, ℕ, Bool, true, false, List, [], ◌∷◌, ◌++◌, Some, map, refl, ap, subst, sym, ◌∙◌, if◌then◌else◌}
-use Rattle.std.specs.Prelude.{◌==◌, ◌||◌, not, nat_eq}
-use Rattle.std.specs.List.{AllByRecursion, IsDistinct, list_any}
+use Rattle.std.proofs.Common.{◌≡◌, ℕ, Bool, true, false, List, [], ◌∷◌, ◌++◌, Some, map, refl, ap, subst, sym, ◌∙◌, append-nil, if◌then◌else◌}
+use Rattle.std.specs.Prelude.{◌==◌, ◌&&◌, ◌||◌, not, nat_eq}
+use Rattle.std.specs.List.{AllByRecursion, IsDistinct, flat_map, list_all, list_any}
 use Rattle.std.proofs.lemmas.Bool.{eqb-true, ne_eqb, eq-eqb}
+use Rattle.std.proofs.lemmas.Grind.{flat_map-append}
 use Rattle.std.proofs.lemmas.List.Elements.{filter-append}
-use Rattle.sml_domain.specs.Program.{Formula}
+use Rattle.sml_domain.specs.Asking.{asked_of}
+use Rattle.sml_domain.specs.Program.{Formula, Both, Either, Not, Test}
 use Rattle.sml_domain.specs.Truth.{Reading, state_read}
-use Rattle.smi_meaning.specs.Conditions.{without, firsts, named_by, objects_of, object_read}
+use Rattle.smi_meaning.specs.Conditions.{without, firsts, asked_in, named_by, objects_named, objects_of, object_read}
 
 -- one that is not the one left out stays
 keeps : (o x : ℕ) (ys : List ℕ) → nat_eq o x ≡ false → list_any (nat_eq o) (without x ys) ≡ list_any (nat_eq o) ys
@@ -94,3 +96,38 @@ read_there (r ∷ rs) o h = go (read_there rs o) (nat_eq r.object o) refl
 pub named_are_read : (members : ℕ → List ℕ) (f : Formula) (readings : List Reading) (o : ℕ) → map object_read readings ≡ objects_of members f → list_any (nat_eq o) (named_by members f) ≡ true → (s : ℕ) × (state_read readings o ≡ Some s)
 named_are_read members f readings o e h =
     read_there readings o (ap (list_any (nat_eq o)) e ∙ any_first o (named_by members f) ∙ h)
+
+-- one for which a question is true may be left out of those of whom all are asked
+all_without : (question : ℕ → Bool) (x : ℕ) (ys : List ℕ) → question x ≡ true → list_all question (without x ys) ≡ list_all question ys
+all_without question x [] h = refl
+all_without question x (y ∷ ys) h = go (all_without question x ys h) (x == y) refl
+  where
+    go : list_all question (without x ys) ≡ list_all question ys → (b : Bool) → (x == y) ≡ b → list_all question (without x (y ∷ ys)) ≡ list_all question (y ∷ ys)
+    go ih true e =
+        let so : question y ≡ true = subst (λ z. question z ≡ true) (eqb-true x y e) h in
+        rw (e, so) ih
+    go ih false e = rw e (ap (λ b. question y && b) ih)
+
+-- a question is true for each, asked once or as often as they stand there
+pub all_first : (question : ℕ → Bool) (xs : List ℕ) → list_all question (firsts xs) ≡ list_all question xs
+all_first question [] = refl
+all_first question (x ∷ xs) = go (all_first question xs) (question x) refl
+  where
+    go : list_all question (firsts xs) ≡ list_all question xs → (b : Bool) → question x ≡ b → list_all question (firsts (x ∷ xs)) ≡ list_all question (x ∷ xs)
+    go ih true e = rw e (all_without question x (firsts xs) e ∙ ih)
+    go ih false e = rw e refl
+
+-- ---- names
+
+-- what a condition names is what its names stand for
+pub named_of : (members : ℕ → List ℕ) (f : Formula) → flat_map (asked_of members) (asked_in f) ≡ named_by members f
+named_of members (Both f g) =
+    flat_map-append (asked_of members) (asked_in f) (asked_in g) ∙ ap (λ xs. xs ++ flat_map (asked_of members) (asked_in g)) (named_of members f) ∙ ap (λ xs. named_by members f ++ xs) (named_of members g)
+named_of members (Either f g) =
+    flat_map-append (asked_of members) (asked_in f) (asked_in g) ∙ ap (λ xs. xs ++ flat_map (asked_of members) (asked_in g)) (named_of members f) ∙ ap (λ xs. named_by members f ++ xs) (named_of members g)
+named_of members (Not f) = named_of members f
+named_of members (Test asked negated states) = append-nil (asked_of members asked)
+
+-- so its objects are those of its names
+pub condition_names : (members : ℕ → List ℕ) (f : Formula) → objects_named members (asked_in f) ≡ objects_of members f
+condition_names members f = ap firsts (named_of members f)

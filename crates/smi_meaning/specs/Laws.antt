@@ -15,8 +15,8 @@ use Rattle.smi_entry.specs.Fits.{are_values_of, are_arguments}
 use Rattle.smi_meaning.specs.Items.{Post}
 use Rattle.smi_entry.specs.Words.{Item}
 use Rattle.smi_meaning.specs.Environment.{Env, value_of, ValuesFit, ArgumentsAre, EnvFits}
-use Rattle.smi_meaning.specs.Conditions.{firsts, named_by, objects_of, object_read}
-use Rattle.smi_meaning.specs.Meaning.{Move, Outcome, To, Means, values_for, wanted}
+use Rattle.smi_meaning.specs.Conditions.{firsts, named_by, objects_of, object_read, asked_in, objects_named}
+use Rattle.smi_meaning.specs.Meaning.{Move, Outcome, To, Means, values_for, wanted, want, posts_of}
 use Rattle.smi_meaning.specs.Steps.{After, Leads}
 use Rattle.smi_meaning.specs.Shown.{items_of, shown_moves, replies_to, question_in}
 
@@ -140,6 +140,10 @@ abbrev pub NamedAreRead : Type 0
 NamedAreRead = (members : ℕ → List ℕ) (f : Formula) (readings : List Reading) (o : ℕ) → map object_read readings ≡ objects_of members f
     → list_any (nat_eq o) (named_by members f) ≡ true → (s : ℕ) × (state_read readings o ≡ Some s)
 
+-- the objects of a condition are those that its names stand for
+abbrev pub NamesAreThose : Type 0
+NamesAreThose = (members : ℕ → List ℕ) (f : Formula) → objects_named members (asked_in f) ≡ objects_of members f
+
 -- ---- arguments
 
 -- where arguments fit, no parameter goes without a value
@@ -167,6 +171,11 @@ abbrev pub WantedFit : Type 0
 WantedFit = (d : Domain) (own given : List Param) (env : Env) (target : Target) (a : ℕ) (args : List Argument)
     → IsSound d → SendFits d own given a args target → EnvFits own given env
     → All (PostFits d) (wanted d (members_at d) target a args env)
+
+-- what a `do` asks for stands for the posts that are wanted
+abbrev pub WantedArePosted : Type 0
+WantedArePosted = (d : Domain) (members : ℕ → List ℕ) (target : Target) (a : ℕ) (args : List Argument) (env : Env)
+    → posts_of d members (want target a args env) ≡ wanted d members target a args env
 
 -- values fit parameters exactly where the test of them passes
 abbrev pub FitIsTested : Type 0

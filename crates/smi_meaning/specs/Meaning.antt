@@ -1,5 +1,5 @@
 -- What an action's block means: the moves that it may make, the environment that they leave, and how it ends.
-use Rattle.std.specs.Prelude.{◌≡◌, ℕ, List, [], ◌∷◌, ◌++◌, map, Option, MatchBool}
+use Rattle.std.specs.Prelude.{◌≡◌, ℕ, List, [], ◌∷◌, ◌++◌, map, Option, None, Some, MatchBool}
 use Rattle.std.specs.List.{filter_map}
 use Rattle.std.specs.Option.{option_map_or}
 use Rattle.sml_domain.specs.declared.value.Value.{Value}
@@ -7,7 +7,7 @@ use Rattle.sml_domain.specs.Program.{Argument, Target, ToOne, ToMembers, Program
 use Rattle.sml_domain.specs.Domain.{Domain, Param}
 use Rattle.sml_domain.specs.Lookups.{params_at}
 use Rattle.sml_domain.specs.Truth.{Reading}
-use Rattle.sml_domain.specs.Completing.{complete}
+use Rattle.sml_domain.specs.Completing.{Passed, complete}
 use Rattle.sml_domain.specs.Laws.{passed_as}
 use Rattle.smi_meaning.specs.Items.{Post, Posted}
 use Rattle.smi_meaning.specs.Environment.{Env, value_of, with_set}
@@ -43,8 +43,12 @@ abbrev pub itself : Option Value → Option Value
 itself v = v
 
 -- the values of parameters in their order, of what is passed and of defaults
+abbrev pub values_passed : List Param → List Passed → List Value
+values_passed params passed = filter_map itself (complete params passed)
+
+-- so of arguments
 abbrev pub values_for : List Param → Env → List Argument → List Value
-values_for params env args = filter_map itself (complete params (map (passed_as (value_of env)) args))
+values_for params env args = values_passed params (map (passed_as (value_of env)) args)
 
 -- a request to an object, whose arguments are completed by the object's own parameters
 abbrev pub post_to : Domain → ℕ → List Argument → Env → ℕ → Post
@@ -53,6 +57,34 @@ post_to d a args env o = record { target = o; action = a; args = values_for (par
 -- the posts that are wanted, one for each of those whom the request is for
 abbrev pub wanted : Domain → (ℕ → List ℕ) → Target → ℕ → List Argument → Env → List Post
 wanted d members target a args env = map (post_to d a args env) (targets_of members target)
+
+-- what a `do` asks for: of whom, which action, and the values that it passes by name; there is no action where no class
+-- declares one of that name, which is asked of a set without members
+pub record Wanted : Type 0 where
+  pub target : Target
+  pub action : Option ℕ
+  pub passed : List Passed
+
+-- what a `do` asks for
+abbrev pub want : Target → ℕ → List Argument → Env → Wanted
+want target a args env = record { target = target; action = Some a; passed = map (passed_as (value_of env)) args }
+
+-- what is asked of a set without members by an action that no class declares
+abbrev pub want_nothing : ℕ → Wanted
+want_nothing set = record { target = ToMembers set; action = None; passed = [] }
+
+-- the request to an object, where these values are passed by name
+abbrev pub post_for : Domain → List Passed → ℕ → ℕ → Post
+post_for d passed a o = record { target = o; action = a; args = values_passed (params_for d o a) passed }
+
+-- the requests to objects
+abbrev pub posts_for : Domain → List Passed → List ℕ → Option ℕ → List Post
+posts_for d passed targets None = []
+posts_for d passed targets (Some a) = map (post_for d passed a) targets
+
+-- the posts that are asked for, by the members that sets have
+abbrev pub posts_of : Domain → (ℕ → List ℕ) → Wanted → List Post
+posts_of d members w = posts_for d w.passed (targets_of members w.target) w.action
 
 -- the request of a post
 abbrev pub post_of : Posted → Post

@@ -1,5 +1,5 @@
 //! What holds of every meaning, as contracts of functions that do nothing.
-ghost use Rattle.smi_meaning.specs.Laws.{OneEnd, SomeMeaning, SomeGoesOn, WholeEnds, LeadsIn, LeadsOut, LeadsMore, FrontsLead, LeadsOnce, ShownSettles, NextIsShown, RepliesSettle, ShownAsksOne, ShownEndsOrAsks, NamedOnce, NamedAreThose, NamedInOrder, NamedAreRead, ArgumentsAreWhole, ArgumentsHaveKinds, OperandsHaveKinds, WantedFit, FitIsTested, ArgumentsAreTested, MeaningsKeepKinds, MeaningsEndInStates, LeftFits};
+ghost use Rattle.smi_meaning.specs.Laws.{OneEnd, SomeMeaning, SomeGoesOn, WholeEnds, LeadsIn, LeadsOut, LeadsMore, FrontsLead, LeadsOnce, ShownSettles, NextIsShown, RepliesSettle, ShownAsksOne, ShownEndsOrAsks, NamedOnce, NamedAreThose, NamedInOrder, NamedAreRead, NamesAreThose, ArgumentsAreWhole, ArgumentsHaveKinds, OperandsHaveKinds, WantedFit, WantedArePosted, FitIsTested, ArgumentsAreTested, MeaningsKeepKinds, MeaningsEndInStates, LeftFits};
 
 use sml_domain::laws::laws_of_completing;
 
@@ -31,19 +31,22 @@ pub fn laws_of_showing()
 {}
 
 /// A condition's objects are those that it names, each once, in the order in which they are first
-/// named; and each has a state where these objects are read.
+/// named; and each has a state where these objects are read. They are those that its names stand for.
 pub fn laws_of_conditions()
     ensures once { NamedOnce }
     ensures those { NamedAreThose }
     ensures in_order { NamedInOrder }
     ensures read { NamedAreRead }
+    ensures names { NamesAreThose }
 {}
 
-/// Arguments that fit give each parameter of the target's own action a value.
+/// Arguments that fit give each parameter of the target's own action a value; and what a `do` asks for stands
+/// for the posts that are wanted.
 pub fn laws_of_arguments()
     ensures whole { ArgumentsAreWhole }
     ensures kinds { ArgumentsHaveKinds }
     ensures wanted { WantedFit }
+    ensures posted { WantedArePosted }
 {
     laws_of_completing();
 }

@@ -105,7 +105,7 @@ fn tell_open_at<W: Sink>(writer: &mut W, failed: &mut bool, past: &Past, o: ObjI
     if domain.associated(o) {
         tell(writer, failed, b" waits device");
     } else if let Some(Expected::Read(objects)) = past.next(o) {
-        tell_busy(writer, failed, past, o, objects.list());
+        tell_busy(writer, failed, past, o, objects);
     }
     tell(writer, failed, b"\n");
 }
@@ -128,8 +128,8 @@ fn tell_waiting_at<W: Sink>(
     }
 }
 
-/// Writes how all stands behind the steps of a core: a line for each state, each parameter, each open action with what it
-/// waits for, and each mailbox that is not empty. (docs/FORMATS.md, "How all stands".)
+/// Writes how all stands behind the steps of a core: a line for each state, each parameter, each open action with
+/// what it waits for, and each mailbox that is not empty. (docs/FORMATS.md, "How all stands".)
 ///
 /// The domain is that of the core, and the history that of its steps. The time and the memory are those of writing the
 /// journal, reading it and judging it. The error is out of memory; then nothing is written.

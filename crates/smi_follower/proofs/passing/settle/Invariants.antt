@@ -5,8 +5,8 @@ use Rattle.smi_follower.specs.Passing.{size}
 use Rattle.smi_follower.proofs.passing.settle.Given as goal
 
 -- each move that shows nothing is one of the few
-abbrev pub decreases-loop : goal.decreases-loop
-decreases-loop l = size (body l.task) - length l.task.turn.moves
+abbrev pub decreases-loop-at : goal.decreases-loop-at
+decreases-loop-at l = size (body l.task) - length l.task.turn.moves
 
-abbrev pub invariant-loop : goal.invariant-loop
-invariant-loop l = record { idle : l.task.pending ≡ None; same : seen_of l.task [] ≡ seen_of l.fn.task [] }
+abbrev pub invariant-loop-at : goal.invariant-loop-at
+invariant-loop-at l = record { idle : l.task.pending ≡ None; same : seen_of l.task [] ≡ seen_of l.fn.task [] }

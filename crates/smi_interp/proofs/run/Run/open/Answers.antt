@@ -22,14 +22,15 @@ returns-clause-sound c =
     } in
     let none = sym c.requires.blank.pending in
     record {
-      leads = first_leads (task_of r) at r.later.items (ap (map move_of) c.requires.blank.moves) c.requires.blank.later c.requires.blank.same
+      leads = first_leads (task_of r) at r.later.items (ap (map (move_of (arc_value old.domain))) c.requires.blank.moves) c.requires.blank.later c.requires.blank.same
           (subst (λ (l : Letter). Some (left_in (arc_value old.domain) at) ≡ program_at (arc_value old.domain) old.turn.object c.args.state l.action) (sym c.put_letter.ensures)
           (subst (λ d. Some (left_in d at) ≡ program_at d old.turn.object c.args.state c.args.letter.action) c.deref.ensures c.first_place-self.ensures));
-      each = subst (All HasAVerdictEach) (sym c.requires.blank.moves) (All-nil HasAVerdictEach);
+      each = subst (All (HasAVerdictEach (arc_value old.domain))) (sym c.requires.blank.moves) (All-nil (HasAVerdictEach (arc_value old.domain)));
       asks = subst (λ p. IfSome p (λ x. x ≡ contact_here r)) none tt;
       settled = subst (λ p. IfSome p (λ x. here r ≡ Nothing → r.later.items ≡ [])) none tt;
-      room = subst (λ p. IfSome p (λ x. HasRoom x r.turn.moves r.verdicts r.readings r.later)) none tt;
+      room = subst (λ p. IfSome p (λ x. HasRoom (arc_value old.domain) x r.turn.moves r.verdicts r.objects r.readings r.later)) none tt;
       waits = subst (λ p. IfSome p Waits) none tt;
       verdicts = c.requires.blank.verdicts;
+      objects = c.requires.blank.objects;
       readings = c.requires.blank.readings;
     }

@@ -1,0 +1,12 @@
+use Rattle.std.proofs.Common.{◌≡◌, ◌≤◌, ◌+◌, drop, length, map, vec_len}
+use Rattle.std.specs.Prelude.{fold, vec_capacity}
+use Rattle.sml_domain.specs.Trees.{asked}
+use Rattle.smi_interp.specs.Expanded.{all_by_names}
+use Rattle.smi_interp.specs.Naming.{add_first}
+use Rattle.smi_interp.proofs.expanding.add_objects.Given as goal
+
+abbrev pub invariant-loop-name : goal.invariant-loop-name
+invariant-loop-name l = record {
+  added : fold add_first l.objects.items (all_by_names l.domain (map asked (drop l.name-index l.list))) ≡ fold add_first l.fn.objects.items (all_by_names l.domain (map asked l.list));
+  room : vec_len l.objects + length (all_by_names l.domain (map asked (drop l.name-index l.list))) ≤ vec_capacity l.objects;
+}
