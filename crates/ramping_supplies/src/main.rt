@@ -1,16 +1,13 @@
-//! A library example: two sessions have supplies switched on that ramp up in steps and fail above their limit, while
-//! four workers serve. It prints what each session was told, and what the report says.
+//! A library example: two sessions command supplies of a type of their own, while four workers serve.
 #![tactic(auto)]
 
 mod supplies;
 
 use std::io;
-use std::io::{ErrorKind, Write};
 
 fn main(rt: HostRuntime) -> io::Result<()> {
-    let mut output = rt.stdout();
-    match supplies::run(rt, rt.alloc(), &mut output) {
-        Some(()) => output.flush(),
-        None => Err(io::Error::from(ErrorKind::OutOfMemory)),
+    match supplies::run(rt, rt.alloc(), &mut rt.stdout()) {
+        Some(()) => Ok(()),
+        None => Err(io::Error::from(io::ErrorKind::OutOfMemory)),
     }
 }

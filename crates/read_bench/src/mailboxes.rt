@@ -210,8 +210,8 @@ fn time_boxes<K: MailNames + Send + Sync, R: Clock + Print + Threads + Wait + Co
     at_once(rt, alloc, domain, &mut mail, &mut ends)
 }
 
-/// Prints how long it takes to post a request to a mailbox and to take it: with one thread, beside the mail of one thread,
-/// and with one and with three threads that post while another takes.
+/// Prints how long it takes to post a request to a mailbox and to take it: with one thread, beside the mail of one
+/// thread, and with one and with three threads that post while another takes.
 pub fn report<R: Clock + Print + AllocGlobal + Threads + Wait + Copy + Send + Sync + Drop>(
     rt: &R,
 ) -> Result<()> {

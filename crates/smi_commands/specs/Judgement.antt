@@ -34,7 +34,8 @@ abbrev pub IsJudged : List ℕ → Judgement → Type 0
 IsJudged text Good = (file : List ItemData) × IsFileOf text file × IsWellFormed file
 IsJudged text Unreadable = ⊥
 IsJudged text (Read e) = (e.kind ≢ kind.Memory) × Cause text e.kind e.offset
-IsJudged text (Check e) = (file : List ItemData) × IsFileOf text file × (Some (e.kind, e.name) ≡ first (all_faults file))
+IsJudged text (Check e) =
+    (file : List ItemData) × IsFileOf text file × (Some (e.kind, e.name) ≡ first (all_faults file))
 
 -- a file is judged so
 abbrev pub IsJudgedFile : List ItemData → Judgement → Type 0

@@ -28,8 +28,8 @@ fault_status Memory = 3
 abbrev pub fault_line : Fault → Option (List ℕ)
 fault_line (Read file e) = Some (file.now ++ codes " read " ++ decimal (number_of e.kind) ++ codes " " ++ name_of e.kind
     ++ codes " at " ++ decimal e.offset)
-fault_line (Check file e) = Some (file.now ++ codes " check " ++ decimal (check.number_of e.kind) ++ codes " " ++ check.name_of e.kind
-    ++ codes " " ++ e.name)
+fault_line (Check file e) = Some (file.now ++ codes " check " ++ decimal (check.number_of e.kind) ++ codes " "
+    ++ check.name_of e.kind ++ codes " " ++ e.name)
 fault_line WrongNumbers = Some (codes "capacity is 1 to 1024, max-starts 1 to 1000000")
 fault_line WrongRunNumbers = Some (codes "workers is 1 to 8, capacity 1 to 1024, max-starts 1 to 1000000")
 fault_line (Unreadable file _) = Some (file.now ++ codes " unreadable")

@@ -6,14 +6,14 @@ use smi_advice::bad_entry::explain_bad_entry;
 use smi_advice::bad_header::explain_bad_header;
 use smi_advice::bad_line::{LineKind, explain_bad_line};
 use smi_advice::source_line::SourceLine;
-use sml_advice::{explain_check, explain_read};
+use sml_advice::{explain_check, explain_good, explain_read};
 use sml_domain::domain::Domain;
 use sml_text::writing::{Sink, put};
 use std::alloc::Global;
 use std::sync::Arc;
 
-/// What stands behind a fault line, for people: where the fault is, what stands there and what could. It is no part of a
-/// format, and what it says is not promised. Where there is no memory for it, a prefix of it is told, or nothing.
+/// What stands behind a fault line, for people: where the fault is, what stands there and what could. It is no part of
+/// a format, and what it says is not promised. Where there is no memory for it, a prefix of it is told, or nothing.
 #[derive(Drop)]
 pub struct Advice {
     is_wanted: bool,
@@ -44,8 +44,17 @@ impl Advice {
         };
     }
 
-    /// Advises on the text of a script of a domain that has this fault. The cost is the length of the text up to its bad
-    /// line.
+    /// Advises on the text of a domain file that has no fault: a word where it declares nothing. The cost is that of
+    /// its first token.
+    pub fn of_good_domain(&mut self, file: &str, text: &[u8]) {
+        if self.is_wanted {
+            let mut failed = false;
+            explain_good(file, text, &mut self.text, &mut failed);
+        }
+    }
+
+    /// Advises on the text of a script of a domain that has this fault. The cost is the length of the text up to its
+    /// bad line.
     pub fn of_script(&mut self, domain: &Domain, file: &str, text: &[u8], fault: &Fault<'_>) {
         if !self.is_wanted {
             return;
@@ -62,8 +71,8 @@ impl Advice {
         }
     }
 
-    /// Advises on the lines of a script whose requests and kills the domain refuses whenever they come: at most twenty, and
-    /// then how many others there are. The cost is the length of the text, and memory is taken for requests.
+    /// Advises on the lines of a script whose requests and kills the domain refuses whenever they come: at most twenty,
+    /// and then how many others there are. The cost is the length of the text, and memory is taken for requests.
     pub fn of_requests(&mut self, alloc: Global, domain: &Arc<Domain>, file: &str, text: &[u8]) {
         if self.is_wanted {
             let mut failed = false;
@@ -71,8 +80,8 @@ impl Advice {
         }
     }
 
-    /// Advises on the text of a journal of a domain that has this fault. The cost is the length of the text up to its bad
-    /// line.
+    /// Advises on the text of a journal of a domain that has this fault. The cost is the length of the text up to its
+    /// bad line.
     pub fn of_journal(&mut self, domain: &Domain, file: &str, text: &[u8], fault: &Fault<'_>) {
         if !self.is_wanted {
             return;

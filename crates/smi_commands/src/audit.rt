@@ -165,7 +165,8 @@ pub(crate) fn load_journal<'a, R: Files + AllocGlobal, I: Read>(
 // The bytes of a journal, unless there are too many.
 fn within_limit<'a>(journal: &'a str, bytes: Vec<u8>) -> Result<Vec<u8>, Fault<'a>>
     ensures ok { IfOk result (λ all. (all.items ≡ bytes.items) × (length bytes.items ≤ LONGEST_JOURNAL)) }
-    ensures err { IfErr result (λ fault. (fault ≡ Fault.TooLong journal.entry) × (LONGEST_JOURNAL < length bytes.items)) }
+    ensures err { IfErr result (λ fault.
+        (fault ≡ Fault.TooLong journal.entry) × (LONGEST_JOURNAL < length bytes.items)) }
 {
     if bytes.len() > LONGEST_JOURNAL {
         Err(Fault::TooLong(journal))

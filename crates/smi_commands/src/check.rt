@@ -15,9 +15,9 @@ use std::io::{BufWriter, Read, Write};
 
 /// Tells of each file whether it is well-formed, or why not, and gives the exit status. A refused or
 /// unreadable file is told, and the next follows; a fault of the output, or being out of memory, ends it.
-/// Why a file is unreadable goes to `errors`, and where it is asked for, what is advised on a refused file, once its line
-/// is written out. Each tree lies in an arena that is emptied for the next file. The
-/// text of each file is handed to `judge`, and the line is that of its judgement.
+/// Why a file is unreadable goes to `errors`, and where it is asked for, what is advised on a file, once its line is
+/// written out. Each tree lies in an arena that is emptied for the next file. The text of each file is handed to
+/// `judge`, and the line is that of its judgement.
 pub fn run_check<R: Files + AllocGlobal, I: Read, W: Write, E: Write>(
     rt: &R,
     files: &[&str],
@@ -75,13 +75,19 @@ fn tell_files<R: Files + AllocGlobal, I: Read, W: Write, E: Write>(
 
 // Writes what is advised on a text that was judged so.
 fn advise<E: Sink>(heap: Global, file: &str, text: &[u8], judgement: Judgement, errors: &mut E) {
-    let fault = match judgement {
-        Judgement::Read(error) => Fault::of_text(file, error),
-        Judgement::Check(error) => Fault::of_file(file, error),
-        Judgement::Good | Judgement::Unreadable => return,
-    };
     let mut advice = Advice::new(heap, true);
-    advice.of_domain(heap, file, text, &fault);
+    match judgement {
+        Judgement::Good => advice.of_good_domain(file, text),
+        Judgement::Read(error) => {
+            let fault = Fault::of_text(file, error);
+            advice.of_domain(heap, file, text, &fault);
+        }
+        Judgement::Check(error) => {
+            let fault = Fault::of_file(file, error);
+            advice.of_domain(heap, file, text, &fault);
+        }
+        Judgement::Unreadable => {}
+    }
     advice.tell(errors);
 }
 

@@ -15,8 +15,8 @@ use std::fs::Files;
 use std::io::{BufWriter, Read, Write};
 
 /// Prints the canonical text of a domain file, which is read and not checked. At a fault of the
-/// output a prefix of the text is written. What is read is handed to `print_text`, and what is advised on it goes to the
-/// advice.
+/// output a prefix of the text is written. What is read is handed to `print_text`, and what is advised on it goes to
+/// the advice.
 pub fn run_print<'a, R: Files + AllocGlobal, I: Read, W: Write>(
     rt: &R,
     file: &'a str,

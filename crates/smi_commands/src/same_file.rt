@@ -16,8 +16,8 @@ pub fn is_one_read<R: Files>(rt: &R, file: &str, other: &str, path: &str) -> boo
 }
 
 /// Whether the file that is read under a word of the command line has this path too, as a link may have. Standard
-/// input is no file of a path. One text is one path, also where no file is there; of two texts, a file that is not there,
-/// or that the system tells nothing of, is another one. No memory is taken.
+/// input is no file of a path. One text is one path, also where no file is there; of two texts, a file that is not
+/// there, or that the system tells nothing of, is another one. No memory is taken.
 pub fn is_read_from<R: Files>(rt: &R, word: &str, path: &str) -> bool
     ensures { IsReadAs word.now path.now → result ≡ true }
 {

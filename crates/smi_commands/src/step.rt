@@ -40,7 +40,8 @@ pub struct StepOptions<'a> {
     pub capacity: usize,
     /// How many actions are started at most, 1 to `MAX_STARTS`.
     pub max_starts: usize,
-    /// The path that the journal is written to, if it is. `-` is a file of that name, and a file that is read is refused.
+    /// The path that the journal is written to, if it is. `-` is a file of that name, and a file that is read is
+    /// refused.
     pub journal: Option<&'a str>,
     /// Whether a refused line makes the status that of a refusal.
     pub strict: bool,
@@ -50,8 +51,8 @@ pub struct StepOptions<'a> {
     pub states: bool,
 }
 
-/// Runs the schedule on the domain, writes in the end how all stands and the journal where that is asked for, and gives the
-/// exit status: `DONE`, and in a strict run `REFUSED` where a line was refused.
+/// Runs the schedule on the domain, writes in the end how all stands and the journal where that is asked for, and gives
+/// the exit status: `DONE`, and in a strict run `REFUSED` where a line was refused.
 ///
 /// A journal with the path of the domain or of the schedule is refused before anything is read
 /// (`Fault::Overwrites`). The domain is read and checked before the schedule is opened. Then the file of the journal
@@ -186,8 +187,8 @@ fn run_in<'a, R: Files + AllocGlobal, I: Read, W: Write, E: Write>(
     }
 }
 
-// Runs a schedule, and writes each line out before more is read. So who gives the lines of standard input one by one sees
-// the answer to each, and why a line was refused is told behind it.
+// Runs a schedule, and writes each line out before more is read. So who gives the lines of standard input one by one
+// sees the answer to each, and why a line was refused is told behind it.
 fn run_by_lines<'a, R: Files + AllocGlobal, I: Read, W: Write, E: Write>(
     rt: &R,
     core: &mut Core,

@@ -11,7 +11,8 @@ pub struct RunOptions<'a> {
     pub script: &'a str,
     /// The numbers of the run.
     pub numbers: RunNumbers,
-    /// The path that the journal is written to, if it is. `-` is a file of that name, and a file that is read is refused.
+    /// The path that the journal is written to, if it is. `-` is a file of that name, and a file that is read is
+    /// refused.
     pub journal: Option<&'a str>,
     /// Whether it is told on a terminal how far the run is. It is for whoever asks to see that there is one.
     pub progress: bool,

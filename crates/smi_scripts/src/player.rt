@@ -9,8 +9,8 @@ use std::alloc::Global;
 use std::marker::Model;
 use std::sync::Wait;
 
-// A session that has not played, or one that has left: one of the two is there, and a lock round this keeps that. Beside
-// it how many of its lines were refused, and whether one of these was for want of memory.
+// A session that has not played, or one that has left: one of the two is there, and a lock round this keeps that.
+// Beside it how many of its lines were refused, and whether one of these was for want of memory.
 #[derive(Drop)]
 pub(crate) struct Player<K: MailNames> {
     session: Option<Session<K>>,

@@ -220,8 +220,9 @@ pub fn run_scripts<
     run_watched(rt, alloc, runtime, sessions, scripts, &mut Unwatched)
 }
 
-/// Runs scripts as `run_scripts` does, with one who watches, in this thread: once the others were started, the watcher is
-/// asked what it wants and told how far the run is, over and over, until the workers have ended or it looks away.
+/// Runs scripts as `run_scripts` does, with one who watches, in this thread: once the others were started, the
+/// watcher is asked what it wants and told how far the run is, over and over, until the workers have ended or it
+/// looks away.
 pub fn run_watched<
     R: Threads + Wait + Copy + Send + Sync,
     K: MailNames + Send + Sync,

@@ -46,8 +46,8 @@ impl Asked<'_> {
 /// Does what is asked, and gives the exit status.
 ///
 /// A file that is named `-` is `input`. What the command gives goes to `output`, and a fault line
-/// (docs/FORMATS.md, "Fault lines and exit statuses") to `errors`, and behind it what is advised, where that is asked for.
-/// A fault of `errors` changes nothing, since there is no place left to tell it.
+/// (docs/FORMATS.md, "Fault lines and exit statuses") to `errors`, and behind it what is advised, where that is asked
+/// for. A fault of `errors` changes nothing, since there is no place left to tell it.
 pub fn perform<R: Host, I: Read, W: Write, E: Write>(
     rt: &R,
     asked: &Asked<'_>,

@@ -7,9 +7,10 @@ use crate::sentence::tell_sentence;
 use crate::spots::Spots;
 use crate::subject::Subject;
 use crate::teller::Teller;
+use crate::tokens::Tokens;
 use crate::walk::{Before, Walk};
 use sml_read::{ReadError, ReadErrorKind, read};
-use sml_text::writing::Sink;
+use sml_text::writing::{Sink, tell};
 use sml_tree::file::SmlFile;
 use std::alloc::{AllocError, Global};
 
@@ -42,6 +43,16 @@ pub fn explain_check<W: Sink>(
             told
         }
         Err(error) => of_refusal(&error),
+    }
+}
+
+/// Tells of a well-formed text that it has no items, where it has none; of another nothing is written. The cost is that
+/// of the blanks and comments before its first token.
+pub fn explain_good<W: Sink>(file: &str, text: &[u8], writer: &mut W, failed: &mut bool) {
+    let mut tokens = Tokens::new(text);
+    if tokens.take().is_none() {
+        tell(writer, failed, file.as_bytes());
+        tell(writer, failed, b": no items\n");
     }
 }
 

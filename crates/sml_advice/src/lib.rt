@@ -25,6 +25,6 @@ mod trail;
 mod unexpected;
 mod walk;
 
-pub use checking::{explain_check, faults_of_text};
+pub use checking::{explain_check, explain_good, faults_of_text};
 pub use finding::{Detail, Finding, Findings, Role, Site, Sort};
 pub use reading::explain_read;

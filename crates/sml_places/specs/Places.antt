@@ -10,7 +10,8 @@ LineBegins text at = (at ≡ 0) ⊎ ((i : ℕ) × (at ≡ i + 1) × (slice_get t
 abbrev pub NoLineFeedFrom : ℕ → List ℕ → Type 0
 NoLineFeedFrom at text = (i : ℕ) → at ≤ i → slice_get text i ≡ Some 10 → ⊥
 
--- the place of what stands behind these bytes: one line more than they have line feeds, and one column more than there are bytes in their last line
+-- the place of what stands behind these bytes: one line more than they have line feeds, and one column more than
+-- there are bytes in their last line
 abbrev pub IsPlace : List ℕ → Place → Type 0
 IsPlace before p = (p.line ≡ count_by (λ b. b == 10) before + 1)
     × ((at : ℕ) × LineBegins before at × NoLineFeedFrom at before × (at + p.column ≡ length before + 1))

@@ -100,8 +100,8 @@ fn is_cut_off<R: Host>(rt: &R, line: &str, place: &Place, taken: usize) -> io::R
     )
 }
 
-/// Performs a command line, and then again for each byte of its output, where an output that takes one byte a call fails
-/// there. Tells where that does not go as it must, and how often it was done.
+/// Performs a command line, and then again for each byte of its output, where an output that takes one byte a call
+/// fails there. Tells where that does not go as it must, and how often it was done.
 pub fn call_cut_off<R: Host>(rt: &R, line: &str, place: &mut Place) -> io::Result<()> {
     call(rt, line, place)?;
     for taken in 0..place.output.len() {
