@@ -257,6 +257,31 @@ X in DEAD
 4.0 if any_in E in S then 0 else 1
 4.1 if all_in E not_in then 2 else 3",
     ),
+    // An object that is named twice is waited for twice.
+    (
+        "waited for",
+        b"class: T state: S action: GO wait ( Y, all_in E, all_in G, Y ) move_to S class: K state: S
+object: X is_of_class T object: Y is_of_class K objectset: E {} objectset: G { Y }",
+        b"objects: 2, blocks: 1
+objects 0:X 1:Y X=0 Y=1
+classes 0:T 1:K K=1 T=0
+sets 0:E 1:G E=0 G=1
+states 0:S 1:DEAD DEAD=1 S=0 Dead=1
+actions 0:GO GO=0
+class T with states: 2
+class K with states: 2
+set E of 0 { }
+set G of 1 { Y }
+X is T, begins S, dies DEAD
+X takes GO
+X in S, GO does 0
+X in DEAD
+Y is K, begins S, dies DEAD
+Y in S
+Y in DEAD
+0.0 wait Y all_in E all_in G Y
+0.1 move_to S",
+    ),
     (
         "requests to nobody",
         b"class: T state: S action: GO do NOPE (N = 1) all_in E do GO all_in E object: X is_of_class T objectset: E {}",

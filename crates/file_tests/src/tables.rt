@@ -396,6 +396,14 @@ fn add_branches(text: &mut Vec<u8>, domain: &Domain, cond: &Cond, yes: BlockId, 
     add_number(text, no.get());
 }
 
+fn add_waited(text: &mut Vec<u8>, domain: &Domain, waited: &[Asked]) {
+    add(text, b"wait");
+    for asked in waited {
+        add(text, b" ");
+        add_asked(text, domain, *asked);
+    }
+}
+
 fn add_instr(text: &mut Vec<u8>, domain: &Domain, instr: &Instr) {
     match instr {
         Instr::Set { param, value } => {
@@ -427,6 +435,7 @@ fn add_instr(text: &mut Vec<u8>, domain: &Domain, instr: &Instr) {
                 state.get(),
             )
         }
+        Instr::Wait(waited) => add_waited(text, domain, waited),
     }
 }
 

@@ -32,6 +32,7 @@ class: BOSS
       set P = \"a b\"
       do SWITCH (T = 5, M = \"c\", N = T) D
       do SWITCH all_in G
+      wait ( D, all_in G )
       if ( D in_state { ON, OFF } or all_in G not_in_state ON and not any_in G in_state OFF ) then
         if ( D in_state ON ) then
           move_to IDLE

@@ -94,6 +94,27 @@ object: X is_of_class K
 objectset: G { X }
 ";
 
+/// A boss lights its lamps, and waits for them and for nobody.
+pub const WAITS: &[u8] = b"class: LAMP
+  state: OFF
+    action: LIGHT
+      move_to ON
+  state: ON
+class: BOSS
+  state: IDLE
+    action: GO
+      do LIGHT all_in G
+      wait ( K, all_in G )
+      wait ( all_in E )
+      move_to DONE
+  state: DONE
+object: L is_of_class LAMP
+object: K is_of_class LAMP
+object: B is_of_class BOSS
+objectset: G { L, K }
+objectset: E { }
+";
+
 // A state with both marks, and a condition.
 const MARKED: &[u8] = b"class: RT
   state: A /initial_state /dead_state
@@ -109,12 +130,13 @@ const IN_ONE_LINE: &[u8] = b"class:rt state:a/dead_state/initial_state action:go
     if(not(x in_state{on})or y in_state off and z not_in_state{on,off})then set n=t else endif move_to A";
 
 /// Texts, each with its canonical text, which most of them are.
-pub const TEXTS: [(&[u8], &[u8]); 8] = [
+pub const TEXTS: [(&[u8], &[u8]); 9] = [
     (SUPPLIES, SUPPLIES),
     (COUNTER, COUNTER),
     (FIRST, FIRST),
     (PAIR, PAIR),
     (EMPTY_SET, EMPTY_SET),
+    (WAITS, WAITS),
     (ASKS_ITSELF, ASKS_ITSELF),
     (MARKED, MARKED),
     (IN_ONE_LINE, MARKED),

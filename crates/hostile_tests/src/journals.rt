@@ -1,7 +1,7 @@
 //! Journals, cut at every place and with a byte changed at every place.
 
 use crate::broken::{BYTES, breaks, changed, ends_line, line_at};
-use crate::domains::{COUNTER, PAIR, SUPPLIES};
+use crate::domains::{COUNTER, PAIR, SUPPLIES, WAITS};
 use smi_audit::JournalError;
 use smi_audit::audit::audit;
 use smi_audit::judgement::Judgement;
@@ -14,7 +14,7 @@ use std::test::*;
 const HEADER: &[u8] = b"smi-journal 1\n";
 
 // Legal journals and their domains.
-const JOURNALS: [(&[u8], &[u8]); 3] = [
+const JOURNALS: [(&[u8], &[u8]); 4] = [
     (
         SUPPLIES,
         b"smi-journal 1
@@ -40,6 +40,21 @@ wait B
 kill B @1
 seen A B=DEAD
 end A S
+",
+    ),
+    (
+        WAITS,
+        b"smi-journal 1
+start B @1 0 GO
+post B L 0 LIGHT
+post B K 0 LIGHT
+wait B
+start L B 0 LIGHT
+end L ON
+kill K @1
+seen B K=DEAD L=ON
+seen B
+end B DONE
 ",
     ),
     (

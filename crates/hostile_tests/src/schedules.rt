@@ -1,7 +1,7 @@
 //! Schedules, cut at every place and with a byte changed at every place.
 
 use crate::broken::{BYTES, breaks, changed, ends_line, line_at};
-use crate::steps::{CONFIGURE_READY, PARAMETERS, Step, Told, WAITING};
+use crate::steps::{CONFIGURE_READY, LAMPS, PARAMETERS, Step, Told, WAITING};
 use smi_core::{Core, run_schedule};
 use sml_checkable::domain_of;
 use sml_domain::domain::Domain;
@@ -122,7 +122,7 @@ fn is_right(alloc: Global, told: Told) -> Option<bool> {
 
 #[test]
 fn broken_schedules(rt: HostRuntime) {
-    for told in [CONFIGURE_READY, PARAMETERS, WAITING] {
+    for told in [CONFIGURE_READY, PARAMETERS, WAITING, LAMPS] {
         assert!(rt; is_right(rt.alloc(), told) == Some(true));
     }
 }

@@ -1,6 +1,6 @@
 //! Schedules, line by line.
 
-use crate::domains::{COUNTER, PAIR, SUPPLIES};
+use crate::domains::{COUNTER, PAIR, SUPPLIES, WAITS};
 
 /// A line of a schedule, and what it writes.
 pub type Step = (&'static [u8], &'static [u8]);
@@ -86,5 +86,24 @@ pub const WAITING: Told = Told {
         (b"kill B @1\n", b"kill B @1\n"),
         (b"go A\n", b"seen A B=DEAD\n"),
         (b"go A\n", b"end A S\n"),
+    ],
+};
+
+/// A boss lights two lamps and waits for both, in the order in which it names them.
+pub const LAMPS: Told = Told {
+    domain: WAITS,
+    steps: &[
+        (b"request @1 B GO\n", b"accept @1 B 0 GO\n"),
+        (b"start B\n", b"start B @1 0 GO\n"),
+        (b"go B\n", b"post B L 0 LIGHT\npost B K 0 LIGHT\n"),
+        (b"go B\n", b"wait B\n"),
+        (b"start K\n", b"start K B 0 LIGHT\n"),
+        (b"go K\n", b"end K ON\n"),
+        (b"go B\n", b"still B\n"),
+        (b"start L\n", b"start L B 0 LIGHT\n"),
+        (b"go L\n", b"end L ON\n"),
+        (b"go B\n", b"seen B K=ON L=ON\n"),
+        (b"go B\n", b"seen B\n"),
+        (b"go B\n", b"end B DONE\n"),
     ],
 };

@@ -99,6 +99,26 @@ const SHAPES: &[Shape] = &[
         },
         action: 0,
     },
+    Shape {
+        name: "20 waits",
+        text: Lines {
+            first: FIRST,
+            line: WAIT,
+            times: 20,
+            last: LAST,
+        },
+        action: 0,
+    },
+    Shape {
+        name: "2,000 waits",
+        text: Lines {
+            first: FIRST,
+            line: WAIT,
+            times: 2_000,
+            last: LAST,
+        },
+        action: 0,
+    },
 ];
 
 // A run control switches two supplies on, and reads them.
@@ -137,7 +157,8 @@ object: C is_of_class COUNTER
 object: OUT is_of_class SINK
 ";
 
-// What stands before and behind a block of `set`s, or of `if`s, each with a `set` in the branch that is taken.
+// What stands before and behind a block of `set`s, of `if`s, each with a `set` in the branch that is taken, or of
+// `wait`s, each with a `set` behind it.
 const FIRST: &str = "class: L state: S
 class: K parameters: int N = 1 state: S action: GO (int T = 2)
 ";
@@ -145,6 +166,8 @@ class: K parameters: int N = 1 state: S action: GO (int T = 2)
 const SET: &str = "set N = T\n";
 
 const IF: &str = "if (Y in_state S) then set N = T endif\n";
+
+const WAIT: &str = "wait (Y) set N = T\n";
 
 const LAST: &str = "object: X is_of_class K
 object: Y is_of_class L

@@ -1,23 +1,21 @@
 -- What a follower decides of the entries of its object.
 use Rattle.std.proofs.Common.{◌≡◌, ◌≢◌, ℕ, Bool, true, false, List, [], ◌∷◌, ◌++◌, Option, Some, None, map, refl, sym, ap, ◌∙◌, subst, append_assoc}
-use Rattle.std.specs.Prelude.{◌↔◌, All, IfSome, IsSomeAnd, is_some, option_map, slice_get, MatchBool}
-use Rattle.std.specs.Option.{option_and_then, option_map_or}
-use Rattle.std.proofs.lemmas.List.Elements.{All-append, All-cons, All-filter, All-nil}
+use Rattle.std.specs.Prelude.{◌↔◌, All, IsSomeAnd, is_some, option_map, MatchBool}
+use Rattle.std.specs.Option.{option_and_then}
 use Rattle.sml_domain.specs.declared.value.Value.{Value}
-use Rattle.sml_domain.specs.Program.{OfOne, OfEach, OfAny, Formula, Both, Either, Not, Test, Program, Nothing, SetThen, SendThen, SendNoneThen, IfThen, EndIn, TerminateIn}
-use Rattle.sml_domain.specs.Domain.{Domain, Class, Group, Param, Signature}
-use Rattle.sml_domain.specs.Fits.{FormulaFits, ProgramFits}
-use Rattle.sml_domain.specs.Lookups.{associated_at, block_at, class_at, members_at, members_of_group, signature_in, tree_of_block}
-use Rattle.sml_domain.specs.Sound.{GroupFits, IsObject, IsSound, FitsClass, TakesParams}
+use Rattle.sml_domain.specs.Program.{Program, Nothing, SetThen, SendThen, SendNoneThen, IfThen, EndIn, TerminateIn, WaitThen}
+use Rattle.sml_domain.specs.Domain.{Domain, Class, Param, Signature}
+use Rattle.sml_domain.specs.Fits.{ProgramFits}
+use Rattle.sml_domain.specs.Lookups.{associated_at, block_at, class_at, members_at, signature_in, tree_of_block}
+use Rattle.sml_domain.specs.Sound.{IsObject, IsSound, FitsClass, TakesParams}
 use Rattle.sml_domain.specs.Truth.{Reading}
-use Rattle.sml_domain.proofs.Finds.{all_head, all_tail, got}
 use Rattle.sml_domain.proofs.Ranges.{class_fits, this_block_fits}
 use Rattle.smi_entry.specs.declared.letter.Letter.{Letter}
 use Rattle.smi_entry.specs.declared.entry.Entry.{Entry}
 use Rattle.smi_entry.specs.declared.entry.ActionEnd.TheVariants.{State}
 use Rattle.smi_entry.specs.Words.{Item, Sent, Saw, open_at, shown_of, state_of}
 use Rattle.smi_meaning.specs.Items.{Posted, item_of}
-use Rattle.smi_meaning.specs.Conditions.{firsts, named_by, object_read, without, is_true_over}
+use Rattle.smi_meaning.specs.Conditions.{object_read, is_true_over}
 use Rattle.smi_meaning.specs.Environment.{Env, value_of, with_set}
 use Rattle.smi_meaning.specs.EntryLaws.{are_clear}
 use Rattle.smi_meaning.specs.Legal.{ShowsNext, WaitsToRead, BlockEnds}
@@ -25,6 +23,7 @@ use Rattle.smi_meaning.specs.LegalLaws.{DoneOnce, ParamsAreOne}
 use Rattle.smi_meaning.specs.Meaning.{Move, Outcome, Through, To, Means, Goes, state_left}
 use Rattle.smi_meaning.specs.Params.{Running, run_with, running_in, running_at, env_of, IsDone}
 use Rattle.smi_meaning.specs.Shown.{shown_moves, ToRead}
+use Rattle.smi_meaning.proofs.There.{objects_there, objects_named_there}
 use Rattle.smi_meaning.proofs.Picked.{on_branch, same_some}
 use Rattle.smi_meaning.proofs.Showing.{shown-append}
 use Rattle.smi_rules.specs.Rules.{ReadsNext as ReadsSome, EndMeans}
@@ -130,25 +129,6 @@ is_ended law d J o s z was now is h g same =
 
 -- ---- the objects that are read are there
 
-members_there : (d : Domain) (set : ℕ) → IsSound d → All (IsObject d) (members_at d set)
-members_there d set sound = go (slice_get d.groups set) (got (GroupFits d) d.groups set sound.range.groups)
-  where
-    go : (g : Option Group) → IfSome g (GroupFits d) → All (IsObject d) (option_map_or members_of_group g [])
-    go None h = All-nil (IsObject d)
-    go (Some g) h = h
-
-named_there : (d : Domain) (f : Formula) → IsSound d → FormulaFits d f → All (IsObject d) (named_by (members_at d) f)
-named_there d (Both f g) sound h = All-append (IsObject d) (named_by (members_at d) f) (named_by (members_at d) g) (named_there d f sound h.0) (named_there d g sound h.1)
-named_there d (Either f g) sound h = All-append (IsObject d) (named_by (members_at d) f) (named_by (members_at d) g) (named_there d f sound h.0) (named_there d g sound h.1)
-named_there d (Not f) sound h = named_there d f sound h
-named_there d (Test (OfOne o) negated states) sound h = All-cons (IsObject d) o [] h.0 (All-nil (IsObject d))
-named_there d (Test (OfEach set) negated states) sound h = members_there d set sound
-named_there d (Test (OfAny set) negated states) sound h = members_there d set sound
-
-firsts_are : (P : ℕ → Type 0) (xs : List ℕ) → All P xs → All P (firsts xs)
-firsts_are P [] h = All-nil P
-firsts_are P (x ∷ xs) h = All-cons P x (without x (firsts xs)) (all_head P x xs h) (All-filter _ P (firsts xs) (firsts_are P xs (all_tail P x xs h)))
-
 -- the objects of a shown reading are there
 abbrev pub SawThere : Domain → Item → Type 0
 SawThere d (Sent t v a args) = Unit {0}
@@ -187,11 +167,14 @@ all_there d c given (SendThen t a args rest) env ms env2 r sound f m =
 all_there d c given (SendNoneThen set rest) env ms env2 r sound f m =
     subst (λ l. EachThere d (shown_moves l)) (sym m.1) (all_there d c given rest env m.0 env2 r sound f.2 m.2)
 all_there d c given (IfThen t p q rest) env ms env2 r sound f m =
-    let seen : All (IsObject d) (map object_read m.0) = subst (All (IsObject d)) (sym m.6) (firsts_are (IsObject d) (named_by (members_at d) t) (named_there d t sound f.0)) in
+    let seen : All (IsObject d) (map object_read m.0) = subst (All (IsObject d)) (sym m.6) (objects_there d t sound f.0) in
     let within : EachThere d (shown_moves m.1) = on_branch (EachThere d (shown_moves m.1)) (is_true_over (members_at d) m.0 t) (Means d (members_at d) p env m.1 m.3 m.4) (Means d (members_at d) q env m.1 m.3 m.4)
     (λ u. all_there d c given p env m.1 m.3 m.4 sound f.1 u) (λ u. all_there d c given q env m.1 m.3 m.4 sound f.2 u) m.7 in
     let after : EachThere d (shown_moves m.2) = after_goes d rest m.4 m.3 m.2 env2 r (λ u. all_there d c given rest m.3 m.2 env2 r sound f.3 u) m.8 in
     subst (λ l. EachThere d (shown_moves l)) (sym m.5) ((seen, subst (EachThere d) (sym (shown-append m.1 m.2)) (there_append d (shown_moves m.1) (shown_moves m.2) within after)))
+all_there d c given (WaitThen names rest) env ms env2 r sound f m =
+    let seen : All (IsObject d) (map object_read m.0) = subst (All (IsObject d)) (sym m.3) (objects_named_there d names sound f.0) in
+    subst (λ l. EachThere d (shown_moves l)) (sym m.2) (seen, all_there d c given rest env m.1 env2 r sound f.1 m.4)
 
 -- so are those of all that runs shows
 block_there : (d : Domain) (a b : ℕ) (cs : Option Class) (env : Env) (ms : List Move) (env2 : Env) (r : Outcome) → IsSound d → IsSomeAnd cs (FitsClass d a b) → Means d (members_at d) (tree_of_block d b) env ms env2 r → EachThere d (shown_moves ms)

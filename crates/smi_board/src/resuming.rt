@@ -75,7 +75,7 @@ impl<M: Mail> Board<M> {
     /// are let go, since an end wakes its object and a kill is for ever. Where there is none of these either,
     /// None. Takes no memory.
     ///
-    /// No object is passed over for ever: a task goes on only so often as its action has `if`s, so that
+    /// No object is passed over for ever: a task goes on only so often as its action has `if`s and `wait`s, so that
     /// tasks stand in the way of woken objects for a while only, and these are handed out in their order.
     ///
     /// The cost is the count of the objects of which a task was kept at any time, and of what those tasks

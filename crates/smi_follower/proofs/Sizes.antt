@@ -1,9 +1,9 @@
 -- A block makes no more moves than it has instructions.
-use Rattle.std.proofs.Common.{◌≡◌, ◌∙◌, sym, ap, subst, refl, ℕ, ◌+◌, ◌<◌, ◌≤◌, List, [], ◌∷◌, ◌++◌, append-nil, arith, length, length-append, map, Some, None, Bool, true, false, if◌then◌else◌}
+use Rattle.std.proofs.Common.{◌≡◌, ◌∙◌, sym, ap, refl, ℕ, ◌+◌, ◌<◌, ◌≤◌, List, [], ◌∷◌, ◌++◌, append-nil, arith, length, length-append, map, Some, None, Bool, true, false, if◌then◌else◌}
 use Rattle.sml_domain.specs.declared.value.Value.{Value}
 use Rattle.sml_domain.specs.Domain.{Domain}
 use Rattle.sml_domain.specs.Lookups.{members_at}
-use Rattle.sml_domain.specs.Program.{Program, Nothing, SetThen, SendThen, SendNoneThen, IfThen, EndIn, TerminateIn}
+use Rattle.sml_domain.specs.Program.{Program, Nothing, SetThen, SendThen, SendNoneThen, IfThen, EndIn, TerminateIn, WaitThen}
 use Rattle.smi_entry.specs.Words.{Item}
 use Rattle.smi_meaning.specs.Items.{Post, item_of}
 use Rattle.smi_meaning.specs.Environment.{Env}
@@ -32,6 +32,7 @@ size_rest (SetThen p x rest) k = let h = size_rest rest k in omega (arith, h)
 size_rest (SendThen ts a args rest) k = let h = size_rest rest k in omega (arith, h)
 size_rest (SendNoneThen set rest) k = let h = size_rest rest k in omega (arith, h)
 size_rest (IfThen c a b rest) k = let h = size_rest rest k in omega (arith, h)
+size_rest (WaitThen names rest) k = let h = size_rest rest k in omega (arith, h)
 
 branch : (t : Bool) (a b : Program) → size (if t then a else b) ≤ size a + size b
 branch true a b = omega arith
@@ -49,6 +50,7 @@ after_less d mem (IfThen c a b rest) env m left env1 h =
     let f = size_rest (if is_true_over mem h.0 c then a else b) rest in
     let g = branch (is_true_over mem h.0 c) a b in
     omega (arith, e, f, g)
+after_less d mem (WaitThen names rest) env m left env1 h = let e = ap size h.3 in omega (arith, e)
 
 leads_short : (d : Domain) (mem : ℕ → List ℕ) (b : Program) (env : Env) (ms : List Move) (left : Program) (env1 : Env) → Leads d mem b env ms left env1 → length ms ≤ size b
 leads_short d mem b env [] left env1 h = omega arith

@@ -1,6 +1,6 @@
 -- How a task comes to a contact that shows something.
 use Rattle.std.specs.Prelude.{◌≡◌, ◌<◌, ◌≤◌, ◌+◌, ℕ, suc, List, [], Option, Some, None, length}
-use Rattle.sml_domain.specs.Program.{Program, Nothing, SetThen, SendThen, SendNoneThen, IfThen, EndIn, TerminateIn}
+use Rattle.sml_domain.specs.Program.{Program, Nothing, SetThen, SendThen, SendNoneThen, IfThen, EndIn, TerminateIn, WaitThen}
 use Rattle.smi_entry.specs.declared.entry.Verdict.{Verdict}
 use Rattle.smi_meaning.specs.Meaning.{state_left}
 use Rattle.smi_interp.specs.Expanded.{Expanded, Local, Send, Read, End}
@@ -34,6 +34,7 @@ size (SetThen p x rest) = suc (size rest)
 size (SendThen target a args rest) = suc (size rest)
 size (SendNoneThen set rest) = suc (size rest)
 size (IfThen f p q rest) = suc (size p + size q + size rest)
+size (WaitThen names rest) = suc (size rest)
 
 -- what a task waits for where it stands
 abbrev pub stop_of : Stop → Expanded

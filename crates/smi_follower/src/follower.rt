@@ -228,7 +228,7 @@ impl Follower {
         Ok(Some(next))
     }
 
-    /// Goes on with what an `if` read, or gives None where the action may not read these objects next in
+    /// Goes on with what an `if` or a `wait` read, or gives None where the action may not read these objects next in
     /// this order. An error is want of memory. The cost is that of the readings, of the condition, and of
     /// the moves up to the next that shows something.
     pub fn seen(self, readings: &[Reading]) -> Result<Option<Follower>, AllocError>

@@ -15,7 +15,7 @@ use std::alloc::{AllocError, Global};
 pub enum Stop {
     /// The posts of a `do`, of which there is one at least.
     Posts(Vec<Post>),
-    /// The objects of a condition.
+    /// The objects of a condition or of a `wait`.
     Objects(Vec<ObjId>),
     /// The end of the action, in this state or without one.
     End(Option<StateId>),

@@ -1,5 +1,5 @@
 //! What the names of contacts stand for: the posts of a `do`, and the objects of a condition.
-ghost use Rattle.std.specs.Prelude.{◌≡◌, ◌<◌, ◌≤◌, ◌+◌, IfOk, OnOk, [], Some, find, fold, length, map, nat_eq};
+ghost use Rattle.std.specs.Prelude.{◌≡◌, ◌<◌, ◌≤◌, ◌+◌, ℕ, IfOk, OnOk, [], Some, find, fold, length, map, nat_eq};
 ghost use Rattle.std.specs.Prelude.{option_map, vec_capacity, vec_len};
 ghost use Rattle.sml_domain.specs.Names.{same_name};
 ghost use Rattle.std.specs.List.{flat_map, list_any};
@@ -7,14 +7,15 @@ ghost use Rattle.sml_domain.specs.Asking.{asked_of};
 ghost use Rattle.sml_domain.specs.Completing as completing;
 ghost use Rattle.sml_domain.specs.Lookups.{members_at};
 ghost use Rattle.sml_domain.specs.Trees.{asked as asked_tree, target as target_tree};
+ghost use Rattle.smi_meaning.specs.Conditions.{object_read};
 ghost use Rattle.smi_meaning.specs.Meaning as means;
 ghost use Rattle.smi_interp.specs.Expanded as expanded;
 ghost use Rattle.smi_interp.specs.Naming.{add_first};
 
 use crate::contact::{Names, Passed, Post, Wanted};
-use smi_entry::args::Args;
+use smi_entry::args::{Args, Reading};
 use sml_domain::domain::Domain;
-use sml_domain::ids::{ActionId, ObjId};
+use sml_domain::ids::{ActionId, ObjId, StateId};
 use sml_domain::instr::{Asked, Target};
 use sml_domain::param::Param;
 use sml_domain::value::Value;
@@ -167,44 +168,90 @@ pub(crate) fn make_room<T>(
     list.reserve(count)
 }
 
-/// Adds the objects that names stand for, each where it is first named, but for those that are there. Takes no
-/// memory. The cost is the count of those whom the names stand for, by that of the objects.
-pub(crate) fn add_objects(domain: &Domain, names: &Names, objects: &mut Vec<ObjId>)
-    requires { vec_len objects.old + length (expanded.all_by_names domain.now names.now) ≤ vec_capacity objects.old }
-    ensures { objects.new.items ≡ fold add_first objects.old.items (expanded.all_by_names domain.now names.now) }
-{
-    let list = names.list();
-    for name in list {
-        add_all(objects, objects_of(domain, name));
+/// What a list has for each object: the object, or a reading of it.
+pub(crate) trait OfObject {
+    // The object that it is of.
+    ghost object_of: { Self → ℕ };
+
+    fn of(object: ObjId) -> Self
+        ensures { object_of result ≡ object };
+
+    fn object(&self) -> ObjId
+        ensures { result ≡ object_of self.now };
+}
+
+impl OfObject for ObjId {
+    ghost object_of = { λ o. o };
+
+    fn of(object: ObjId) -> ObjId {
+        object
+    }
+
+    fn object(&self) -> ObjId {
+        *self
     }
 }
 
-fn add_all(objects: &mut Vec<ObjId>, more: &[ObjId])
-    requires { vec_len objects.old + length more.now ≤ vec_capacity objects.old }
-    ensures items { objects.new.items ≡ fold add_first objects.old.items more.now }
-    ensures length { vec_len objects.new ≤ vec_len objects.old + length more.now }
-    ensures capacity { vec_capacity objects.new ≡ vec_capacity objects.old }
+impl OfObject for Reading {
+    ghost object_of = { object_read };
+
+    fn of(object: ObjId) -> Reading {
+        Reading {
+            object,
+            state: StateId::new(0),
+        }
+    }
+
+    fn object(&self) -> ObjId {
+        self.object
+    }
+}
+
+/// Adds one for each object that names stand for, where it is first named, but for those that are there: the
+/// object, or a reading of it whose state is still to come. Takes no memory. The cost is the count of those whom
+/// the names stand for, by that of the objects.
+pub(crate) fn add_objects<T: OfObject>(domain: &Domain, names: &Names, list: &mut Vec<T>)
+    requires { vec_len list.old + length (expanded.all_by_names domain.now names.now) ≤ vec_capacity list.old }
+    ensures { map T.object_of list.new.items
+        ≡ fold add_first (map T.object_of list.old.items) (expanded.all_by_names domain.now names.now) }
+{
+    let named = names.list();
+    for name in named {
+        add_all(list, objects_of(domain, name));
+    }
+}
+
+fn add_all<T: OfObject>(list: &mut Vec<T>, more: &[ObjId])
+    requires { vec_len list.old + length more.now ≤ vec_capacity list.old }
+    ensures items { map T.object_of list.new.items ≡ fold add_first (map T.object_of list.old.items) more.now }
+    ensures length { vec_len list.new ≤ vec_len list.old + length more.now }
+    ensures capacity { vec_capacity list.new ≡ vec_capacity list.old }
 {
     for object in more {
-        add_one(objects, *object);
+        add_one(list, *object);
     }
 }
 
-fn add_one(objects: &mut Vec<ObjId>, object: ObjId)
-    requires { vec_len objects.old < vec_capacity objects.old }
-    ensures items { objects.new.items ≡ add_first objects.old.items object }
-    ensures length { vec_len objects.new ≤ vec_len objects.old + 1 }
-    ensures capacity { vec_capacity objects.new ≡ vec_capacity objects.old }
+fn add_one<T: OfObject>(list: &mut Vec<T>, object: ObjId)
+    requires { vec_len list.old < vec_capacity list.old }
+    ensures items { map T.object_of list.new.items ≡ add_first (map T.object_of list.old.items) object }
+    ensures length { vec_len list.new ≤ vec_len list.old + 1 }
+    ensures capacity { vec_capacity list.new ≡ vec_capacity list.old }
 {
-    if !is_there(objects, object) {
-        objects.push_reserved(object);
+    if !is_there(list, object) {
+        list.push_reserved(T::of(object));
     }
 }
 
-fn is_there(objects: &[ObjId], object: ObjId) -> bool
-    ensures { result ≡ list_any (nat_eq object) objects.now }
+fn is_there<T: OfObject>(list: &[T], object: ObjId) -> bool
+    ensures { result ≡ list_any (nat_eq object) (map T.object_of list.now) }
 {
-    objects.iter().any(|other| object.get() == other.get())
+    for other in list {
+        if object.get() == other.object().get() {
+            return true;
+        }
+    }
+    false
 }
 
 /// The objects that names stand for, each once, in the order of their first naming. An error means out of

@@ -1,8 +1,9 @@
 //! The fields of a task, and its steps.
-ghost use Rattle.std.specs.Prelude.{◌≡◌, ◌≤◌, ◌+◌, ◌++◌, [], IsSome, IsTrue, is_some, None, Some, length, slice_set, vec_capacity, vec_len};
+ghost use Rattle.std.specs.Prelude.{◌≡◌, ◌≤◌, ◌+◌, ◌++◌, [], IsSome, IsTrue, is_some, None, Some, length, map, slice_set, vec_capacity, vec_len};
 ghost use Rattle.sml_domain.specs.Lookups.{block_at, program_at};
+ghost use Rattle.smi_meaning.specs.Conditions.{object_read};
 ghost use Rattle.smi_meaning.specs.Meaning.{DidSend};
-ghost use Rattle.smi_interp.specs.Expanded.{posts_in};
+ghost use Rattle.smi_interp.specs.Expanded.{all_by_names, objects_by_names, posts_in};
 ghost use Rattle.smi_interp.specs.Turn.{HasAVerdictEach, move_of, posted_of, readings_of};
 ghost use Rattle.smi_interp.specs.Cursor.{left_in};
 
@@ -35,9 +36,7 @@ pub struct Run {
     pub pending: Option<Contact>,
     /// Room for the verdicts of the contact that waits.
     pub verdicts: Vec<Verdict>,
-    /// Room for the objects of the contact that waits.
-    pub objects: Vec<ObjId>,
-    /// Room for their readings.
+    /// Room for what is read of the objects of the contact that waits.
     pub readings: Vec<Reading>,
     pub alloc: Global,
 }
@@ -92,7 +91,6 @@ impl Run {
             later: Vec::new(alloc),
             pending: None,
             verdicts: Vec::new(alloc),
-            objects: Vec::new(alloc),
             readings: Vec::new(alloc),
             alloc,
         }
@@ -152,7 +150,6 @@ impl Run {
             &contact,
             &mut self.turn.moves,
             &mut self.verdicts,
-            &mut self.objects,
             &mut self.readings,
             &mut self.later,
         )?;
@@ -183,7 +180,7 @@ impl Run {
         requires idle { self.old.pending ≡ None }
         requires asks { contact.Send wanted ≡ contact_here self.old }
         requires room { HasRoom (arc_value self.old.domain) (contact.Send wanted) self.old.turn.moves self.old.verdicts
-            self.old.objects self.old.readings self.old.later }
+            self.old.readings self.old.later }
         requires each { length verdicts.now ≡ length (posts_in (arc_value self.old.domain) wanted) }
         ensures sound { IsSound self.new }
         ensures sent { task_of self.new ≡ with_move (task_of self.old)
@@ -214,15 +211,13 @@ impl Run {
         requires idle { self.old.pending ≡ None }
         requires asks { contact.Read names ≡ contact_here self.old }
         requires room { HasRoom (arc_value self.old.domain) (contact.Read names) self.old.turn.moves self.old.verdicts
-            self.old.objects self.old.readings self.old.later }
+            self.old.readings self.old.later }
         requires each { length states.now ≡ length (objects_by_names (arc_value self.old.domain) names) }
         ensures sound { IsSound self.new }
         ensures told { task_of self.new ≡ with_move (task_of self.old)
             (DidRead (readings_of (objects_by_names (arc_value self.old.domain) names) states.now)) }
     {
-        add_objects(&self.domain, &names, &mut self.objects);
-        add_readings(&mut self.readings, &self.objects, states);
-        self.objects.clear();
+        add_readings(&self.domain, &names, states, &mut self.readings);
         let branch = branch_of(&self.domain, self.at, &self.readings);
         let next = next_of(&self.domain, self.at);
         let readings = mem::replace(&mut self.readings, Vec::new(self.alloc));
@@ -256,7 +251,7 @@ impl Run {
         requires asks { contact ≡ contact_here self.old }
         requires settled { here self.old ≡ Nothing → self.old.later.items ≡ [] }
         requires room { HasRoom (arc_value self.old.domain) contact self.old.turn.moves self.old.verdicts
-            self.old.objects self.old.readings self.old.later }
+            self.old.readings self.old.later }
         requires waits { Waits contact }
         ensures sound { IsSound self.new }
         ensures shown { task_of self.new ≡ shown (task_of self.old) contact }
@@ -337,16 +332,23 @@ fn add_verdicts(to: &mut Vec<Verdict>, more: &[Verdict])
     }
 }
 
-// Adds a reading of each object, in the state of its place.
-fn add_readings(to: &mut Vec<Reading>, objects: &[ObjId], states: &[StateId])
-    requires room { vec_len to.old + length objects.now ≤ vec_capacity to.old }
-    requires each { length states.now ≡ length objects.now }
-    ensures { to.new.items ≡ to.old.items ++ readings_of objects.now states.now }
+// Adds a reading of each object that names stand for, in the state of its place.
+fn add_readings(domain: &Domain, names: &Names, states: &[StateId], readings: &mut Vec<Reading>)
+    requires room { vec_len readings.old + length (all_by_names domain.now names.now) ≤ vec_capacity readings.old }
+    requires empty { readings.old.items ≡ [] }
+    requires each { length states.now ≡ length (objects_by_names domain.now names.now) }
+    ensures { readings.new.items ≡ readings_of (objects_by_names domain.now names.now) states.now }
 {
-    for (i, object) in objects.iter().enumerate() {
-        to.push_reserved(Reading {
-            object: *object,
-            state: states[i],
-        });
+    add_objects(domain, names, readings);
+    put_states(readings, states);
+}
+
+// Gives each reading the state of its place.
+fn put_states(readings: &mut Vec<Reading>, states: &[StateId])
+    requires { length states.now ≡ length readings.old.items }
+    ensures { readings.new.items ≡ readings_of (map object_read readings.old.items) states.now }
+{
+    for (i, state) in states.iter().enumerate() {
+        readings[i].state = *state;
     }
 }

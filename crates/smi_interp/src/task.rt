@@ -131,8 +131,8 @@ impl Task {
     ghost use Rattle.smi_interp.specs.Expanded.{expanded};
     ghost use Rattle.smi_interp.specs.Task.{EndsWhole, IsNext, IsUnderWay, LeftAsks, LeftNames, WantsStates, WantsVerdicts, shown, awaited, with_states, with_verdicts};
 
-    /// Makes one move: a `set`, or what a `do` or an `if` asks for, or the end of the action. After an
-    /// error, which is want of memory, the task is the same, and a contact that waits for its answer is
+    /// Makes one move: a `set`, or what a `do`, an `if` or a `wait` asks for, or the end of the action. After
+    /// an error, which is want of memory, the task is the same, and a contact that waits for its answer is
     /// given again. Entering a branch and leaving it are no moves.
     pub fn advance(&mut self) -> Result<Contact, AllocError>
         ensures next { IfOk result (λ c. IsNext self.old (expanded self.old.domain c)) }

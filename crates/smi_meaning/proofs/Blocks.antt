@@ -1,13 +1,13 @@
 -- A block's moves, one after another.
 use Rattle.std.proofs.Common.{◌≡◌, ℕ, List, [], ◌∷◌, ◌++◌, Bool, true, false, map, if◌then◌else◌, refl, ap, subst, sym, ◌∙◌, append_assoc}
 use Rattle.std.specs.Prelude.{MatchBool}
-use Rattle.sml_domain.specs.Program.{Program, Nothing, SetThen, SendThen, SendNoneThen, IfThen, EndIn, TerminateIn}
+use Rattle.sml_domain.specs.Program.{Program, Nothing, SetThen, SendThen, SendNoneThen, IfThen, EndIn, TerminateIn, WaitThen}
 use Rattle.sml_domain.specs.Domain.{Domain}
 use Rattle.sml_domain.specs.Truth.{Reading}
 use Rattle.smi_meaning.specs.Items.{Post, Posted}
 use Rattle.smi_entry.specs.declared.entry.Verdict.TheVariants.{Full}
 use Rattle.smi_meaning.specs.Environment.{Env, value_of, with_set}
-use Rattle.smi_meaning.specs.Conditions.{objects_of, object_read, is_true_over}
+use Rattle.smi_meaning.specs.Conditions.{objects_named, objects_of, object_read, is_true_over}
 use Rattle.smi_meaning.specs.Meaning.{Move, DidSet, DidSend, DidRead, Outcome, Through, To, Means, Goes, wanted, post_of}
 use Rattle.smi_meaning.specs.Steps.{with_rest, After, Leads}
 use Rattle.smi_meaning.specs.Laws.{HasMeaning, Begins, LeadsTo}
@@ -48,6 +48,8 @@ seq_in d mem (IfThen c a b rest) k env m1 e1 r1 m2 e2 r h g = (
   h.7,
   goes_on d mem k rest h.4 h.3 h.2 e1 r1 m2 e2 r (λ n1 f1 q1 n2 f2 q2 u v. seq_in d mem rest k f1 n1 e1 q1 n2 f2 q2 u v) h.8 g,
 )
+seq_in d mem (WaitThen names rest) k env m1 e1 r1 m2 e2 r h g =
+    (h.0, h.1 ++ m2, ap (λ ms. ms ++ m2) h.2, h.3, seq_in d mem rest k _ h.1 e1 r1 m2 e2 r h.4 g)
 
 -- how a block's moves and those of what stands after it part
 abbrev pub Parts : Domain → (ℕ → List ℕ) → Program → Program → Env → List Move → Env → Outcome → Type 0
@@ -87,6 +89,9 @@ seq_out d mem (IfThen c a b rest) k env ms e2 r h =
       (h.0, h.1, q.0, h.3, h.4, refl, h.6, h.7, q.5),
       q.6,
     )
+seq_out d mem (WaitThen names rest) k env ms e2 r h =
+    let q = seq_out d mem rest k _ h.1 e2 r h.4 in
+    (DidRead h.0 ∷ q.0, q.1, q.2, q.3, h.2 ∙ ap (λ ns. DidRead h.0 ∷ ns) q.4, (h.0, q.0, refl, h.3, q.5), q.6)
 
 -- of two blocks, the one that a test picks
 pub picked : (d : Domain) (mem : ℕ → List ℕ) (b : Bool) (x y : Program) (env : Env) (ms : List Move) (e1 : Env) (r1 : Outcome) → MatchBool b (Means d mem x env ms e1 r1) (Means d mem y env ms e1 r1) → Means d mem (if b then x else y) env ms e1 r1
@@ -112,6 +117,8 @@ step_in d mem (IfThen c x y rest) env m left env1 ms e2 r h g =
     let g' : Means d mem (with_rest (if is_true_over mem h.0 c then x else y) rest) env ms e2 r = subst (λ e. Means d mem (with_rest (if is_true_over mem h.0 c then x else y) rest) e ms e2 r) h.4 (subst (λ l. Means d mem l env1 ms e2 r) h.3 g) in
     let q = seq_out d mem (if is_true_over mem h.0 c then x else y) rest env ms e2 r g' in
     (h.0, q.0, q.1, q.2, q.3, ap (λ n. n ∷ ms) h.1 ∙ ap (λ ns. DidRead h.0 ∷ ns) q.4, h.2, unpicked d mem (is_true_over mem h.0 c) x y env q.0 q.2 q.3 q.5, q.6)
+step_in d mem (WaitThen names rest) env m left env1 ms e2 r h g =
+    (h.0, ms, ap (λ n. n ∷ ms) h.1, h.2, subst (λ e. Means d mem rest e ms e2 r) h.4 (subst (λ l. Means d mem l env1 ms e2 r) h.3 g))
 
 -- a meaning that makes a move begins with it, and goes on as a meaning of what is left
 pub first : (d : Domain) (mem : ℕ → List ℕ) (b : Program) (env : Env) (m : Move) (ms : List Move) (e2 : Env) (r : Outcome) → Means d mem b env (m ∷ ms) e2 r → (left : Program) × (env1 : Env) × After d mem b env m left env1 × Means d mem left env1 ms e2 r
@@ -139,6 +146,10 @@ first d mem (IfThen c x y rest) env m ms e2 r h =
       (h.0, cc, h.6, refl, refl),
       subst (λ ns. Means d mem (with_rest b rest) env ns e2 r) t (seq_in d mem b rest env h.1 h.3 h.4 h.2 e2 r (picked d mem (is_true_over mem h.0 c) x y env h.1 h.3 h.4 h.7) h.8),
     )
+first d mem (WaitThen names rest) env m ms e2 r h =
+    let e : (m ∷ ms) ≡ (DidRead h.0 ∷ h.1) = h.2 in
+    let t : h.1 ≡ ms = cc in
+    (rest, env, (h.0, cc, h.3, refl, refl), subst (λ ns. Means d mem rest env ns e2 r) t h.4)
 
 -- one move leaves one thing
 pub after_same : (d : Domain) (mem : ℕ → List ℕ) (b : Program) (env : Env) (m : Move) (l1 : Program) (e1 : Env) (l2 : Program) (e2 : Env) → After d mem b env m l1 e1 → After d mem b env m l2 e2 → (l1 ≡ l2) × (e1 ≡ e2)
@@ -152,6 +163,7 @@ after_same d mem (IfThen c x y rest) env m l1 e1 l2 e2 h g =
     let e : DidRead h.0 ≡ DidRead g.0 = sym h.1 ∙ g.1 in
     let t : h.0 ≡ g.0 = cc in
     (h.3 ∙ ap (λ rs. with_rest (if is_true_over mem rs c then x else y) rest) t ∙ sym g.3, h.4 ∙ sym g.4)
+after_same d mem (WaitThen names rest) env m l1 e1 l2 e2 h g = (h.3 ∙ sym g.3, h.4 ∙ sym g.4)
 
 pub step_out : (d : Domain) (mem : ℕ → List ℕ) (b : Program) (env : Env) (m : Move) (left : Program) (env1 : Env) (ms : List Move) (e2 : Env) (r : Outcome) → After d mem b env m left env1 → Means d mem b env (m ∷ ms) e2 r → Means d mem left env1 ms e2 r
 step_out d mem b env m left env1 ms e2 r h g =
@@ -168,6 +180,7 @@ still_same d mem (SetThen p x rest) env ms e1 r1 e2 r2 none h g = let e = sym no
 still_same d mem (SendNoneThen set rest) env ms e1 r1 e2 r2 none h g = let e = sym none ∙ h.1 in absurd (cc)
 still_same d mem (SendThen t a args rest) env ms e1 r1 e2 r2 none h g = let e = sym none ∙ h.2 in absurd (cc)
 still_same d mem (IfThen c x y rest) env ms e1 r1 e2 r2 none h g = let e = sym none ∙ h.5 in absurd (cc)
+still_same d mem (WaitThen names rest) env ms e1 r1 e2 r2 none h g = let e = sym none ∙ h.2 in absurd (cc)
 
 -- equal moves leave equal environments and have equal results
 pub means_same : (d : Domain) (mem : ℕ → List ℕ) (b : Program) (env : Env) (ms : List Move) (e1 : Env) (r1 : Outcome) (e2 : Env) (r2 : Outcome) → Means d mem b env ms e1 r1 → Means d mem b env ms e2 r2 → (e1 ≡ e2) × (r1 ≡ r2)
@@ -185,6 +198,7 @@ ended d mem (SetThen p x rest) env e1 r1 m left env1 h g = let e = h.1 in cc
 ended d mem (SendNoneThen set rest) env e1 r1 m left env1 h g = let e = h.1 in cc
 ended d mem (SendThen t a args rest) env e1 r1 m left env1 h g = let e = h.2 in cc
 ended d mem (IfThen c x y rest) env e1 r1 m left env1 h g = let e = h.5 in cc
+ended d mem (WaitThen names rest) env e1 r1 m left env1 h g = let e = h.2 in cc
 
 -- whole moves do not go on
 pub whole_ends : (d : Domain) (mem : ℕ → List ℕ) (b : Program) (env : Env) (ms : List Move) (e1 : Env) (r1 : Outcome) (m : Move) (more : List Move) (e2 : Env) (r2 : Outcome) → Means d mem b env ms e1 r1 → Means d mem b env (ms ++ m ∷ more) e2 r2 → ⊥
@@ -268,6 +282,10 @@ some_meaning d mem (IfThen c x y rest) env =
     let m = either d mem (is_true_over mem rs c) x y env (some_meaning d mem x env) (some_meaning d mem y env) in
     let n = after_if d mem m.2 m.1 rest (some_meaning d mem rest m.1) in
     (DidRead rs ∷ (m.0 ++ n.0), n.1, n.2, (rs, m.0, n.0, m.1, m.2, refl, objects_of_some (objects_of mem c), m.3, n.3))
+some_meaning d mem (WaitThen names rest) env =
+    let m = some_meaning d mem rest env in
+    let rs = some_readings (objects_named mem names) in
+    (DidRead rs ∷ m.0, m.1, m.2, (rs, m.0, refl, objects_of_some (objects_named mem names), m.3))
 
 -- what was made goes on
 pub some_goes_on : (d : Domain) (mem : ℕ → List ℕ) (b : Program) (env : Env) (made : List Move) (left : Program) (env1 : Env) → Leads d mem b env made left env1 → Begins d mem b env made

@@ -8,7 +8,7 @@ use Rattle.sml_tree.specs.declared.file.Kind.{Kind}
 use Rattle.sml_domain.specs.declared.value.Value.{Value}
 use Rattle.sml_domain.specs.Values.{kind_of}
 use Rattle.sml_domain.specs.Names.{AreDistinct}
-use Rattle.sml_domain.specs.Program.{Operand, Fixed, Own, Given, Argument, Target, ToOne, ToMembers, Program, Nothing, SetThen, SendThen, SendNoneThen, IfThen, EndIn, TerminateIn}
+use Rattle.sml_domain.specs.Program.{Operand, Fixed, Own, Given, Argument, Target, ToOne, ToMembers, Program, Nothing, SetThen, SendThen, SendNoneThen, IfThen, EndIn, TerminateIn, WaitThen}
 use Rattle.sml_domain.specs.Domain.{Domain, Class, Signature, Param}
 use Rattle.sml_domain.specs.Lookups.{class_at, params_at, members_at, is_signature, signature_in, params_of_action}
 use Rattle.sml_domain.specs.Completing.{complete}
@@ -74,6 +74,8 @@ meanings_keep_kinds d mem c given (IfThen t p q rest) env ms env2 r f h m =
     let first = branch_keeps d mem c.params given (is_true_over mem m.0 t) p q env m.1 m.3 m.4
     (λ u. meanings_keep_kinds d mem c given p env m.1 m.3 m.4 f.1 h u) (λ u. meanings_keep_kinds d mem c given q env m.1 m.3 m.4 f.2 h u) m.7 in
     goes_keeps d mem c.params given rest m.4 m.3 m.2 env2 r (λ ns e u. meanings_keep_kinds d mem c given rest m.3 ns env2 r f.3 e u) first m.8
+meanings_keep_kinds d mem c given (WaitThen names rest) env ms env2 r f h m =
+    meanings_keep_kinds d mem c given rest env m.1 env2 r f.1 h m.4
 
 -- values that are filled have the kinds of their parameters
 filled_fit : (params : List Param) (values : List (Option Value)) → AllZip IsFilled params values → ValuesFit (filter_map itself values) params

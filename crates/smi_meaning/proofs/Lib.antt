@@ -12,6 +12,7 @@ pub mod StatesKnown
 pub mod ValuesKept
 mod Worked
 pub mod Readings
+pub mod There
 pub mod Leaving
 pub mod Numbered
 pub mod Tested

@@ -3,7 +3,7 @@ use Rattle.std.proofs.Common.{◌≡◌, ℕ, List, [], ◌∷◌, ◌++◌, map
 use Rattle.std.proofs.lemmas.Bool.{and_parts}
 use Rattle.std.specs.Prelude.{◌↔◌, ◌&&◌, if◌then◌else◌}
 use Rattle.std.specs.List.{list_all}
-use Rattle.sml_domain.specs.Program.{Formula, Program, Nothing, SetThen, SendThen, SendNoneThen, IfThen, EndIn, TerminateIn}
+use Rattle.sml_domain.specs.Program.{Program, Nothing, SetThen, SendThen, SendNoneThen, IfThen, EndIn, TerminateIn, WaitThen}
 use Rattle.sml_domain.specs.Domain.{Domain}
 use Rattle.sml_domain.specs.Lookups.{members_at}
 use Rattle.sml_domain.specs.Truth.{Reading}
@@ -12,13 +12,13 @@ use Rattle.smi_entry.specs.declared.entry.Entry.TheVariants.{Wait, Seen}
 use Rattle.smi_entry.specs.Words.{Item, Saw, shown_of, is_clear}
 use Rattle.smi_meaning.specs.Items.{Posted, item_of}
 use Rattle.smi_meaning.specs.Environment.{Env}
-use Rattle.smi_meaning.specs.Conditions.{objects_of, object_read, is_true_over}
+use Rattle.smi_meaning.specs.Conditions.{object_read, is_true_over}
 use Rattle.smi_meaning.specs.Meaning.{Move, DidSet, DidSend, DidRead, Means}
-use Rattle.smi_meaning.specs.Steps.{After, Leads, with_rest}
+use Rattle.smi_meaning.specs.Steps.{After, with_rest}
 use Rattle.smi_meaning.specs.Shown.{shown_moves}
 use Rattle.smi_meaning.specs.Params.{env_of}
 use Rattle.smi_meaning.specs.Legal.{IsRead, ShowsNext, is_clear_for, IsLegalAt}
-use Rattle.smi_meaning.specs.EntryLaws.{IsBeforeIf, reading_of, are_clear, ReadsObjects, IsHeldUp}
+use Rattle.smi_meaning.specs.EntryLaws.{ReadsFirst, IsBeforeRead, reading_of, are_clear, ReadsObjects, IsHeldUp}
 use Rattle.sml_domain.proofs.Finds.{all_head, all_tail}
 use Rattle.std.proofs.lemmas.List.Elements.{All-cons, All-nil}
 use Rattle.smi_meaning.proofs.Blocks.{first, leads_to, some_readings, objects_of_some}
@@ -61,64 +61,62 @@ parts_at_read (DidRead ss ∷ ms) (i ∷ items) rs more e =
     let q = parts_at_read ms items rs more t in
     (DidRead ss ∷ q.0, q.1, ap (λ ns. DidRead ss ∷ ns) q.2, ap (λ k. k ∷ shown_moves q.0) is ∙ ap (λ ks. i ∷ ks) q.3)
 
--- what begins with a reading is an `if` over the objects that were read
-pub record Asks (mem : ℕ → List ℕ) (left : Program) (rs : List Reading) : Type 0 where
-  pub f : Formula
-  pub branch : Program
-  pub other : Program
-  pub rest : Program
-  pub is : left ≡ IfThen f branch other rest
-  pub read : map object_read rs ≡ objects_of mem f
-
-asks_these : (d : Domain) (mem : ℕ → List ℕ) (b : Program) (env : Env) (rs : List Reading) (l : Program) (env1 : Env) → After d mem b env (DidRead rs) l env1 → Asks mem b rs
-asks_these d mem Nothing env rs l env1 h = absurd h
-asks_these d mem (EndIn s) env rs l env1 h = absurd h
-asks_these d mem (TerminateIn s) env rs l env1 h = absurd h
-asks_these d mem (SetThen p x rest) env rs l env1 h = let e = h.0 in absurd (cc)
-asks_these d mem (SendNoneThen set rest) env rs l env1 h = let e = h.0 in absurd (cc)
-asks_these d mem (SendThen t a args rest) env rs l env1 h = let e = h.1 in absurd (cc)
-asks_these d mem (IfThen f p q rest) env rs l env1 h =
+-- what begins with a reading is an `if` or a `wait` that reads these objects
+reads_these : (d : Domain) (mem : ℕ → List ℕ) (b : Program) (env : Env) (rs : List Reading) (l : Program) (env1 : Env) → After d mem b env (DidRead rs) l env1 → ReadsFirst mem b (map object_read rs)
+reads_these d mem Nothing env rs l env1 h = absurd h
+reads_these d mem (EndIn s) env rs l env1 h = absurd h
+reads_these d mem (TerminateIn s) env rs l env1 h = absurd h
+reads_these d mem (SetThen p x rest) env rs l env1 h = let e = h.0 in absurd (cc)
+reads_these d mem (SendNoneThen set rest) env rs l env1 h = let e = h.0 in absurd (cc)
+reads_these d mem (SendThen t a args rest) env rs l env1 h = let e = h.1 in absurd (cc)
+reads_these d mem (IfThen f p q rest) env rs l env1 h =
     let e : DidRead rs ≡ DidRead h.0 = h.1 in
     let j : rs ≡ h.0 = cc in
-    record { f = f; branch = p; other = q; rest = rest; is = refl; read = ap (map object_read) j ∙ h.2 }
+    ap (map object_read) j ∙ h.2
+reads_these d mem (WaitThen names rest) env rs l env1 h =
+    let e : DidRead rs ≡ DidRead h.0 = h.1 in
+    let j : rs ≡ h.0 = cc in
+    ap (map object_read) j ∙ h.2
 
-leads_there : (d : Domain) (mem : ℕ → List ℕ) (b : Program) (env : Env) (made : List Move) (left left2 : Program) (env1 : Env) → left ≡ left2 → Leads d mem b env made left env1 → Leads d mem b env made left2 env1
-leads_there d mem b env made left left2 env1 e h = subst (λ p. Leads d mem b env made p env1) e h
+-- conversely, such a block may begin with readings of these objects
+pub read_first : (d : Domain) (mem : ℕ → List ℕ) (b : Program) (env : Env) (rs : List Reading) → ReadsFirst mem b (map object_read rs) → (l : Program) × After d mem b env (DidRead rs) l env
+read_first d mem Nothing env rs h = absurd h
+read_first d mem (EndIn s) env rs h = absurd h
+read_first d mem (TerminateIn s) env rs h = absurd h
+read_first d mem (SetThen p x rest) env rs h = absurd h
+read_first d mem (SendNoneThen set rest) env rs h = absurd h
+read_first d mem (SendThen t a args rest) env rs h = absurd h
+read_first d mem (IfThen f p q rest) env rs h = (with_rest (if is_true_over mem rs f then p else q) rest, (rs, refl, h, refl, refl))
+read_first d mem (WaitThen names rest) env rs h = (rest, (rs, refl, h, refl, refl))
 
--- where readings are shown next, an `if` is next
-if_is_next : (d : Domain) (J : List Entry) (o : ℕ) (rs : List Reading) → ShowsNext d J o (Saw rs) → (f : Formula) × IsBeforeIf d J o f × (map object_read rs ≡ objects_of (members_at d) f)
-if_is_next d J o rs h =
+-- where readings are shown next, what reads their objects is next
+read_is_next : (d : Domain) (J : List Entry) (o : ℕ) (rs : List Reading) → ShowsNext d J o (Saw rs) → IsBeforeRead d J o (map object_read rs)
+read_is_next d J o rs h =
     let s = h.shows in
     let parts = parts_at_read s.0 (shown_of o J) rs s.3 (s.5 ∙ append_assoc (shown_of o J) (Saw rs ∷ []) s.3) in
     let means : Means d (members_at d) h.run.program (env_of h.own h.run) (parts.0 ++ DidRead rs ∷ parts.1) s.1 s.2 =
     subst (λ ns. Means d (members_at d) h.run.program (env_of h.own h.run) ns s.1 s.2) parts.2 s.4 in
     let l = leads_to d (members_at d) h.run.program (env_of h.own h.run) parts.0 (DidRead rs ∷ parts.1) s.1 s.2 means in
     let m = first d (members_at d) l.0 l.1 (DidRead rs) parts.1 s.1 s.2 l.3 in
-    let a = asks_these d (members_at d) l.0 l.1 rs m.0 m.1 m.2 in
-    let leads = leads_there d (members_at d) h.run.program (env_of h.own h.run) parts.0 l.0 (IfThen a.f a.branch a.other a.rest) l.1 a.is l.2 in (
-      a.f,
-      record {
-        own = h.own;
-        params = h.params;
-        run = h.run;
-        runs = h.runs;
-        made = parts.0;
-        shown = parts.3;
-        branch = a.branch;
-        other = a.other;
-        rest = a.rest;
-        env = l.1;
-        leads = leads;
-      },
-      a.read,
-    )
+    record {
+      own = h.own;
+      params = h.params;
+      run = h.run;
+      runs = h.runs;
+      made = parts.0;
+      shown = parts.3;
+      left = l.0;
+      env = l.1;
+      leads = l.2;
+      reads = reads_these d (members_at d) l.0 l.1 rs m.0 m.1 m.2;
+    }
 
--- conversely, where an `if` is next readings of its objects may be shown
-shows_if : (d : Domain) (J : List Entry) (o : ℕ) (rs : List Reading) (f : Formula) → IsBeforeIf d J o f → map object_read rs ≡ objects_of (members_at d) f → ShowsNext d J o (Saw rs)
-shows_if d J o rs f h read =
-    next_is_legal d J o h.own h.run h.made (IfThen f h.branch h.other h.rest) h.env (DidRead rs)
-    (with_rest (if is_true_over (members_at d) rs f then h.branch else h.other) h.rest) h.env [] (Saw rs) []
-    h.params h.runs h.leads (rs, refl, read, refl, refl) refl (sym h.shown ∙ sym (append-nil (shown_moves h.made)))
+-- conversely, where they are read next readings of them may be shown
+shows_read : (d : Domain) (J : List Entry) (o : ℕ) (rs : List Reading) (objects : List ℕ) → IsBeforeRead d J o objects → map object_read rs ≡ objects → ShowsNext d J o (Saw rs)
+shows_read d J o rs objects h read =
+    let a = read_first d (members_at d) h.left h.env rs (subst (ReadsFirst (members_at d) h.left) (sym read) h.reads) in
+    next_is_legal d J o h.own h.run h.made h.left h.env (DidRead rs) a.0 h.env [] (Saw rs) []
+    h.params h.runs h.leads a.1 refl (sym h.shown ∙ sym (append-nil (shown_moves h.made)))
 
 clear_alike : (J : List Entry) (o : ℕ) (rs : List Reading) → list_all (is_clear_for J o) rs ≡ are_clear J o (map object_read rs)
 clear_alike J o [] = refl
@@ -150,26 +148,22 @@ seen_are_read d J o rs = (there, back)
   where
     there : IsLegalAt d J (Seen o rs) → ReadsObjects d J o rs
     there h =
-        let q = if_is_next d J o rs h.0 in
         let now = are_now d J o rs h.1 in
-        (q.0, q.1, ap (are_clear J o) (sym q.2) ∙ now.0, now.1 ∙ ap (map (reading_of d J)) q.2)
+        (map object_read rs, read_is_next d J o rs h.0, now.0, now.1)
 
     back : ReadsObjects d J o rs → IsLegalAt d J (Seen o rs)
     back h =
-        let objects = objects_of (members_at d) h.0 in
-        let read : map object_read rs ≡ objects = ap (map object_read) h.3 ∙ objects_of_now d J objects in
-        (shows_if d J o rs h.0 h.1 read, subst (All (IsRead d J o)) (sym h.3) (now_read d J o objects h.2))
+        let read : map object_read rs ≡ h.0 = ap (map object_read) h.3 ∙ objects_of_now d J h.0 in
+        (shows_read d J o rs h.0 h.1 read, subst (All (IsRead d J o)) (sym h.3) (now_read d J o h.0 h.2))
 
 pub waiters_are_held_up : (d : Domain) (J : List Entry) (o : ℕ) → IsLegalAt d J (Wait o) ↔ IsHeldUp d J o
 waiters_are_held_up d J o = (there, back)
   where
     there : IsLegalAt d J (Wait o) → IsHeldUp d J o
-    there h =
-        let q = if_is_next d J o h.0 h.1 in
-        (q.0, q.1, ap (are_clear J o) (sym q.2) ∙ sym (clear_alike J o h.0) ∙ h.2)
+    there h = (map object_read h.0, read_is_next d J o h.0 h.1, sym (clear_alike J o h.0) ∙ h.2)
 
     back : IsHeldUp d J o → IsLegalAt d J (Wait o)
     back h =
-        let rs = some_readings (objects_of (members_at d) h.0) in
-        let read = objects_of_some (objects_of (members_at d) h.0) in
-        (rs, shows_if d J o rs h.0 h.1 read, clear_alike J o rs ∙ ap (are_clear J o) read ∙ h.2)
+        let rs = some_readings h.0 in
+        let read = objects_of_some h.0 in
+        (rs, shows_read d J o rs h.0 h.1 read, clear_alike J o rs ∙ ap (are_clear J o) read ∙ h.2)

@@ -1,7 +1,7 @@
 -- What is shown settles the moves.
 use Rattle.std.proofs.Common.{◌≡◌, ℕ, List, [], ◌∷◌, ◌++◌, map, refl, ap, subst, sym, ◌∙◌}
 use Rattle.std.proofs.lemmas.Grind.{flat_map-append}
-use Rattle.sml_domain.specs.Program.{Program, Nothing, SetThen, SendThen, SendNoneThen, IfThen, EndIn, TerminateIn}
+use Rattle.sml_domain.specs.Program.{Program, Nothing, SetThen, SendThen, SendNoneThen, IfThen, EndIn, TerminateIn, WaitThen}
 use Rattle.sml_domain.specs.Domain.{Domain}
 use Rattle.smi_meaning.specs.Items.{Posted, item_of}
 use Rattle.smi_entry.specs.Words.{Item, Saw, answer_of}
@@ -60,6 +60,13 @@ one_move d mem (SendThen t a args rest) env m n l1 e1 l2 e2 made ms more h g s =
     let r = same_posts h.0 g.0 (shown_moves made) (shown_moves ms) more (h.2 ∙ sym g.2) s' in
     (g.1 ∙ ap (λ ps. DidSend ps) r.0 ∙ sym h.1, r.1)
 one_move d mem (IfThen c x y rest) env m n l1 e1 l2 e2 made ms more h g s =
+    let s' : shown_moves (DidRead g.0 ∷ ms) ≡ shown_moves (DidRead h.0 ∷ made) ++ more =
+    subst (λ k. shown_moves (k ∷ ms) ≡ shown_moves (DidRead h.0 ∷ made) ++ more) g.1 (subst (λ k. shown_moves (n ∷ ms) ≡ shown_moves (k ∷ made) ++ more) h.1 s) in
+    let i : Saw g.0 ≡ Saw h.0 = cc in
+    let j : g.0 ≡ h.0 = cc in
+    let k : shown_moves ms ≡ shown_moves made ++ more = cc in
+    (g.1 ∙ ap (λ rs. DidRead rs) j ∙ sym h.1, k)
+one_move d mem (WaitThen names rest) env m n l1 e1 l2 e2 made ms more h g s =
     let s' : shown_moves (DidRead g.0 ∷ ms) ≡ shown_moves (DidRead h.0 ∷ made) ++ more =
     subst (λ k. shown_moves (k ∷ ms) ≡ shown_moves (DidRead h.0 ∷ made) ++ more) g.1 (subst (λ k. shown_moves (n ∷ ms) ≡ shown_moves (k ∷ made) ++ more) h.1 s) in
     let i : Saw g.0 ≡ Saw h.0 = cc in
@@ -125,6 +132,13 @@ one_reply d mem (SendThen t a args rest) env m n l1 e1 l2 e2 made others h g s =
     let r = same_replies h.0 g.0 (shown_moves made) (shown_moves others) (h.2 ∙ sym g.2) s' in
     (h.1 ∙ ap (λ ps. DidSend ps) r.0 ∙ sym g.1, r.1)
 one_reply d mem (IfThen c x y rest) env m n l1 e1 l2 e2 made others h g s =
+    let s' : replies_to (DidRead h.0 ∷ made) ≡ replies_to (DidRead g.0 ∷ others) =
+    subst (λ k. replies_to (DidRead h.0 ∷ made) ≡ replies_to (k ∷ others)) g.1 (subst (λ k. replies_to (k ∷ made) ≡ replies_to (n ∷ others)) h.1 s) in
+    let i : Read h.0 ≡ Read g.0 = cc in
+    let j : h.0 ≡ g.0 = cc in
+    let k : replies_to made ≡ replies_to others = cc in
+    (h.1 ∙ ap (λ rs. DidRead rs) j ∙ sym g.1, k)
+one_reply d mem (WaitThen names rest) env m n l1 e1 l2 e2 made others h g s =
     let s' : replies_to (DidRead h.0 ∷ made) ≡ replies_to (DidRead g.0 ∷ others) =
     subst (λ k. replies_to (DidRead h.0 ∷ made) ≡ replies_to (k ∷ others)) g.1 (subst (λ k. replies_to (k ∷ made) ≡ replies_to (n ∷ others)) h.1 s) in
     let i : Read h.0 ≡ Read g.0 = cc in

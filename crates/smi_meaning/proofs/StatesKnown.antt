@@ -4,7 +4,7 @@ use Rattle.std.specs.Prelude.{◌==◌, if◌then◌else◌, MatchBool, IsSomeAn
 use Rattle.std.specs.Option.{option_and_then, option_map_or}
 use Rattle.std.proofs.lemmas.Bool.{eqb-true}
 use Rattle.sml_domain.specs.declared.value.Value.{Value}
-use Rattle.sml_domain.specs.Program.{Program, Nothing, SetThen, SendThen, SendNoneThen, IfThen, EndIn, TerminateIn}
+use Rattle.sml_domain.specs.Program.{Program, Nothing, SetThen, SendThen, SendNoneThen, IfThen, EndIn, TerminateIn, WaitThen}
 use Rattle.sml_domain.specs.Domain.{Domain, Class, Signature, Param}
 use Rattle.sml_domain.specs.Lookups.{class_at, associated_at, has_state, is_state_of, initial_state, dead_state, signature_in, tree_of_block, block_at, members_at}
 use Rattle.sml_domain.specs.Fits.{ProgramFits}
@@ -43,6 +43,7 @@ ends_in d mem c given (IfThen t p q rest) env ms env2 r s f m e =
     goes_to d mem c rest m.4 m.3 m.2 env2 r s
     (λ is. on_branch (has_state s c ≡ true) (is_true_over mem m.0 t) (Means d mem p env m.1 m.3 m.4) (Means d mem q env m.1 m.3 m.4) (λ u. ends_in d mem c given p env m.1 m.3 m.4 s f.1 u is) (λ u. ends_in d mem c given q env m.1 m.3 m.4 s f.2 u is) m.7)
     (λ u. ends_in d mem c given rest m.3 m.2 env2 r s f.3 u e) m.8 e
+ends_in d mem c given (WaitThen names rest) env ms env2 r s f m e = ends_in d mem c given rest env m.1 env2 r s f.1 m.4 e
 
 pub meanings_end_in_states : (d : Domain) (mem : ℕ → List ℕ) (c : Class) (given : List Param) (b : Program) (env : Env) (ms : List Move) (env2 : Env) (s : ℕ) → ProgramFits d c given b → Means d mem b env ms env2 (To s) → has_state s c ≡ true
 meanings_end_in_states d mem c given b env ms env2 s f m = ends_in d mem c given b env ms env2 (To s) s f m refl

@@ -5,7 +5,7 @@ use Rattle.std.specs.List.{filter_map, cons_option}
 use Rattle.std.specs.Option.{option_and_then, option_map_or}
 use Rattle.std.proofs.lemmas.Bool.{eqb-true}
 use Rattle.sml_domain.specs.declared.value.Value.{Value}
-use Rattle.sml_domain.specs.Program.{Program, Nothing, SetThen, SendThen, SendNoneThen, IfThen, EndIn, TerminateIn}
+use Rattle.sml_domain.specs.Program.{Program, Nothing, SetThen, SendThen, SendNoneThen, IfThen, EndIn, TerminateIn, WaitThen}
 use Rattle.sml_domain.specs.Domain.{Domain, Class, Signature, Param}
 use Rattle.sml_domain.specs.Lookups.{class_at, params_of_action, params_of_class, class_params_at, signature_in, tree_of_block, block_at, members_at}
 use Rattle.sml_domain.specs.Fits.{ProgramFits}
@@ -80,6 +80,8 @@ meaning_fits d c given (IfThen t p q rest) env ms env2 r sound f h m =
     let between = on_branch (EnvFits c.params given m.3) (is_true_over (members_at d) m.0 t) A B (λ u. meanings_keep_kinds d (members_at d) c given p env m.1 m.3 m.4 f.1 h u) (λ u. meanings_keep_kinds d (members_at d) c given q env m.1 m.3 m.4 f.2 h u) m.7 in
     let after = goes_fit d rest m.4 m.3 m.2 env2 r (λ u. meaning_fits d c given rest m.3 m.2 env2 r sound f.3 between u) m.8 in
     subst (λ ns. ItemsFit d (shown_moves ns)) (sym m.5) (tt, subst (ItemsFit d) (sym (shown-append m.1 m.2)) (both_fit d (shown_moves m.1) (shown_moves m.2) within after))
+meaning_fits d c given (WaitThen names rest) env ms env2 r sound f h m =
+    subst (λ ns. ItemsFit d (shown_moves ns)) (sym m.2) (tt, meaning_fits d c given rest env m.1 env2 r sound f.1 h m.4)
 
 -- ---- what runs
 

@@ -18,7 +18,7 @@ use Rattle.smi_meaning.specs.Meaning.{Move, DidSet, DidSend, DidRead, Outcome, T
 use Rattle.smi_meaning.specs.Shown.{shown_moves}
 use Rattle.smi_meaning.specs.Params.{Running, running_at, run_with, env_of, IsDone, ParamsNext, ParamsAfter}
 use Rattle.smi_meaning.specs.Legal.{ShowsNext, IsRead, IsLegalAt, IsLegal}
-use Rattle.smi_meaning.specs.Example.{spread, meter, told_both, on, ready, error, idle, gone, switch_on, configure, take, put, show, first, second, runner, sink, counter, domain, was, configured, failed, told, counted, Leaves}
+use Rattle.smi_meaning.specs.Example.{spread, meter, told_both, off, on, ready, error, idle, gone, switch_on, configure, take, put, show, first, second, runner, sink, counter, domain, was, configured, failed, told, counted, Leaves}
 use Rattle.smi_meaning.proofs.Journals.{legal_more}
 use Rattle.smi_meaning.proofs.Parameters.{params_more}
 
@@ -235,16 +235,28 @@ takers =
     ∷ record { post = record { target = meter; action = take; args = Text (codes "dark") ∷ Int (pos 3) ∷ Int (pos 5) ∷ [] }; verdict = Accepted 0 } ∷ []
 
 abbrev pub spreading_moves : List Move
-spreading_moves = DidSend takers ∷ DidSend [] ∷ DidRead [] ∷ []
+spreading_moves = DidSend takers ∷ DidSend [] ∷ DidRead (was first off ∷ []) ∷ DidRead [] ∷ []
 
 to_both : Does at_first spreads at_first spreading_moves (To idle)
 to_both = record {
   means = (
     takers,
-    DidSend [] ∷ DidRead [] ∷ [],
+    DidSend [] ∷ DidRead (was first off ∷ []) ∷ DidRead [] ∷ [],
     refl,
     refl,
-    ([], DidRead [] ∷ [], refl, refl, ([], [], [], env_of at_first spreads, Through, refl, refl, (refl, refl, refl), (refl, refl, refl))),
+    (
+      [],
+      DidRead (was first off ∷ []) ∷ DidRead [] ∷ [],
+      refl,
+      refl,
+      (
+        was first off ∷ [],
+        DidRead [] ∷ [],
+        refl,
+        refl,
+        ([], [], [], env_of at_first spreads, Through, refl, refl, (refl, refl, refl), (refl, refl, refl)),
+      ),
+    ),
   );
 }
 
@@ -256,19 +268,23 @@ it_spreads =
     let e1 = Start counter (Operator 1) 0 spread [] in
     let e2 = Post counter sink v take a in
     let e3 = Post counter meter v take m in
-    let e4 = Seen counter [] in
-    let e5 = End counter (ends.State idle) in
+    let e4 = Seen counter (was first off ∷ []) in
+    let e5 = Seen counter [] in
+    let e6 = End counter (ends.State idle) in
     let j1 = e1 ∷ [] in
     let j2 = j1 ++ e2 ∷ [] in
     let j3 = j2 ++ e3 ∷ [] in
     let j4 = j3 ++ e4 ∷ [] in
+    let j5 = j4 ++ e5 ∷ [] in
     let own = at_first in
     let ms = spreading_moves in
     let g0 : Grown counter [] own = record { legal = tt; params = refl } in
     let g1 = grow counter [] e1 own own g0 (record { alive = refl; closed = refl; number = refl; sent = tt }) refl in
-    let g2 = grow counter j1 e2 own own g1 (shows counter j1 own own spreads ms (To idle) (Sent sink v take a) (Sent meter v take m ∷ Saw [] ∷ []) g1 to_both refl refl, (refl, refl)) refl in
-    let g3 = grow counter j2 e3 own own g2 (shows counter j2 own own spreads ms (To idle) (Sent meter v take m) (Saw [] ∷ []) g2 to_both refl refl, (refl, refl)) refl in
-    let g4 = grow counter j3 e4 own own g3 (shows counter j3 own own spreads ms (To idle) (Saw []) [] g3 to_both refl refl, All-nil (IsRead domain j3 counter)) refl in
-    let d4 = done counter j4 own own spreads ms (To idle) to_both refl refl in
-    let g5 = grow counter j4 e5 own own g4 (record { own = own; params = g4.params; env2 = env_of own spreads; outcome = To idle; done = d4; state = refl }) (record { env2 = env_of own spreads; outcome = To idle; done = d4; left = refl }) in
-    record { legal = g5.legal; state = refl; params = g5.params }
+    let g2 = grow counter j1 e2 own own g1 (shows counter j1 own own spreads ms (To idle) (Sent sink v take a) (Sent meter v take m ∷ Saw (was first off ∷ []) ∷ Saw [] ∷ []) g1 to_both refl refl, (refl, refl)) refl in
+    let g3 = grow counter j2 e3 own own g2 (shows counter j2 own own spreads ms (To idle) (Sent meter v take m) (Saw (was first off ∷ []) ∷ Saw [] ∷ []) g2 to_both refl refl, (refl, refl)) refl in
+    let clear = All-cons (IsRead domain j3 counter) (was first off) [] (refl, refl) (All-nil (IsRead domain j3 counter)) in
+    let g4 = grow counter j3 e4 own own g3 (shows counter j3 own own spreads ms (To idle) (Saw (was first off ∷ [])) (Saw [] ∷ []) g3 to_both refl refl, clear) refl in
+    let g5 = grow counter j4 e5 own own g4 (shows counter j4 own own spreads ms (To idle) (Saw []) [] g4 to_both refl refl, All-nil (IsRead domain j4 counter)) refl in
+    let d5 = done counter j5 own own spreads ms (To idle) to_both refl refl in
+    let g6 = grow counter j5 e6 own own g5 (record { own = own; params = g5.params; env2 = env_of own spreads; outcome = To idle; done = d5; state = refl }) (record { env2 = env_of own spreads; outcome = To idle; done = d5; left = refl }) in
+    record { legal = g6.legal; state = refl; params = g6.params }

@@ -2,7 +2,7 @@
 use Rattle.std.specs.Prelude.{◌≡◌, ◌↔◌, ◌==◌, Bool, true, false, ℕ, List, [], ◌∷◌, ◌++◌, Some, None, map, slice_get}
 use Rattle.std.specs.List.{list_any, list_all}
 use Rattle.sml_domain.specs.declared.value.Value.{Value}
-use Rattle.sml_domain.specs.Program.{Formula, Program, IfThen}
+use Rattle.sml_domain.specs.Program.{Program, IfThen, WaitThen}
 use Rattle.sml_domain.specs.Domain.{Domain}
 use Rattle.sml_domain.specs.Lookups.{associated_at, members_at}
 use Rattle.sml_domain.specs.Truth.{Reading}
@@ -18,28 +18,33 @@ use Rattle.smi_entry.specs.declared.entry.Entry.TheVariants.{Start, Post, Wait, 
 use Rattle.smi_entry.specs.Requests.{Request, from_sender}
 use Rattle.smi_entry.specs.Words.{object_of, starts_at, posts_between, open_at, shown_of, dead_of, state_of, is_killed, is_clear}
 use Rattle.smi_meaning.specs.Environment.{Env}
-use Rattle.smi_meaning.specs.Conditions.{objects_of}
+use Rattle.smi_meaning.specs.Conditions.{objects_of, objects_named}
 use Rattle.smi_meaning.specs.Meaning.{Move, Outcome, state_left}
 use Rattle.smi_meaning.specs.Steps.{Leads}
 use Rattle.smi_meaning.specs.Shown.{shown_moves}
 use Rattle.smi_meaning.specs.Params.{Running, running_at, env_of, IsDone, ParamsAfter}
 use Rattle.smi_meaning.specs.Legal.{IsLegalAt, IsLegal}
 
--- ---- what an `if` reads
+-- ---- what an `if` or a `wait` reads
 
--- what runs at an object stands before an `if` over a condition: moves that show what the journal shows lead there
-pub record IsBeforeIf (d : Domain) (J : List Entry) (o : ℕ) (f : Formula) : Type 0 where
+-- what is left of a block begins with an `if` or a `wait`, which reads these objects
+abbrev pub ReadsFirst : (ℕ → List ℕ) → Program → List ℕ → Type 0
+ReadsFirst members (IfThen f branch other rest) objects = objects ≡ objects_of members f
+ReadsFirst members (WaitThen names rest) objects = objects ≡ objects_named members names
+ReadsFirst members _ objects = ⊥
+
+-- what runs at an object stands before an `if` or a `wait` that reads these objects: moves that show what the journal shows lead there
+pub record IsBeforeRead (d : Domain) (J : List Entry) (o : ℕ) (objects : List ℕ) : Type 0 where
   pub own : List Value
   pub params : ParamsAfter d o J own
   pub run : Running
   pub runs : running_at d o J ≡ Some run
   pub made : List Move
   pub shown : shown_moves made ≡ shown_of o J
-  pub branch : Program
-  pub other : Program
-  pub rest : Program
+  pub left : Program
   pub env : Env
-  pub leads : Leads d (members_at d) run.program (env_of own run) made (IfThen f branch other rest) env
+  pub leads : Leads d (members_at d) run.program (env_of own run) made left env
+  pub reads : ReadsFirst (members_at d) left objects
 
 -- what is read of an object: the state in which it is
 abbrev pub reading_of : Domain → List Entry → ℕ → Reading
@@ -49,20 +54,18 @@ reading_of d J x = record { object = x; state = state_of d x J }
 abbrev pub are_clear : List Entry → ℕ → List ℕ → Bool
 are_clear J o objects = list_all (λ x. is_clear o x J) objects
 
--- readings are of exactly the objects that the condition of the next `if` names, in this order, all clear, each in its state
+-- readings are of exactly the objects that the next `if` or `wait` names, in this order, all clear, each in its state
 abbrev pub ReadsObjects : Domain → List Entry → ℕ → List Reading → Type 0
 ReadsObjects d J o readings =
-    (f : Formula) × IsBeforeIf d J o f × (are_clear J o (objects_of (members_at d) f) ≡ true)
-    × (readings ≡ map (reading_of d J) (objects_of (members_at d) f))
+    (objects : List ℕ) × IsBeforeRead d J o objects × (are_clear J o objects ≡ true) × (readings ≡ map (reading_of d J) objects)
 
 -- exactly such may be seen
 abbrev pub SeenAreRead : Type 0
 SeenAreRead = (d : Domain) (J : List Entry) (o : ℕ) (readings : List Reading) → IsLegalAt d J (Seen o readings) ↔ ReadsObjects d J o readings
 
--- some object that the condition of the next `if` names is not clear
+-- some object that the next `if` or `wait` names is not clear
 abbrev pub IsHeldUp : Domain → List Entry → ℕ → Type 0
-IsHeldUp d J o =
-    (f : Formula) × IsBeforeIf d J o f × (are_clear J o (objects_of (members_at d) f) ≡ false)
+IsHeldUp d J o = (objects : List ℕ) × IsBeforeRead d J o objects × (are_clear J o objects ≡ false)
 
 -- exactly then an object may wait
 abbrev pub WaitersAreHeldUp : Type 0

@@ -3,7 +3,7 @@ use Rattle.std.specs.Prelude.{◌≡◌, ℕ, ℤ, pos, negsuc, true, false, Lis
 use Rattle.sml_tree.specs.declared.file.Kind.TheVariants.{Int as IntKind, Str as StrKind}
 use Rattle.sml_domain.specs.declared.value.Value.{Value}
 use Rattle.sml_domain.specs.declared.value.Value.TheVariants.{Int, Text}
-use Rattle.sml_domain.specs.Program.{Own, Given, ToOne, ToMembers, OfEach, OfAny, Test, Instruction, Assigns, Sends, Chooses, Moves, Terminates}
+use Rattle.sml_domain.specs.Program.{Own, Given, ToOne, ToMembers, OfOne, OfEach, OfAny, Test, Instruction, Assigns, Sends, Chooses, Moves, Terminates, Waits}
 use Rattle.sml_domain.specs.Domain.{Param, Action, State, Class, Domain}
 use Rattle.sml_domain.specs.Truth.{Reading}
 use Rattle.smi_entry.specs.declared.entry.Verdict.TheVariants.{Accepted, Full, Dead}
@@ -200,12 +200,12 @@ putting =
 abbrev pub showing : List Instruction
 showing = Sends (ToOne sink) take (record { name = codes "V"; value = Own 0 } ∷ []) ∷ []
 
--- `do TAKE (V = N) all_in TAKERS`, `do TAKE all_in NOBODY`, `if ( any_in NOBODY not_in_state READY ) then terminate_action /state=DEAD endif`,
+-- `do TAKE (V = N) all_in TAKERS`, `do TAKE all_in NOBODY`, `wait ( HV1, all_in NOBODY )`, `if ( any_in NOBODY not_in_state READY ) then terminate_action /state=DEAD endif`,
 -- `terminate_action /state=IDLE`
 abbrev pub spreading : List Instruction
 spreading =
     Sends (ToMembers 1) take (record { name = codes "V"; value = Own 0 } ∷ []) ∷ Sends (ToMembers 2) take []
-    ∷ Chooses (Test (OfAny 2) true (ready ∷ [])) 5 0 ∷ Terminates idle ∷ []
+    ∷ Waits (OfOne first ∷ OfEach 2 ∷ []) ∷ Chooses (Test (OfAny 2) true (ready ∷ [])) 5 0 ∷ Terminates idle ∷ []
 
 -- the domain: its blocks are that of devices and of a branch that is not there, those of the other branches, and those of actions
 abbrev pub domain : Domain
@@ -251,11 +251,12 @@ counted =
     ∷ Start counter (Operator 2) 0 show [] ∷ Post counter sink Full take (told (pos 5) (codes "none")) ∷ End counter (ends.State idle)
     ∷ Start counter (Operator 1) 2 put (told (negsuc 8) (codes "b")) ∷ Kill counter (By 1) ∷ []
 
--- the counter tells both takers, each by its own list of parameters, asks of nobody, and is idle
+-- the counter tells both takers, each by its own list of parameters, waits for a supply, which has nothing to do, asks of nobody, and is idle
 abbrev pub told_both : List Entry
 told_both =
     Start counter (Operator 1) 0 spread [] ∷ Post counter sink (Accepted 0) take (told (pos 3) (codes "none"))
-    ∷ Post counter meter (Accepted 0) take (Text (codes "dark") ∷ Int (pos 3) ∷ Int (pos 5) ∷ []) ∷ Seen counter [] ∷ End counter (ends.State idle) ∷ []
+    ∷ Post counter meter (Accepted 0) take (Text (codes "dark") ∷ Int (pos 3) ∷ Int (pos 5) ∷ [])
+    ∷ Seen counter (was first off ∷ []) ∷ Seen counter [] ∷ End counter (ends.State idle) ∷ []
 
 -- a journal is legal, and leaves an object in a state, with parameters
 pub record Leaves (J : List Entry) (o s : ℕ) (own : List Value) : Type 0 where

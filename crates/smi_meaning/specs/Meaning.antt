@@ -3,7 +3,7 @@ use Rattle.std.specs.Prelude.{◌≡◌, ℕ, List, [], ◌∷◌, ◌++◌, map
 use Rattle.std.specs.List.{filter_map}
 use Rattle.std.specs.Option.{option_map_or}
 use Rattle.sml_domain.specs.declared.value.Value.{Value}
-use Rattle.sml_domain.specs.Program.{Argument, Target, ToOne, ToMembers, Program, Nothing, SetThen, SendThen, SendNoneThen, IfThen, EndIn, TerminateIn}
+use Rattle.sml_domain.specs.Program.{Argument, Target, ToOne, ToMembers, Program, Nothing, SetThen, SendThen, SendNoneThen, IfThen, EndIn, TerminateIn, WaitThen}
 use Rattle.sml_domain.specs.Domain.{Domain, Param}
 use Rattle.sml_domain.specs.Lookups.{params_at}
 use Rattle.sml_domain.specs.Truth.{Reading}
@@ -11,9 +11,9 @@ use Rattle.sml_domain.specs.Completing.{Passed, complete}
 use Rattle.sml_domain.specs.Laws.{passed_as}
 use Rattle.smi_meaning.specs.Items.{Post, Posted}
 use Rattle.smi_meaning.specs.Environment.{Env, value_of, with_set}
-use Rattle.smi_meaning.specs.Conditions.{objects_of, object_read, is_true_over}
+use Rattle.smi_meaning.specs.Conditions.{objects_named, objects_of, object_read, is_true_over}
 
--- what an action does in one step: it sets a parameter of its object, sends a request to some objects, or reads the objects of a condition
+-- what an action does in one step: it sets a parameter of its object, sends a request to some objects, or reads objects
 pub data Move : Type 0 where
   DidSet : (param : ℕ) (value : Value) → Move
   DidSend : (posts : List Posted) → Move
@@ -115,3 +115,7 @@ Means d members (IfThen f p q rest) env moves env2 r =
     × (map object_read readings ≡ objects_of members f)
     × MatchBool (is_true_over members readings f) (Means d members p env within between r1) (Means d members q env within between r1)
     × Goes r1 between after env2 r (Means d members rest)
+Means d members (WaitThen names rest) env moves env2 r =
+    (readings : List Reading) × (after : List Move) × (moves ≡ DidRead readings ∷ after)
+    × (map object_read readings ≡ objects_named members names)
+    × Means d members rest env after env2 r

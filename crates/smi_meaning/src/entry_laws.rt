@@ -1,8 +1,8 @@
 //! What single entries of legal journals say, as contracts of functions that do nothing.
 ghost use Rattle.smi_meaning.specs.EntryLaws.{SeenAreRead, WaitersAreHeldUp, OthersChangeNothing, SkipsChangeNothing, KillsKeepParams, DevicesGiveStates, SkipsAreUndeclared, EndsAreMeant, KilledAreDead, NothingFollowsAKill, VerdictsTellTheDead, PostsAreNumbered, StartsAreNumbered, StartedIsAFront, OneAtATime};
 
-/// A legal `seen` reads exactly the objects that the condition of the next `if` names, all clear,
-/// in the states that they have; and an object may wait exactly where one of them is not clear.
+/// A legal `seen` reads exactly the objects that the next `if` or `wait` names, all clear, in the
+/// states that they have; and an object may wait exactly where one of them is not clear.
 pub fn laws_of_reads()
     ensures seen { SeenAreRead }
     ensures wait { WaitersAreHeldUp }

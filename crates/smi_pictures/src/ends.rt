@@ -41,7 +41,9 @@ fn ends_of(alloc: Global, lower: &[Ends], block: &[Instr]) -> Result<Ends, Alloc
 // Adds the states in which an instruction may end the action. Whether what stands behind it can be reached.
 fn add_instr(states: &mut Vec<StateId>, lower: &[Ends], instr: &Instr) -> Result<bool, AllocError> {
     match instr {
-        Instr::Set { .. } | Instr::Send { .. } | Instr::SendNone { .. } => Ok(true),
+        Instr::Set { .. } | Instr::Send { .. } | Instr::SendNone { .. } | Instr::Wait(_) => {
+            Ok(true)
+        }
         Instr::If { yes, no, .. } => {
             let yes_runs_off = add_branch(states, lower.get(yes.get()))?;
             let no_runs_off = add_branch(states, lower.get(no.get()))?;

@@ -78,8 +78,11 @@ fn add_block(
                 left.push(*yes)?;
                 left.push(*no)?;
             }
-            Instr::Set { .. } | Instr::SendNone { .. } | Instr::MoveTo(_) | Instr::Terminate(_) =>
-                {}
+            Instr::Set { .. }
+            | Instr::SendNone { .. }
+            | Instr::MoveTo(_)
+            | Instr::Terminate(_)
+            | Instr::Wait(_) => {}
         }
     }
     Ok(())

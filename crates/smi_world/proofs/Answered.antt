@@ -8,7 +8,7 @@ use Rattle.std.proofs.lemmas.Bool.{or_parts, and_parts, leb-true, leb-false, eqb
 use Rattle.std.proofs.lemmas.List.{length-append}
 use Rattle.std.proofs.lemmas.List.Elements.{All-cons, All-nil}
 use Rattle.sml_domain.specs.declared.value.Value.{Value}
-use Rattle.sml_domain.specs.Program.{Program, Nothing, SetThen, SendThen, SendNoneThen, IfThen, EndIn, TerminateIn}
+use Rattle.sml_domain.specs.Program.{Program, Nothing, SetThen, SendThen, SendNoneThen, IfThen, EndIn, TerminateIn, WaitThen}
 use Rattle.sml_domain.specs.Domain.{Domain, Param}
 use Rattle.sml_domain.specs.Lookups.{object_named, action_named, state_named, params_at, members_at, program_at, is_state_of}
 use Rattle.sml_domain.specs.Completing.{Passed, value_for, complete}
@@ -79,6 +79,7 @@ after_reposted d (SendNoneThen set rest) env ps (q ∷ qs) l e same h =
     let is : ps ≡ [] = cc h.0 in
     absurd (cc (same ∙ ap (λ z. map post_of z) is))
 after_reposted d (IfThen f p q rest) env ps qs l e same h = absurd (cc h.1)
+after_reposted d (WaitThen names rest) env ps qs l e same h = absurd (cc h.1)
 
 -- the same objects in other states, which may lead to another branch
 after_reread : (d : Domain) (b : Program) (env : Env) (rs ss : List Reading) (l : Program) (e : Env) → map object_read ss ≡ map object_read rs → After d (members_at d) b env (DidRead rs) l e → (l2 : Program) × (e2 : Env) × After d (members_at d) b env (DidRead ss) l2 e2
@@ -91,6 +92,9 @@ after_reread d (SendNoneThen set rest) env rs ss l e same h = absurd (cc h.0)
 after_reread d (IfThen f p q rest) env rs ss l e same h =
     let is : rs ≡ h.0 = cc h.1 in
     (_, env, (ss, refl, same ∙ (ap (λ z. map object_read z) is ∙ h.2), refl, refl))
+after_reread d (WaitThen names rest) env rs ss l e same h =
+    let is : rs ≡ h.0 = cc h.1 in
+    (rest, env, (ss, refl, same ∙ (ap (λ z. map object_read z) is ∙ h.2), refl, refl))
 
 -- ---- posts
 

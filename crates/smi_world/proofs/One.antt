@@ -5,7 +5,7 @@ use Rattle.std.specs.List.{list_all}
 use Rattle.std.proofs.lemmas.Option.{none-some, same_Some}
 use Rattle.sml_domain.proofs.Finds.{all_head, all_tail}
 use Rattle.sml_domain.specs.declared.value.Value.{Value}
-use Rattle.sml_domain.specs.Program.{Program, Nothing, SetThen, SendThen, SendNoneThen, IfThen, EndIn, TerminateIn}
+use Rattle.sml_domain.specs.Program.{Program, Nothing, SetThen, SendThen, SendNoneThen, IfThen, EndIn, TerminateIn, WaitThen}
 use Rattle.sml_domain.specs.Domain.{Domain}
 use Rattle.sml_domain.specs.Lookups.{members_at, program_at, params_at}
 use Rattle.sml_domain.specs.Completing.{Passed, complete}
@@ -71,6 +71,7 @@ after_alike d (SetThen p v rest) env x y l1 l2 e1 e2 h g = alike x y _ _ h.0 g.0
 after_alike d (SendThen target a args rest) env x y l1 l2 e1 e2 h g = alike x y (DidSend h.0) (DidSend g.0) h.1 g.1 (h.2 ∙ sym g.2)
 after_alike d (SendNoneThen set rest) env x y l1 l2 e1 e2 h g = alike x y (DidSend []) (DidSend []) h.0 g.0 refl
 after_alike d (IfThen f p q rest) env x y l1 l2 e1 e2 h g = alike x y (DidRead h.0) (DidRead g.0) h.1 g.1 (h.2 ∙ sym g.2)
+after_alike d (WaitThen names rest) env x y l1 l2 e1 e2 h g = alike x y (DidRead h.0) (DidRead g.0) h.1 g.1 (h.2 ∙ sym g.2)
 
 may_alike : (m : Setup) (w : World) (o : ℕ) (x y : Move) → MayMove m w o x → MayMove m w o y → Alike x y
 may_alike m w o x y h g =

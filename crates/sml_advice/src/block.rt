@@ -31,6 +31,7 @@ impl<'w> Walk<'w> {
             }
             Instr::Set { param, value } => self.assign(within, param, value),
             Instr::MoveTo(state) | Instr::Terminate(state) => self.end(within, state),
+            Instr::Wait(names) => self.waits(within, names),
         }
     }
 

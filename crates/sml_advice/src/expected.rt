@@ -32,6 +32,10 @@ const STATE: &[u8] = b"the name of a state";
 
 const ARGUMENT: &[u8] = b"a value or a parameter";
 
+const TARGET: &[u8] = b"`all_in` or the name of an object";
+
+const SET: &[u8] = b"the name of a set";
+
 const BEHIND_VALUE: &[u8] = b"`,` or `)`";
 
 const BEHIND_MEMBER: &[u8] = b"`,` or `}`";
@@ -56,6 +60,7 @@ pub(crate) fn expected_at(trail: &Trail) -> Expected {
         TokenKind::Set => in_assignment(trail),
         TokenKind::MoveTo => in_move(trail),
         TokenKind::TerminateAction => in_end(trail),
+        TokenKind::Wait => in_wait(trail),
         TokenKind::Then | TokenKind::Else | TokenKind::Endif => instruction(trail),
         _ => Expected::Other(ITEM),
     }
@@ -124,7 +129,7 @@ fn in_set(trail: &Trail) -> Expected {
     let is_outside = trail.signs.is_empty();
     match trail.last.kind {
         TokenKind::ObjectSet => Expected::Sign(COLON),
-        TokenKind::Colon => Expected::Name(b"the name of a set"),
+        TokenKind::Colon => Expected::Name(SET),
         TokenKind::Name if is_outside => Expected::Sign(b"`{`"),
         TokenKind::OpenBrace => Expected::Name(b"the name of an object, or `}`,"),
         TokenKind::Comma => Expected::Name(b"the name of an object"),
@@ -140,8 +145,8 @@ fn in_do(trail: &Trail) -> Expected {
         (TokenKind::Name, TokenKind::Do) => {
             Expected::Name(b"`(`, `all_in` or the name of an object")
         }
-        (TokenKind::CloseBracket, _) => Expected::Name(b"`all_in` or the name of an object"),
-        (TokenKind::AllIn, _) => Expected::Name(b"the name of a set"),
+        (TokenKind::CloseBracket, _) => Expected::Name(TARGET),
+        (TokenKind::AllIn, _) => Expected::Name(SET),
         (TokenKind::Name, _) if is_outside => instruction(trail),
         (TokenKind::OpenBracket | TokenKind::Comma, _) => Expected::Name(PARAMETER),
         (TokenKind::Name, TokenKind::OpenBracket | TokenKind::Comma) => Expected::Sign(EQUALS),
@@ -158,7 +163,7 @@ fn in_condition(trail: &Trail) -> Expected {
         TokenKind::OpenBracket | TokenKind::Not | TokenKind::And | TokenKind::Or => {
             Expected::Name(b"the name of an object, `all_in`, `any_in`, `not` or `(`")
         }
-        TokenKind::AllIn | TokenKind::AnyIn => Expected::Name(b"the name of a set"),
+        TokenKind::AllIn | TokenKind::AnyIn => Expected::Name(SET),
         TokenKind::InState | TokenKind::NotInState => {
             Expected::Name(b"the name of a state, or `{`,")
         }
@@ -200,6 +205,16 @@ fn in_end(trail: &Trail) -> Expected {
         TokenKind::State => Expected::Sign(EQUALS),
         TokenKind::Equals => Expected::Name(STATE),
         _ => instruction(trail),
+    }
+}
+
+fn in_wait(trail: &Trail) -> Expected {
+    match trail.last.kind {
+        TokenKind::Wait => Expected::Sign(b"`(`"),
+        TokenKind::OpenBracket | TokenKind::Comma => Expected::Name(TARGET),
+        TokenKind::AllIn => Expected::Name(SET),
+        TokenKind::CloseBracket => instruction(trail),
+        _ => Expected::Sign(BEHIND_VALUE),
     }
 }
 

@@ -29,6 +29,8 @@ pub enum Site {
     Member,
     Target,
     Tested,
+    /// In the brackets of a `wait`.
+    Waited,
 }
 
 /// What a value of the wrong kind was to be.
@@ -65,6 +67,11 @@ pub enum Detail {
         class: usize,
         object: Name,
         call: usize,
+    },
+    /// The class that reads an object of its own, and where the name of that, or of its set, stands.
+    Read {
+        class: usize,
+        site: Site,
     },
     /// The class of an object that a test reads, and whether it reads a set.
     Tested {

@@ -4,6 +4,7 @@ use crate::directory::{action_param, arg_kind, class_param, has_state, passes};
 use crate::finding::{Detail, Role, Site, Sort};
 use crate::walk::{Walk, Within};
 use sml_faults::CheckKind;
+use sml_tree::block::Waited;
 use sml_tree::cond::Scope;
 use sml_tree::file::{Action, ActionParam, Kind};
 use sml_tree::literal::{Arg, Passed};
@@ -47,7 +48,7 @@ impl<'w> Walk<'w> {
         };
         self.named(is_set, name, at, Site::Tested);
         let objects = self.directory.objects_meant(is_set, name);
-        self.own_objects(within, objects, at);
+        self.own_objects(within, objects, at, Site::Tested);
         for state in states {
             let state_at = self.take();
             if !objects.is_empty() && !self.directory.some_has_state(state, objects) {
@@ -56,12 +57,28 @@ impl<'w> Walk<'w> {
         }
     }
 
-    // Looks for objects of the own class. The first is told.
-    fn own_objects(&mut self, within: Within<'_>, objects: &[Name], at: usize) {
+    /// Goes over what a `wait` names.
+    pub(crate) fn waits(&mut self, within: Within<'_>, names: &[Waited]) {
+        for waited in names {
+            self.waited(within, waited);
+        }
+    }
+
+    // Goes over a name of a `wait`.
+    fn waited(&mut self, within: Within<'_>, waited: &Waited) {
+        let at = self.take();
+        self.named(waited.all, &waited.name, at, Site::Waited);
+        let objects = self.directory.objects_meant(waited.all, &waited.name);
+        self.own_objects(within, objects, at, Site::Waited);
+    }
+
+    // Looks for objects of the own class among those that a name speaks of. The first is told.
+    fn own_objects(&mut self, within: Within<'_>, objects: &[Name], at: usize, site: Site) {
+        let class = within.class_place;
         let mut is_told = false;
         for object in objects {
             if self.directory.is_of_class(object, &within.class.name) {
-                let detail = Detail::Class(within.class_place);
+                let detail = Detail::Read { class, site };
                 self.add_or_not(CheckKind::SelfInCondition, object, at, detail, is_told);
                 is_told = true;
             }

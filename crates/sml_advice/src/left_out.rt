@@ -48,7 +48,6 @@ fn other_word(name: &Name) -> Option<&'static [u8]> {
 // What is said of a reserved word that no rule uses.
 fn unused_word(kind: TokenKind) -> Option<&'static [u8]> {
     match kind {
-        TokenKind::Wait => Some(b"`wait` is reserved, and not part of this language yet"),
         TokenKind::Insert => Some(b"`insert` is reserved, and not part of this language yet"),
         TokenKind::Remove => Some(b"`remove` is reserved, and not part of this language yet"),
         TokenKind::In => Some(b"`in` is reserved, and not part of this language yet"),

@@ -5,7 +5,7 @@ use crate::trail::Trail;
 use sml_text::writing::Sink;
 use sml_tree::limits::{
     MAX_ACTIONS, MAX_ARGUMENTS, MAX_CLASSES, MAX_IFS, MAX_MEMBERS, MAX_NAMES, MAX_OBJECTS,
-    MAX_OPEN, MAX_PARAMETERS, MAX_SETS, MAX_STATES, MAX_TESTS,
+    MAX_OPEN, MAX_PARAMETERS, MAX_SETS, MAX_STATES, MAX_TESTS, MAX_WAITED,
 };
 use sml_tree::token_kind::TokenKind;
 
@@ -32,6 +32,7 @@ pub(crate) fn tell_too_many<W: Sink>(out: &mut Teller<'_, W>, trail: &Trail) {
 fn in_list(trail: &Trail) -> (&'static [u8], usize, &'static [u8]) {
     match (trail.head.kind, trail.last.kind) {
         (TokenKind::Do, _) => (b"a `do`", MAX_ARGUMENTS, b" arguments"),
+        (TokenKind::Wait, _) => (b"a `wait`", MAX_WAITED, b" names"),
         (TokenKind::ObjectSet, _) => (b"a set", MAX_MEMBERS, b" members"),
         (_, TokenKind::Comma) => (b"a list of states", MAX_NAMES, b" names"),
         _ => (b"a condition", MAX_TESTS as usize, b" tests"),

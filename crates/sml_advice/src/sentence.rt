@@ -125,7 +125,7 @@ fn tell_object<W: Sink>(out: &mut Teller<'_, W>, subject: Subject<'_>, finding: 
     if tell_other_sort(out, subject, name, set, b" is a set") {
         return out.say(match finding.detail {
             Detail::Site(Site::Tested) => b": `all_in` or `any_in` is missing before it",
-            Detail::Site(Site::Target) => b": `all_in` is missing before it",
+            Detail::Site(Site::Target | Site::Waited) => b": `all_in` is missing before it",
             _ => b", and the members of a set are objects",
         });
     }
@@ -248,15 +248,18 @@ fn tell_differing<W: Sink>(out: &mut Teller<'_, W>, finding: &Finding) {
     out.spot(at);
 }
 
-// A condition that reads an object of its own class.
+// A condition or a `wait` that reads an object of its own class.
 fn tell_self<W: Sink>(out: &mut Teller<'_, W>, subject: Subject<'_>, finding: &Finding) {
-    let Detail::Class(class) = finding.detail else {
+    let Detail::Read { class, site } = finding.detail else {
         return;
     };
     out.name(&finding.name);
     out.say(b" is an object of ");
     tell_class_name(out, subject, class);
-    out.say(b" itself, and its conditions read objects of other classes alone");
+    out.say(match site {
+        Site::Waited => b" itself, and its `wait`s are for objects of other classes alone",
+        _ => b" itself, and its conditions read objects of other classes alone",
+    });
 }
 
 // An action with instructions in an associated class.

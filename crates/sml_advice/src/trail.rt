@@ -51,6 +51,7 @@ fn is_head(kind: TokenKind) -> bool {
             | TokenKind::Set
             | TokenKind::MoveTo
             | TokenKind::TerminateAction
+            | TokenKind::Wait
     )
 }
 
@@ -162,6 +163,7 @@ impl Trail {
             TokenKind::Set => matches!(before, TokenKind::Equals),
             TokenKind::MoveTo => matches!(last, TokenKind::Name),
             TokenKind::TerminateAction => matches!(last, TokenKind::Name),
+            TokenKind::Wait => matches!(last, TokenKind::CloseBracket),
             _ => false,
         }
     }

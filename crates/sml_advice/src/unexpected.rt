@@ -83,7 +83,7 @@ fn tell_part<W: Sink>(out: &mut Teller<'_, W>, trail: &Trail) -> bool {
     match trail.found.kind {
         TokenKind::Name if trail.takes_instruction() => {
             out.quoted(trail.found.bytes(out.text));
-            out.say(b" is no instruction (do, if, set, move_to, terminate_action)");
+            out.say(b" is no instruction (do, if, set, move_to, terminate_action, wait)");
             tell_meant(out, trail.found);
             true
         }
@@ -223,5 +223,6 @@ fn ends_brackets(kind: TokenKind) -> bool {
             | TokenKind::Set
             | TokenKind::MoveTo
             | TokenKind::TerminateAction
+            | TokenKind::Wait
     )
 }

@@ -1,9 +1,9 @@
 -- What holds of the places of a block whose text can be read.
-use Rattle.std.proofs.Common.{zero, suc, List, [], ◌∷◌, ◌++◌, subst, arith}
+use Rattle.std.proofs.Common.{zero, suc, List, [], ◌∷◌, ◌++◌, map, subst, arith}
 use Rattle.std.specs.List.{Contains, AllByRecursion}
-use Rattle.sml_tree.specs.Syntax.{CondData, both, either, neither, test, InstrData, send, choose, assign, move_to, terminate, BlockData, done, step}
-use Rattle.sml_faults.specs.Sites.{Site, asks, tests, sets, ends, cond_sites, instr_sites, block_sites}
-use Rattle.sml_round_trip.specs.Writable.{IsName, IsArg, IsWritableTest, IsWritableCond, IsWritableSend, IsWritableInstr, IsWritableBlock}
+use Rattle.sml_tree.specs.Syntax.{CondData, both, either, neither, test, WaitedData, InstrData, send, choose, assign, move_to, terminate, wait_for, BlockData, done, step}
+use Rattle.sml_faults.specs.Sites.{Site, asks, tests, sets, ends, waited_site, cond_sites, instr_sites, block_sites}
+use Rattle.sml_round_trip.specs.Writable.{IsName, IsArg, IsWritableCond, IsWritableSend, IsWaited, IsWritableInstr, IsWritableBlock}
 
 -- what holds of each of some things, of one that stands among them
 pub all_in : {X : Type 0} (P : X → Type 0) (xs : List X) (x : X) → AllByRecursion P xs → Contains xs x → P x
@@ -15,10 +15,10 @@ all_both : {X : Type 0} (P : X → Type 0) (xs ys : List X) → AllByRecursion P
 all_both P [] ys front back = back
 all_both P (x ∷ xs) ys front back = (front.0, all_both P xs ys front.1 back)
 
--- a place of a block whose text can be read
+-- a place of a block whose text can be read; what a `wait` waits for is tested about no states
 abbrev pub IsWritableSite : Site → Type 0
 IsWritableSite (asks s) = IsWritableSend s
-IsWritableSite (tests t) = IsWritableTest t
+IsWritableSite (tests t) = IsName t.name × AllByRecursion IsName t.states
 IsWritableSite (sets name value) = IsName name × IsArg value
 IsWritableSite (ends state) = IsName state
 
@@ -30,7 +30,11 @@ cond_writable : (c : CondData) → IsWritableCond c → AreWritableSites (cond_s
 cond_writable (both c d) h = all_both IsWritableSite (cond_sites c) (cond_sites d) (cond_writable c h.0) (cond_writable d h.1)
 cond_writable (either c d) h = all_both IsWritableSite (cond_sites c) (cond_sites d) (cond_writable c h.0) (cond_writable d h.1)
 cond_writable (neither c) h = cond_writable c h
-cond_writable (test t) h = (h, tt)
+cond_writable (test t) h = ((h.0, (h.1).1), tt)
+
+waits_writable : (ws : List WaitedData) → AllByRecursion IsWaited ws → AreWritableSites (map waited_site ws)
+waits_writable [] h = tt
+waits_writable (w ∷ ws) h = ((h.0, tt), waits_writable ws h.1)
 
 mutual
   instr_writable : (i : InstrData) → IsWritableInstr i → AreWritableSites (instr_sites i)
@@ -41,6 +45,7 @@ mutual
   instr_writable (assign name value) h = (h, tt)
   instr_writable (move_to state) h = (h, tt)
   instr_writable (terminate state) h = (h, tt)
+  instr_writable (wait_for waited) h = waits_writable waited h.1
 
   pub block_writable : (b : BlockData) → IsWritableBlock b → AreWritableSites (block_sites b)
   block_writable done h = tt

@@ -6,7 +6,7 @@ use Rattle.std.proofs.Math.ListN.{get_or-append}
 use Rattle.std.proofs.Math.Seq.{get_or-append_seam}
 use Rattle.std.proofs.lemmas.List.{get_or_past}
 use Rattle.std.proofs.lemmas.Bool.{cases_lt}
-use Rattle.sml_domain.specs.Program.{Instruction, Assigns, Sends, SendsToNone, Chooses, Moves, Terminates, Program, Nothing, IfThen}
+use Rattle.sml_domain.specs.Program.{Instruction, Assigns, Sends, SendsToNone, Chooses, Moves, Terminates, Waits, Program, Nothing, IfThen}
 use Rattle.sml_domain.specs.Trees.{tree_at, with_instr, onto, trees_from, trees_of}
 use Rattle.sml_domain.specs.Domain.{Domain}
 use Rattle.sml_domain.specs.Sound.{IsSound, EachBegins}
@@ -20,6 +20,7 @@ with_kept n xs ys (SendsToNone set) k same h = refl
 with_kept n xs ys (Chooses f a b) k same h = ap (λ t. IfThen f t (tree_at ys b) k) (same a h.0) ∙ ap (λ t. IfThen f (tree_at xs a) t k) (same b h.1)
 with_kept n xs ys (Moves s) k same h = refl
 with_kept n xs ys (Terminates s) k same h = refl
+with_kept n xs ys (Waits names) k same h = refl
 
 pub onto_kept : (n : ℕ) (xs ys : List Program) (is : List Instruction) (k : Program) → ((j : ℕ) → j < n → tree_at ys j ≡ tree_at xs j) → NameBefore n is → onto ys is k ≡ onto xs is k
 onto_kept n xs ys [] k same h = refl

@@ -4,7 +4,7 @@ use Rattle.std.specs.List.{list_any}
 use Rattle.sml_tree.specs.declared.file.Kind.{Kind}
 use Rattle.sml_domain.specs.Names.{same_name, AreDistinct}
 use Rattle.sml_domain.specs.Values.{kind_of}
-use Rattle.sml_domain.specs.Program.{Operand, Fixed, Own, Given, Argument, Target, ToOne, ToMembers, Asked, OfOne, OfEach, OfAny, Formula, Both, Either, Not, Test, Program, Nothing, SetThen, SendThen, SendNoneThen, IfThen, EndIn, TerminateIn}
+use Rattle.sml_domain.specs.Program.{Operand, Fixed, Own, Given, Argument, Target, ToOne, ToMembers, Asked, OfOne, OfEach, OfAny, Formula, Both, Either, Not, Test, Program, Nothing, SetThen, SendThen, SendNoneThen, IfThen, EndIn, TerminateIn, WaitThen}
 use Rattle.sml_domain.specs.Domain.{Domain, Class, Param}
 use Rattle.sml_domain.specs.Lookups.{params_at, members_at, has_state}
 
@@ -81,7 +81,7 @@ pub record DoFits (d : Domain) (own given : List Param) (action : ℕ) (args : L
   pub kinds : All (ArgumentHasKind own given) args
   pub targets : SendFits d own given action args target
 
--- those whom a test asks are there
+-- those whom a test asks, or a `wait` waits for, are there
 abbrev pub AskedFits : Domain → Asked → Type 0
 AskedFits d (OfOne o) = o < length d.objects
 AskedFits d (OfEach set) = set < length d.groups
@@ -107,3 +107,4 @@ ProgramFits d c given (SendNoneThen set rest) = (set < length d.groups) × (memb
 ProgramFits d c given (IfThen f p q rest) = FormulaFits d f × ProgramFits d c given p × ProgramFits d c given q × ProgramFits d c given rest
 ProgramFits d c given (EndIn s) = has_state s c ≡ true
 ProgramFits d c given (TerminateIn s) = has_state s c ≡ true
+ProgramFits d c given (WaitThen names rest) = All (AskedFits d) names × ProgramFits d c given rest

@@ -1,6 +1,6 @@
 -- Places in blocks.
 use Rattle.std.specs.Prelude.{◌≡◌, ◌<◌, ℕ, suc, ◌+◌, List, [], ◌∷◌, Option, Some, None, drop, slice_index_or}
-use Rattle.sml_domain.specs.Program.{Instruction, Assigns, Sends, SendsToNone, Chooses, Moves, Terminates, Program, Nothing}
+use Rattle.sml_domain.specs.Program.{Instruction, Assigns, Sends, SendsToNone, Chooses, Moves, Terminates, Waits, Program, Nothing}
 use Rattle.sml_domain.specs.Trees.{with_instr, onto, trees_of}
 
 -- the instructions of a block
@@ -24,6 +24,7 @@ NamesBefore n (SendsToNone set) = Unit {0}
 NamesBefore n (Chooses f a b) = (a < n) × (b < n)
 NamesBefore n (Moves s) = Unit {0}
 NamesBefore n (Terminates s) = Unit {0}
+NamesBefore n (Waits names) = Unit {0}
 
 -- so do instructions
 abbrev pub NameBefore : ℕ → List Instruction → Type 0

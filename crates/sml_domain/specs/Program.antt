@@ -39,6 +39,7 @@ pub data Instruction : Type 0 where
   Chooses : (condition : Formula) (yes no : ℕ) → Instruction
   Moves : (state : ℕ) → Instruction
   Terminates : (state : ℕ) → Instruction
+  Waits : (names : List Asked) → Instruction
 
 -- an instruction, and what stands after it in its block; what stands after an end is never done
 pub data Program : Type 0 where
@@ -49,3 +50,4 @@ pub data Program : Type 0 where
   IfThen : (condition : Formula) (yes no rest : Program) → Program
   EndIn : (state : ℕ) → Program
   TerminateIn : (state : ℕ) → Program
+  WaitThen : (names : List Asked) (rest : Program) → Program

@@ -1,5 +1,5 @@
 -- What is so of every domain: its numbers are its own, values have the kinds of their parameters, no set has a member
--- twice, and no condition asks the object that runs it.
+-- twice, and no condition and no `wait` asks the object that runs it.
 use Rattle.std.specs.Prelude.{◌≡◌, ◌<◌, ℕ, Bool, true, false, List, [], ◌∷◌, Some, All, IfSome, IsSomeAnd, is_some, length, map, nat_eq}
 use Rattle.std.specs.List.{list_any}
 use Rattle.std.specs.Option.{option_and_then}
@@ -121,7 +121,7 @@ pub record HaveOneNumber (d : Domain) : Type 0 where
   pub states : AreDistinct d.states
   pub actions : AreDistinct d.actions
 
--- no condition of a block that an object's class declares asks that object
+-- no condition and no `wait` of a block that an object's class declares asks that object
 abbrev pub ProgramsAskOthers : Domain → Type 0
 ProgramsAskOthers d = (o s a b : ℕ) → block_at d o s a ≡ Some b → ProgramSpares (members_at d) o (tree_of_block d b)
 

@@ -11,7 +11,7 @@ use Rattle.sml_domain.specs.declared.instr.Cond.{Cond, And', Or', Not'}
 use Rattle.sml_domain.specs.declared.instr.Cond.TheVariants as conds
 use Rattle.sml_domain.specs.declared.instr.Instr.{Instr}
 use Rattle.sml_domain.specs.declared.instr.Instr.TheVariants as instrs
-use Rattle.sml_domain.specs.Program.{Operand, Fixed, Own, Given, Argument, Target, ToOne, ToMembers, Asked, OfOne, OfEach, OfAny, Formula, Both, Either, Not, Test, Instruction, Assigns, Sends, SendsToNone, Chooses, Moves, Terminates, Program, Nothing, SetThen, SendThen, SendNoneThen, IfThen, EndIn, TerminateIn}
+use Rattle.sml_domain.specs.Program.{Operand, Fixed, Own, Given, Argument, Target, ToOne, ToMembers, Asked, OfOne, OfEach, OfAny, Formula, Both, Either, Not, Test, Instruction, Assigns, Sends, SendsToNone, Chooses, Moves, Terminates, Waits, Program, Nothing, SetThen, SendThen, SendNoneThen, IfThen, EndIn, TerminateIn, WaitThen}
 
 -- what an operand stands for
 abbrev pub operand : Numbered → Operand
@@ -49,6 +49,7 @@ instruction (instrs.SendNone set) = SendsToNone set
 instruction (instrs.If c a b) = Chooses (formula c) a b
 instruction (instrs.MoveTo s) = Moves s
 instruction (instrs.Terminate s) = Terminates s
+instruction (instrs.Wait names) = Waits (map asked names.items)
 
 -- the tree of a block, of those that are known
 abbrev pub tree_at : List Program → ℕ → Program
@@ -62,6 +63,7 @@ with_instr known (SendsToNone set) rest = SendNoneThen set rest
 with_instr known (Chooses f a b) rest = IfThen f (tree_at known a) (tree_at known b) rest
 with_instr known (Moves s) rest = EndIn s
 with_instr known (Terminates s) rest = TerminateIn s
+with_instr known (Waits names) rest = WaitThen names rest
 
 -- instructions, and then what stands after them
 abbrev pub onto : List Program → List Instruction → Program → Program

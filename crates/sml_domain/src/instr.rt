@@ -81,4 +81,7 @@ pub enum Instr {
     MoveTo(StateId),
     /// Ends the action in the state: `terminate_action`.
     Terminate(StateId),
+    /// Waits until those that are named, and all members of named sets, have nothing to do, and
+    /// reads their states, whatever they are. (`Asked::Any` counts as `Asked::Each`.)
+    Wait(Vec<Asked>),
 }

@@ -1,13 +1,14 @@
 -- What an instruction says.
 use Rattle.std.proofs.Common.{◌≡◌, ◌∙◌, sym, ap, Bool, Vec, map, ◌⊎◌, inl, inr, [], ◌∷◌}
-use Rattle.sml_tree.specs.Syntax.{InstrData, BlockData, send, assign, move_to, terminate}
-use Rattle.sml_tree.specs.Content.{instr_content, arg_content, passed_content, instr_step, block_step}
+use Rattle.sml_tree.specs.Syntax.{InstrData, BlockData, send, assign, move_to, terminate, wait_for}
+use Rattle.sml_tree.specs.Content.{instr_content, arg_content, passed_content, waited_content, instr_step, block_step}
 use Rattle.sml_tree.specs.declared.literal.Arg.{Arg}
 use Rattle.sml_tree.specs.declared.literal.Passed.{Passed}
 use Rattle.sml_tree.specs.declared.name.Name.{Name}
-use Rattle.sml_tree.specs.declared.block.Instr.{Instr, Do, Set, MoveTo, Terminate}
+use Rattle.sml_tree.specs.declared.block.Waited.{Waited}
+use Rattle.sml_tree.specs.declared.block.Instr.{Instr, Do, Set, MoveTo, Terminate, Wait}
 use Rattle.sml_tree.specs.declared.block.Instr.TheOpen.{Instr-F}
-use Rattle.sml_tree.specs.declared.block.Instr.TheViews.{rolls-Do, rolls-Set, rolls-MoveTo, rolls-Terminate}
+use Rattle.sml_tree.specs.declared.block.Instr.TheViews.{rolls-Do, rolls-Set, rolls-MoveTo, rolls-Terminate, rolls-Wait}
 use Rattle.sml_tree.specs.declared.block.Instr.TheFolds.{fold-roll-Instr}
 use Rattle.sml_faults.specs.Sites.{ends, instr_sites}
 
@@ -23,6 +24,9 @@ says_MoveTo A s = ap (instr_content {A = A}) (sym (rolls-MoveTo s)) ∙ fold-rol
 
 pub says_Terminate : (A : Type 0) (s : Name) → instr_content {A = A} (Terminate s) ≡ terminate s
 says_Terminate A s = ap (instr_content {A = A}) (sym (rolls-Terminate s)) ∙ fold-roll-Instr A InstrData BlockData instr_step block_step (Instr-F.Terminate s)
+
+pub says_Wait : {A : Type 0} (ws : Vec Waited A) → instr_content (Wait ws) ≡ wait_for (map waited_content ws.items)
+says_Wait {A} ws = ap (instr_content {A = A}) (sym (rolls-Wait ws)) ∙ fold-roll-Instr A InstrData BlockData instr_step block_step (Instr-F.Wait ws)
 
 -- an instruction that ends an action names its state
 pub ends_in : {A : Type 0} (i : Instr A) (s : Name) → (i ≡ MoveTo s) ⊎ (i ≡ Terminate s) → instr_sites (instr_content i) ≡ ends s ∷ []

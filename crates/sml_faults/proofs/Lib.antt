@@ -23,3 +23,4 @@ pub mod Suffices
 pub mod Requests
 pub mod Rules
 pub mod Instrs
+pub mod Waits

@@ -22,7 +22,7 @@ send_faults KindMismatch file c a s objects = flat_map (mismatched file s.action
 send_faults MissingArg file c a s objects = flat_map (missing_at file s.action s.args) objects
 send_faults kind file c a s objects = []
 
--- the faults of a kind at a test, where it asks a set or an object of this name about these states
+-- the faults of a kind at a test or a `wait`, where it asks a set or an object of this name about these states
 abbrev pub test_faults : CheckKind → List ItemData → ClassData → Bool → List ℕ → List (List ℕ) → List (List ℕ)
 test_faults UnknownObject file c set n states = unknown_object file set n
 test_faults UnknownSet file c set n states = unknown_set file set n

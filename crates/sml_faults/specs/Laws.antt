@@ -27,7 +27,7 @@ MembersAreObjects file = (g : GroupData) → Contains file (group g) → (n : Li
 abbrev pub TargetsAreDeclared : List ItemData → Type 0
 TargetsAreDeclared file = (c : ClassData) (a : ActionData) (s : SendData) → HasSite file c a (asks s) → Declares file s.all s.target
 
--- a test asks a declared object or set
+-- a test asks, and a `wait` waits for, a declared object or set
 abbrev pub TestsAreDeclared : List ItemData → Type 0
 TestsAreDeclared file = (c : ClassData) (a : ActionData) (t : TestData) → HasSite file c a (tests t) → Declares file (of_set t.scope) t.name
 
@@ -67,7 +67,7 @@ OneIsDead file = (c : ClassData) → Contains file (class c) → (s t : StateDat
 abbrev pub AssociatedAreEmpty : List ItemData → Type 0
 AssociatedAreEmpty file = (c : ClassData) (a : ActionData) → HasAction file c a → c.associated ≡ true → a.body ≡ done
 
--- no condition in a class asks an object of that class
+-- no condition and no `wait` in a class asks an object of that class
 abbrev pub TestsAskOthers : List ItemData → Type 0
 TestsAskOthers file =
     (c : ClassData) (a : ActionData) (t : TestData) → HasSite file c a (tests t) → (n : List ℕ) → SpeaksOf file (of_set t.scope) t.name n → (d : ClassData) → IsOfClass file n d → d.name ≢ c.name

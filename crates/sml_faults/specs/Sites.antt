@@ -1,8 +1,9 @@
 -- What a block names, in the order of the text.
-use Rattle.std.specs.Prelude.{List, [], ◌∷◌, ◌++◌, ℕ}
-use Rattle.sml_tree.specs.Syntax.{ArgData, CondData, both, either, neither, test, TestData, SendData, InstrData, send, choose, assign, move_to, terminate, BlockData, done, step}
+use Rattle.std.specs.Prelude.{List, [], ◌∷◌, ◌++◌, ℕ, false, map, if◌then◌else◌}
+use Rattle.sml_tree.specs.Syntax.{ArgData, CondData, both, either, neither, test, TestData, SendData, WaitedData, InstrData, send, choose, assign, move_to, terminate, wait_for, BlockData, done, step}
+use Rattle.sml_tree.specs.declared.cond.Scope.TheVariants.{One, All}
 
--- a request, a test of a condition, a `set`, or the state in which an action ends
+-- a request, a test of a condition or what is waited for, a `set`, or the state in which an action ends
 pub data Site : Type 0 where
   asks : SendData → Site
   tests : TestData → Site
@@ -16,6 +17,14 @@ cond_sites (either c d) = cond_sites c ++ cond_sites d
 cond_sites (neither c) = cond_sites c
 cond_sites (test t) = tests t ∷ []
 
+-- what a `wait` waits for counts as tested, about no states
+abbrev pub waited_test : WaitedData → TestData
+waited_test w = record { scope = if w.all then All else One; name = w.name; negated = false; states = [] }
+
+-- the place of what a `wait` waits for
+abbrev pub waited_site : WaitedData → Site
+waited_site w = tests (waited_test w)
+
 abbrev mutual
   -- what an instruction names; an `if` its condition before its blocks
   pub instr_sites : InstrData → List Site
@@ -24,6 +33,7 @@ abbrev mutual
   instr_sites (assign name value) = sets name value ∷ []
   instr_sites (move_to state) = ends state ∷ []
   instr_sites (terminate state) = ends state ∷ []
+  instr_sites (wait_for waited) = map waited_site waited
 
   -- what the instructions of a block name, one after another
   pub block_sites : BlockData → List Site

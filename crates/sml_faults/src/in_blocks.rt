@@ -1,8 +1,8 @@
 //! Whether a file has a fault of a kind that stands in blocks alone. All such kinds are looked for in one
 //! walk, so that the blocks of a file without faults are not walked for each of them.
-ghost use Rattle.std.specs.Prelude.{◌≡◌, map, flat_map};
+ghost use Rattle.std.specs.Prelude.{◌≡◌, [], map, flat_map};
 ghost use Rattle.std.specs.List.{list_any};
-ghost use Rattle.sml_tree.specs.Content.{file_content, class_content, action_content, state_content, item_content, cond_content, instr_content, block_content, arg_content, passed_content};
+ghost use Rattle.sml_tree.specs.Content.{file_content, class_content, action_content, state_content, item_content, cond_content, instr_content, block_content, arg_content, passed_content, waited_content};
 ghost use Rattle.sml_faults.specs.Lookup as look;
 ghost use Rattle.sml_faults.specs.Sites.{cond_sites, instr_sites, block_sites};
 ghost use Rattle.sml_faults.specs.InBlocks as in_blocks;
@@ -11,7 +11,7 @@ use crate::lookup::of_set;
 use crate::param::set_unknown_param;
 use crate::site::unknown_end;
 use crate::tables::Tables;
-use sml_tree::block::{Block, Instr};
+use sml_tree::block::{Block, Instr, Waited};
 use sml_tree::cond::Cond;
 use sml_tree::file::{Action, Class, Item, State};
 use sml_tree::literal::Passed;
@@ -48,6 +48,18 @@ impl<'a, A: Allocator + Clone> Tables<'a, A> {
         self.unknown_set(set, name).is_some()
             || self.unknown_tested(objects, states).is_some()
             || self.own_object(class, objects).is_some()
+    }
+
+    // Whether something that a `wait` waits for is at fault.
+    fn is_faulty_wait(&self, class: &Class<A>, waited: &[Waited]) -> bool
+        ensures { result ≡ list_any (λ w. in_blocks.is_faulty_test (file_content self.now.file.now) (class_content class.now) w.all w.name [] (look.objects_meant (file_content self.now.file.now) w.all w.name)) (map waited_content waited.now) }
+    {
+        for one in waited {
+            if self.is_faulty_test(class, one.all, &one.name, &[]) {
+                return true;
+            }
+        }
+        false
     }
 
     // Whether a test of a condition is at fault.
@@ -91,6 +103,7 @@ impl<'a, A: Allocator + Clone> Tables<'a, A> {
                 set_unknown_param(class, action, param, value).is_some()
             }
             Instr::MoveTo(state) | Instr::Terminate(state) => unknown_end(class, state).is_some(),
+            Instr::Wait(waited) => self.is_faulty_wait(class, waited),
         }
     }
 

@@ -20,7 +20,7 @@ pub enum CheckKind {
     TwoDead,
     /// An object is of no declared class.
     UnknownClass,
-    /// A member, a target or a tested object is not declared.
+    /// A member, a target, or an object that a test or a `wait` names is not declared.
     UnknownObject,
     /// A name behind `all_in` or `any_in` is no set's.
     UnknownSet,
@@ -36,7 +36,7 @@ pub enum CheckKind {
     MissingArg,
     /// An action has two lists of parameters in one class.
     ParamsDiffer,
-    /// A condition asks an object of its own class.
+    /// A condition or a `wait` names an object of its own class.
     SelfInCondition,
     /// An action of an associated class has instructions.
     AssociatedBody,

@@ -27,8 +27,8 @@ pub fn complete_requests()
 {}
 
 /// In a well-formed file a class has a state, at most one that is marked as initial and at most one as
-/// dead. Its actions of one name have the same parameters, its conditions ask objects of other classes,
-/// and an associated class has no instructions.
+/// dead. Its actions of one name have the same parameters, its conditions and `wait`s name objects of
+/// other classes, and an associated class has no instructions.
 pub fn sound_classes()
     ensures states { OfWellFormed ClassesHaveStates }
     ensures initial { OfWellFormed OneIsInitial }

@@ -1,6 +1,6 @@
 //! The walk over a file: the first fault of a kind.
-ghost use Rattle.std.specs.Prelude.{◌≡◌, map, flat_map};
-ghost use Rattle.sml_tree.specs.Content.{file_content, class_content, action_content, state_content, item_content, cond_content, instr_content, block_content, arg_content, passed_content};
+ghost use Rattle.std.specs.Prelude.{◌≡◌, [], map, flat_map};
+ghost use Rattle.sml_tree.specs.Content.{file_content, class_content, action_content, state_content, item_content, cond_content, instr_content, block_content, arg_content, passed_content, waited_content};
 ghost use Rattle.sml_faults.specs.Lookup as look;
 ghost use Rattle.sml_faults.specs.Sites.{cond_sites, instr_sites, block_sites};
 ghost use Rattle.sml_faults.specs.Kinds as kinds;
@@ -13,7 +13,7 @@ use crate::repeated::repeated_passed;
 use crate::site::unknown_end;
 use crate::tables::Tables;
 use crate::value_kind::set_mismatch;
-use sml_tree::block::{Block, Instr};
+use sml_tree::block::{Block, Instr, Waited};
 use sml_tree::cond::Cond;
 use sml_tree::file::{Action, Class, Item, State};
 use sml_tree::literal::{Arg, Passed};
@@ -132,6 +132,18 @@ impl<'a, A: Allocator + Clone> Tables<'a, A> {
         }
     }
 
+    // The first fault of a kind at what a `wait` waits for.
+    fn wait_fault(&self, kind: CheckKind, class: &Class<A>, waited: &[Waited]) -> Option<Name>
+        ensures { result ≡ look.first (flat_map (λ w. kinds.test_faults kind (file_content self.now.file.now) (class_content class.now) w.all w.name []) (map waited_content waited.now)) }
+    {
+        for one in waited {
+            if let Some(name) = self.test_fault(kind, class, one.all, &one.name, &[]) {
+                return Some(name);
+            }
+        }
+        None
+    }
+
     // The first fault of a kind at a `do`.
     fn send_fault(
         &self,
@@ -227,6 +239,7 @@ impl<'a, A: Allocator + Clone> Tables<'a, A> {
             },
             Instr::Set { param, value } => set_fault(kind, class, action, param, value),
             Instr::MoveTo(state) | Instr::Terminate(state) => end_fault(kind, class, state),
+            Instr::Wait(waited) => self.wait_fault(kind, class, waited),
         }
     }
 

@@ -4,7 +4,7 @@ use Rattle.sml_text.specs.Tokens.{Session}
 use Rattle.sml_tree.specs.declared.token_kind.TokenKind.{TokenKind}
 use Rattle.sml_tree.specs.Piece.{Piece}
 use Rattle.sml_tree.specs.Form as of
-use Rattle.sml_tree.specs.Form.{Bone, B, P, Form, gives, needs, calls, part, Part, Family, family, Mark, Fine, Deep, Many, Value, Files, ClassMarks, ClassParamLists, Sorts, ClassParams, MoreClassParams, Literals, States, StateMarks, FirstMarks, InitialMarks, DeadMarks, Actions, ActionParamLists, ActionParams, MoreActionParams, Defaults, Blocks, ArgLists, PassedArgs, MorePassed, Everys, Args, Branches, Arms, Elses, Conds, Conjs, Units, MoreAnds, MoreOrs, Senses, StateLists, NameLists, MoreNames, MemberLists, MoreMembers}
+use Rattle.sml_tree.specs.Form.{Bone, B, P, Form, gives, needs, calls, part, Part, Family, family, Mark, Fine, Deep, Many, Value, Files, ClassMarks, ClassParamLists, Sorts, ClassParams, MoreClassParams, Literals, States, StateMarks, FirstMarks, InitialMarks, DeadMarks, Actions, ActionParamLists, ActionParams, MoreActionParams, Defaults, Blocks, ArgLists, PassedArgs, MorePassed, Waiteds, MoreWaiteds, Everys, Args, Branches, Arms, Elses, Conds, Conjs, Units, MoreAnds, MoreOrs, Senses, StateLists, NameLists, MoreNames, MemberLists, MoreMembers}
 use Rattle.sml_tree.specs.Grammar.{Rule, rules, empty}
 use Rattle.sml_tree.specs.Derive.{Marked, OneOf, Derives, nothing, token, left_out, written, marked, fine, plain}
 use Rattle.sml_reader.specs.declared.fault.Fault.{Fault}
@@ -85,6 +85,8 @@ within_1 Blocks = true
 within_1 ArgLists = true
 within_1 PassedArgs = false
 within_1 MorePassed = true
+within_1 Waiteds = true
+within_1 MoreWaiteds = true
 within_1 Everys = true
 within_1 Args = true
 within_1 Branches = false
@@ -124,6 +126,8 @@ text_1 (of.Block a) h = text_0 (of.Block a) refl
 text_1 of.ArgList h = text_0 of.ArgList refl
 text_1 (of.Passed a) h = absurd (cc h)
 text_1 (of.MorePassedArg a) h = text_0 (of.MorePassedArg a) refl
+text_1 (of.Waited a) h = by_rule (of.Waited a) _ (inl refl) (derives_some skips text_0 (of.Waited a) _ _ refl)
+text_1 (of.MoreWaited a) h = text_0 (of.MoreWaited a) refl
 text_1 of.Every h = text_0 of.Every refl
 text_1 of.Arg h = by_rule of.Arg _ (inl refl) (derives_some skips text_0 of.Arg _ _ refl)
 text_1 (of.Branch a) h = absurd (cc h)
@@ -164,6 +168,8 @@ within_2 Blocks = true
 within_2 ArgLists = true
 within_2 PassedArgs = true
 within_2 MorePassed = true
+within_2 Waiteds = true
+within_2 MoreWaiteds = true
 within_2 Everys = true
 within_2 Args = true
 within_2 Branches = false
@@ -203,6 +209,8 @@ text_2 (of.Block a) h = text_1 (of.Block a) refl
 text_2 of.ArgList h = text_1 of.ArgList refl
 text_2 (of.Passed a) h = by_rule (of.Passed a) _ (inl refl) (derives_some within_1 text_1 (of.Passed a) _ _ refl)
 text_2 (of.MorePassedArg a) h = text_1 (of.MorePassedArg a) refl
+text_2 (of.Waited a) h = text_1 (of.Waited a) refl
+text_2 (of.MoreWaited a) h = text_1 (of.MoreWaited a) refl
 text_2 of.Every h = text_1 of.Every refl
 text_2 of.Arg h = text_1 of.Arg refl
 text_2 (of.Branch a) h = absurd (cc h)
@@ -243,6 +251,8 @@ within_3 Blocks = true
 within_3 ArgLists = true
 within_3 PassedArgs = true
 within_3 MorePassed = true
+within_3 Waiteds = true
+within_3 MoreWaiteds = true
 within_3 Everys = true
 within_3 Args = true
 within_3 Branches = true
@@ -282,6 +292,8 @@ text_3 (of.Block a) h = text_2 (of.Block a) refl
 text_3 of.ArgList h = text_2 of.ArgList refl
 text_3 (of.Passed a) h = text_2 (of.Passed a) refl
 text_3 (of.MorePassedArg a) h = text_2 (of.MorePassedArg a) refl
+text_3 (of.Waited a) h = text_2 (of.Waited a) refl
+text_3 (of.MoreWaited a) h = text_2 (of.MoreWaited a) refl
 text_3 of.Every h = text_2 of.Every refl
 text_3 of.Arg h = text_2 of.Arg refl
 text_3 (of.Branch a) h = by_rule (of.Branch a) _ (inl refl) (derives_some within_2 text_2 (of.Branch a) _ _ refl)
@@ -322,6 +334,8 @@ some_text (of.Block a) = text_3 (of.Block a) refl
 some_text of.ArgList = text_3 of.ArgList refl
 some_text (of.Passed a) = text_3 (of.Passed a) refl
 some_text (of.MorePassedArg a) = text_3 (of.MorePassedArg a) refl
+some_text (of.Waited a) = text_3 (of.Waited a) refl
+some_text (of.MoreWaited a) = text_3 (of.MoreWaited a) refl
 some_text of.Every = text_3 of.Every refl
 some_text of.Arg = text_3 of.Arg refl
 some_text (of.Branch a) = text_3 (of.Branch a) refl

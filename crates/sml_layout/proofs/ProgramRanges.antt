@@ -5,23 +5,23 @@ use Rattle.std.specs.List.{Contains}
 use Rattle.std.proofs.lemmas.List.Elements.{Contains-append_left, Contains-append_right}
 use Rattle.sml_tree.specs.declared.cond.Scope.{Scope}
 use Rattle.sml_tree.specs.declared.cond.Scope.TheVariants.{One, All as AllOf, Any}
-use Rattle.sml_tree.specs.Syntax.{ArgData, SendData, CondData, both, either, neither, test, TestData, InstrData, send, choose, assign, move_to, terminate, BlockData, done, step, ItemData, class, object, ClassData, ObjectData, ActionData}
-use Rattle.sml_faults.specs.Sites.{Site, asks, tests, sets, ends, cond_sites, instr_sites, block_sites}
+use Rattle.sml_tree.specs.Syntax.{ArgData, SendData, CondData, both, either, neither, test, TestData, WaitedData, InstrData, send, choose, assign, move_to, terminate, wait_for, BlockData, done, step, ItemData, class, object, ClassData, ObjectData, ActionData}
+use Rattle.sml_faults.specs.Sites.{Site, asks, tests, sets, ends, waited_test, waited_site, cond_sites, instr_sites, block_sites}
 use Rattle.sml_faults.specs.Lookup.{of_set}
 use Rattle.sml_faults.specs.Inside.{HasAction, HasSite, DeclaresObject, DeclaresSet, Declares, SpeaksOf}
 use Rattle.sml_faults.specs.Sound.{IsSound}
 use Rattle.sml_faults.proofs.Pairs.{contains_here, contains_one, not_false}
 use Rattle.sml_domain.specs.Domain.{Domain, Class, Param}
-use Rattle.sml_domain.specs.Program.{Program}
+use Rattle.sml_domain.specs.Program.{Asked, Program}
 use Rattle.sml_domain.specs.Fits.{kind_at, HasKindOf, DoFits, AskedFits, IsStateName, FormulaFits, ProgramFits}
 use Rattle.sml_domain.specs.Lookups.{members_at}
-use Rattle.sml_domain.specs.Asking.{asked_of, FormulaSpares, ProgramSpares}
+use Rattle.sml_domain.specs.Asking.{asked_of, AskedSpares, FormulaSpares, ProgramSpares}
 use Rattle.sml_domain.specs.Trees.{trees_of}
 use Rattle.sml_layout.specs.Numbers.{Names, names_of, place, place_or, number}
-use Rattle.sml_layout.specs.Programs.{class_place, operand, argument, asked, number_list, state_numbers, formula, target, request, instr_then, program}
+use Rattle.sml_layout.specs.Programs.{class_place, operand, argument, asked, number_list, state_numbers, formula, target, request, waited_asked, instr_then, program}
 use Rattle.sml_layout.specs.Rows.{class_row, class_shown, class_param_row, action_param_row}
 use Rattle.sml_layout.specs.FileDomain.{IsDomainOf}
-use Rattle.sml_layout.proofs.Numbered.{all_from}
+use Rattle.sml_layout.proofs.Numbered.{all_from, contains_map}
 use Rattle.sml_layout.proofs.Apart.{only, contains_unmap}
 use Rattle.sml_layout.proofs.PlacedFiles.{object_number}
 use Rattle.sml_layout.proofs.ObjectRows.{one_name}
@@ -75,6 +75,22 @@ module _ (file : List ItemData) (d : Domain) (is : IsDomainOf file d) (ok : IsSo
   formula_fits (neither f) each = formula_fits f each
   formula_fits (test t) each = (asked_fits t.scope t.name (ok.tests_are_declared c a t (each (tests t) (contains_here (tests t) []))), states_fit t.states)
 
+  -- ---- waits
+
+  -- what holds of whatever is waited for, where it holds of each of these tests
+  waited_one : (P : Asked → Type 0) (ws : List WaitedData) → AreHere (map waited_site ws)
+      → ((t : TestData) → HasSite file c a (tests t) → P (asked n t.scope t.name)) → (y : Asked) → Contains (map (waited_asked n) ws) y → P y
+  waited_one P ws each holds y y_at =
+      let w = contains_unmap (waited_asked n) ws y y_at in
+      subst P w.2 (holds (waited_test w.0) (each (waited_site w.0) (contains_map waited_site ws w.0 w.1)))
+
+  each_waited : (P : Asked → Type 0) (ws : List WaitedData) → AreHere (map waited_site ws)
+      → ((t : TestData) → HasSite file c a (tests t) → P (asked n t.scope t.name)) → All P (map (waited_asked n) ws)
+  each_waited P ws each holds = all_from P (map (waited_asked n) ws) (waited_one P ws each holds)
+
+  waits_fit : (ws : List WaitedData) → AreHere (map waited_site ws) → All (AskedFits d) (map (waited_asked n) ws)
+  waits_fit ws each = each_waited (AskedFits d) ws each (λ t site. asked_fits t.scope t.name (ok.tests_are_declared c a t site))
+
   -- ---- requests
 
   no_targets : (s : SendData) → HasSite file c a (asks s) → place n.actions s.action ≡ None → (all : Bool) → s.all ≡ all → Declares file all s.target →
@@ -116,6 +132,7 @@ module _ (file : List ItemData) (d : Domain) (is : IsDomainOf file d) (ok : IsSo
     instr_fits (assign y v) each rest fits = (set_fits y v (each (sets y v) (contains_here (sets y v) [])), fits)
     instr_fits (move_to s) each rest fits = end_is file d is ok c at x e s (ok.ends_are_states c a s (each (ends s) (contains_here (ends s) [])))
     instr_fits (terminate s) each rest fits = end_is file d is ok c at x e s (ok.ends_are_states c a s (each (ends s) (contains_here (ends s) [])))
+    instr_fits (wait_for ws) each rest fits = (waits_fit ws each, fits)
 
     pub block_fits : (b : BlockData) → AreHere (block_sites b) → ProgramFits d x given (program n c a b)
     block_fits done each = tt
@@ -125,7 +142,7 @@ module _ (file : List ItemData) (d : Domain) (is : IsDomainOf file d) (ok : IsSo
   pub program_fits : ProgramFits d x given (program n c a a.body)
   program_fits = block_fits a.body (λ s s_at. record { class_in = at; action_in = has.action_in; site_in = s_at })
 
-  -- ---- an object of the class, which no condition asks
+  -- ---- an object of the class, which no condition and no `wait` asks
 
   module _ (o : ObjectData) (o_at : Contains file (object o)) (named : c.name ≡ o.class) where
     abbrev itself : ℕ
@@ -161,6 +178,10 @@ module _ (file : List ItemData) (d : Domain) (is : IsDomainOf file d) (ok : IsSo
     formula_spares (neither f) each = formula_spares f each
     formula_spares (test t) each = let site = each (tests t) (contains_here (tests t) []) in test_spares t site t.scope refl (ok.tests_are_declared c a t site)
 
+    waits_spare : (ws : List WaitedData) → AreHere (map waited_site ws) → All (AskedSpares (members_at d) itself) (map (waited_asked n) ws)
+    waits_spare ws each =
+        each_waited (AskedSpares (members_at d) itself) ws each (λ t site. test_spares t site t.scope refl (ok.tests_are_declared c a t site))
+
     request_spares : (s : SendData) (k : Option ℕ) (rest : Program) → Spares rest → Spares (request n c a s k rest)
     request_spares s None rest spares = spares
     request_spares s (Some k) rest spares = spares
@@ -174,11 +195,12 @@ module _ (file : List ItemData) (d : Domain) (is : IsDomainOf file d) (ok : IsSo
       instr_spares (assign y v) each rest spares = spares
       instr_spares (move_to s) each rest spares = tt
       instr_spares (terminate s) each rest spares = tt
+      instr_spares (wait_for ws) each rest spares = (waits_spare ws each, spares)
 
       block_spares : (b : BlockData) → AreHere (block_sites b) → Spares (program n c a b)
       block_spares done each = tt
       block_spares (step i rest) each = instr_spares i (left (instr_sites i) (block_sites rest) each) (program n c a rest) (block_spares rest (right (instr_sites i) (block_sites rest) each))
 
-    -- no condition of the program of an action asks it
+    -- no condition and no `wait` of the program of an action asks it
     pub program_spares : Spares (program n c a a.body)
     program_spares = block_spares a.body (λ s s_at. record { class_in = at; action_in = has.action_in; site_in = s_at })

@@ -1,10 +1,10 @@
 -- The canonical text of instructions.
 use Rattle.std.specs.Prelude.{ℕ, Bool, true, false, List, [], ◌++◌, codes}
-use Rattle.sml_tree.specs.Syntax.{ArgData, SendData, InstrData, BlockData, send, choose, assign, move_to, terminate, done, step}
-use Rattle.sml_print.specs.Words.{indent, deeper, bracket_list, passed_text, arg_text}
+use Rattle.sml_tree.specs.Syntax.{ArgData, SendData, WaitedData, InstrData, BlockData, send, choose, assign, move_to, terminate, wait_for, done, step}
+use Rattle.sml_print.specs.Words.{indent, deeper, listed, bracket_list, passed_text, arg_text}
 use Rattle.sml_print.specs.Conditions.{cond_text}
 
--- whether a `do` is to all of a set
+-- whether a `do` is to all of a set, or a `wait` for all of it
 abbrev pub every_text : Bool → List ℕ
 every_text false = []
 every_text true = codes "all_in "
@@ -21,6 +21,14 @@ assign_text param value = codes "set " ++ (param ++ (codes " = " ++ (arg_text va
 abbrev pub towards_text : List ℕ → List ℕ → List ℕ
 towards_text word state = word ++ (state ++ codes "\n")
 
+-- what a `wait` waits for
+abbrev pub waited_text : WaitedData → List ℕ
+waited_text w = every_text w.all ++ w.name
+
+-- a `wait`
+abbrev pub wait_text : List WaitedData → List ℕ
+wait_text waited = codes "wait ( " ++ (listed waited_text waited ++ codes " )\n")
+
 -- the second block of an `if`, which is left out where it is empty
 abbrev pub else_text : ℕ → BlockData → List ℕ → List ℕ
 else_text level done text = []
@@ -36,6 +44,7 @@ abbrev mutual
   instr_text level (assign param value) = indent level ++ assign_text param value
   instr_text level (move_to state) = indent level ++ towards_text (codes "move_to ") state
   instr_text level (terminate state) = indent level ++ towards_text (codes "terminate_action /state=") state
+  instr_text level (wait_for waited) = indent level ++ wait_text waited
 
   -- instructions, so many levels in
   pub block_text : ℕ → BlockData → List ℕ

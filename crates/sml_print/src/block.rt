@@ -1,14 +1,14 @@
 //! The text of instructions.
 ghost use Rattle.std.specs.Prelude.{◌≡◌, map};
 ghost use Rattle.sml_text.specs.Written.{Told, StaysDue};
-ghost use Rattle.sml_tree.specs.Content.{passed_content, arg_content, cond_content, instr_content, block_content};
-ghost use Rattle.sml_print.specs.Words.{deeper as deeper'};
+ghost use Rattle.sml_tree.specs.Content.{passed_content, arg_content, waited_content, cond_content, instr_content, block_content};
+ghost use Rattle.sml_print.specs.Words.{deeper as deeper', listed};
 ghost use Rattle.sml_print.specs.Blocks as text;
 
 use crate::condition::tell_cond;
-use crate::word::{tell_arg, tell_args, tell_indent, tell_name};
+use crate::word::{tell_arg, tell_args, tell_comma, tell_indent, tell_name};
 use sml_text::writing::{Sink, tell};
-use sml_tree::block::{Block, Instr};
+use sml_tree::block::{Block, Instr, Waited};
 use sml_tree::literal::{Arg, Passed};
 use sml_tree::name::Name;
 use std::alloc::Allocator;
@@ -41,7 +41,7 @@ fn tell_send<S: Sink, A: Allocator + Clone>(
     tell(sink, failed, b"\n");
 }
 
-// Whether a `do` is to all of a set.
+// Whether a `do` is to all of a set, or a `wait` for all of it.
 fn tell_every<S: Sink>(sink: &mut S, failed: &mut bool, all: bool)
     ensures told { Told (S.contents sink.old) failed.old (S.contents sink.new) failed.new (text.every_text all) }
     ensures due { StaysDue (S.has_refused sink.old) failed.old (S.has_refused sink.new) failed.new }
@@ -78,6 +78,44 @@ fn tell_towards<S: Sink>(sink: &mut S, failed: &mut bool, word: &[u8], state: &N
     tell(sink, failed, b"\n");
 }
 
+// What a `wait` waits for.
+fn tell_waited<S: Sink>(sink: &mut S, failed: &mut bool, waited: &Waited)
+    ensures told { Told (S.contents sink.old) failed.old (S.contents sink.new) failed.new (text.waited_text (waited_content waited.now)) }
+    ensures due { StaysDue (S.has_refused sink.old) failed.old (S.has_refused sink.new) failed.new }
+{
+    tell_every(sink, failed, waited.all);
+    tell_name(sink, failed, &waited.name);
+}
+
+// All that a `wait` waits for, with commas between them.
+fn tell_waited_list<S: Sink, A: Allocator + Clone>(
+    sink: &mut S,
+    failed: &mut bool,
+    waited: &Vec<Waited, A>,
+)
+    ensures told { Told (S.contents sink.old) failed.old (S.contents sink.new) failed.new (listed text.waited_text (map waited_content waited.now.items)) }
+    ensures due { StaysDue (S.has_refused sink.old) failed.old (S.has_refused sink.new) failed.new }
+{
+    for (i, one) in waited.iter().enumerate() {
+        tell_comma(sink, failed, i);
+        tell_waited(sink, failed, one);
+    }
+}
+
+// A `wait`.
+fn tell_wait<S: Sink, A: Allocator + Clone>(
+    sink: &mut S,
+    failed: &mut bool,
+    waited: &Vec<Waited, A>,
+)
+    ensures told { Told (S.contents sink.old) failed.old (S.contents sink.new) failed.new (text.wait_text (map waited_content waited.now.items)) }
+    ensures due { StaysDue (S.has_refused sink.old) failed.old (S.has_refused sink.new) failed.new }
+{
+    tell(sink, failed, b"wait ( ");
+    tell_waited_list(sink, failed, waited);
+    tell(sink, failed, b" )\n");
+}
+
 // An instruction, so many levels in.
 #[cycle(blocks)]
 fn tell_instr<S: Sink, A: Allocator + Clone>(
@@ -111,6 +149,7 @@ fn tell_instr<S: Sink, A: Allocator + Clone>(
         Instr::Terminate(state) => {
             tell_towards(sink, failed, b"terminate_action /state=", state)
         }
+        Instr::Wait(waited) => tell_wait(sink, failed, waited),
     }
 }
 

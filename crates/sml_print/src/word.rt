@@ -22,7 +22,7 @@ pub(crate) fn tell_indent<S: Sink>(sink: &mut S, failed: &mut bool, level: u32)
 }
 
 // A comma, before each text of a list but the first.
-fn tell_comma<S: Sink>(sink: &mut S, failed: &mut bool, before: usize)
+pub(crate) fn tell_comma<S: Sink>(sink: &mut S, failed: &mut bool, before: usize)
     ensures told { Told (S.contents sink.old) failed.old (S.contents sink.new) failed.new (text.comma_behind before) }
     ensures due { StaysDue (S.has_refused sink.old) failed.old (S.has_refused sink.new) failed.new }
 {

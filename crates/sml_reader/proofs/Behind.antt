@@ -3,7 +3,7 @@ use Rattle.std.proofs.Common.{◌≡◌, ◌≤◌, ◌+◌, ℕ, Some, None, tr
 use Rattle.sml_tree.specs.declared.token_kind.TokenKind.{TokenKind}
 use Rattle.sml_tree.specs.declared.token_kind.TokenKind.TheVariants.{Comma}
 use Rattle.sml_tree.specs.Piece.{Piece}
-use Rattle.sml_tree.specs.Syntax.{ClassParamData, ActionParamData, PassedData}
+use Rattle.sml_tree.specs.Syntax.{ClassParamData, ActionParamData, PassedData, WaitedData}
 use Rattle.sml_tree.specs.Grammar.{Rule, rules, empty}
 use Rattle.sml_tree.specs.Form as of
 use Rattle.sml_tree.specs.Form.{B, P, Bone, Part, Value, Fine, needs}
@@ -46,6 +46,10 @@ pub passed_more : (n : ℕ) (x : PassedData) (old mid new : List Piece) → IsTa
     → Leads (of.MorePassedArg n) (of.MorePassedArg (n + 1)) (λ v. x ∷ v) old new
 passed_more n x old mid new taken passes g more k = rw (taken.1, taken.2) (passes g _ _)
 
+pub waited_more : (n : ℕ) (x : WaitedData) (old mid new : List Piece) → IsTaken Comma old mid → Passes (of.Waited n) x mid new
+    → Leads (of.MoreWaited n) (of.MoreWaited (n + 1)) (λ v. x ∷ v) old new
+waited_more n x old mid new taken passes g more k = rw (taken.1, taken.2) (passes g _ _)
+
 pub member_more : (n : ℕ) (w : List ℕ) (old mid new : List Piece) → IsTaken Comma old mid → nat_lt n MAX_MEMBERS ≡ true → ReadsLimited MAX_MEMBERS n mid new (Ok w)
     → Leads (of.MoreMember n) (of.MoreMember (n + 1)) (λ v. w ∷ v) old new
 member_more n w old mid new taken room named g more k = rw (taken.1, named.1, taken.2, named.3, room) (rw named.2 refl)
@@ -66,6 +70,10 @@ action_param_refused n old mid (stop.Fault f) taken a = λ g more k. rw (taken.1
 pub passed_refused : (n : ℕ) (old mid : List Piece) (e : Stop) → IsTaken Comma old mid → Stops (of.Passed n) mid e → Stops (of.MorePassedArg n) old e
 passed_refused n old mid stop.Memory taken a = tt
 passed_refused n old mid (stop.Fault f) taken a = λ g more k. rw (taken.1, taken.2) (a g _ _)
+
+pub waited_refused : (n : ℕ) (old mid : List Piece) (e : Stop) → IsTaken Comma old mid → Stops (of.Waited n) mid e → Stops (of.MoreWaited n) old e
+waited_refused n old mid stop.Memory taken a = tt
+waited_refused n old mid (stop.Fault f) taken a = λ g more k. rw (taken.1, taken.2) (a g _ _)
 
 pub member_refused : (n : ℕ) (old mid new : List Piece) (e : Stop) → IsTaken Comma old mid → ReadsLimited MAX_MEMBERS n mid new (Err e) → Stops (of.MoreMember n) old e
 member_refused n old mid new stop.Memory taken a = tt

@@ -15,3 +15,4 @@ pub mod Sorts
 pub mod Steps
 pub mod Stopped
 pub mod Trails
+pub mod Waiting

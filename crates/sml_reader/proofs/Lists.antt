@@ -13,7 +13,7 @@ use Rattle.sml_reader.specs.Lists.{LeadsTo}
 use Rattle.sml_reader.proofs.Codes.{same_code}
 
 -- functions that agree are one
-agree : {X : Type 0} {Y : Type 0} (f g : X → Y) → ((x : X) → f x ≡ g x) → f ≡ g
+pub agree : {X : Type 0} {Y : Type 0} (f g : X → Y) → ((x : X) → f x ≡ g x) → f ≡ g
 agree f g e = λ i x. e x i
 
 -- one thing read behind others

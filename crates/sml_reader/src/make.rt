@@ -1,11 +1,11 @@
 //! Lists, instructions and conditions from their parts.
 ghost use Rattle.std.specs.Prelude.{◌≡◌, ◌+◌, [], ◌∷◌, ◌++◌, map, vec_len};
 ghost use Rattle.sml_tree.specs.Syntax as said;
-ghost use Rattle.sml_tree.specs.Content.{literal_content, arg_content, passed_content, cond_content, instr_content};
+ghost use Rattle.sml_tree.specs.Content.{literal_content, arg_content, passed_content, waited_content, cond_content, instr_content};
 ghost use Rattle.sml_reader.specs.Made.{OrMemory, MadeOf, OfRead, found_of};
 
 use crate::fault::Stop;
-use sml_tree::block::{Block, Instr};
+use sml_tree::block::{Block, Instr, Waited};
 use sml_tree::cond::{Cond, Scope};
 use sml_tree::literal::{Arg, Literal, Passed};
 use sml_tree::name::Name;
@@ -118,6 +118,13 @@ pub fn terminate<A: Allocator + Clone>(state: Name) -> Instr<A>
     ensures { instr_content result ≡ said.terminate state }
 {
     Instr::Terminate(state)
+}
+
+/// A `wait`.
+pub fn wait<A: Allocator + Clone>(waited: Vec<Waited, A>) -> Instr<A>
+    ensures { instr_content result ≡ said.wait_for (map waited_content waited.items) }
+{
+    Instr::Wait(waited)
 }
 
 /// Two conditions that stand in memory.

@@ -1,17 +1,17 @@
 //! Instructions that hold no condition, and their arguments.
 ghost use Rattle.std.specs.Prelude.{◌≤◌, ◌<◌, [], ◌∷◌, map, Ok, IfOk};
-ghost use Rattle.sml_tree.specs.Form.{Literal as Literal', Arg as Arg', Every, Passed as Passed', ArgList, Block as Block'};
-ghost use Rattle.sml_tree.specs.Content.{literal_content, arg_content, passed_content, instr_content};
+ghost use Rattle.sml_tree.specs.Form.{Literal as Literal', Arg as Arg', Every, Passed as Passed', ArgList, Waited as Waited', Block as Block'};
+ghost use Rattle.sml_tree.specs.Content.{literal_content, arg_content, passed_content, waited_content, instr_content};
 ghost use Rattle.sml_tree.specs.declared.token_kind.TokenKind.TheVariants as kinds;
 ghost use Rattle.sml_reader.specs.Reads.{Reads, ReadsNext, ReadsFront, SeesKind};
 ghost use Rattle.sml_reader.specs.Stands.{Lacks};
-ghost use Rattle.sml_tree.specs.declared.limits.TheConstants.{MAX_ARGUMENTS};
+ghost use Rattle.sml_tree.specs.declared.limits.TheConstants.{MAX_ARGUMENTS, MAX_WAITED};
 
-use crate::fault::Stop;
+use crate::fault::{Fault, Stop};
 use crate::make;
 use crate::reader::Reader;
-use sml_tree::block::Instr;
-use sml_tree::limits::MAX_ARGUMENTS;
+use sml_tree::block::{Instr, Waited};
+use sml_tree::limits::{MAX_ARGUMENTS, MAX_WAITED};
 use sml_tree::literal::{Arg, Literal, Passed};
 use sml_tree::token_kind::TokenKind;
 use std::alloc::Allocator;
@@ -123,6 +123,44 @@ impl Reader<'_> {
         Ok(make::terminate(state))
     }
 
+    /// What a `wait` names, which has so many before it: an object, or a set behind `all_in`.
+    fn waited(&mut self, before: usize) -> Result<Waited, Stop>
+        requires { before ≤ MAX_WAITED }
+        ensures read { Reads (Waited' before) waited_content self.old self.new result }
+        ensures room { IfOk result (λ w. before < MAX_WAITED) }
+    {
+        if self.stands(TokenKind::Name) {
+            let name = self.limited(before, MAX_WAITED)?;
+            return Ok(Waited { all: false, name });
+        }
+        if !self.stands(TokenKind::AllIn) {
+            return Err(self.refusal());
+        }
+        let held = self.take();
+        if before >= MAX_WAITED {
+            return Err(Stop::Fault(Fault::TooMany(held.at())));
+        }
+        let name = self.named()?;
+        Ok(Waited { all: true, name })
+    }
+
+    /// A `wait`, whose word stands in front.
+    fn waiting<A: Allocator + Clone>(&mut self, alloc: &A, depth: u32) -> Result<Instr<A>, Stop>
+        requires { SeesKind kinds.Wait self.old }
+        ensures { ReadsFront (Block' depth) (Block' depth) (λ i v. instr_content i ∷ v) self.old self.new result }
+    {
+        self.take();
+        self.sign(TokenKind::OpenBracket)?;
+        let first = self.waited(0)?;
+        let mut waited = make::one(alloc, first)?;
+        'more: while self.skip(TokenKind::Comma) {
+            let next = self.waited(waited.len());
+            waited = make::longer(waited, next)?;
+        }
+        let waited = self.closed(TokenKind::CloseBracket, waited)?;
+        Ok(make::wait(waited))
+    }
+
     /// The next instruction of a block, where one stands there that is no `if`.
     pub fn plain<A: Allocator + Clone>(
         &mut self,
@@ -137,6 +175,7 @@ impl Reader<'_> {
             Some(TokenKind::Set) => make::found(self.assignment(alloc, depth)),
             Some(TokenKind::MoveTo) => make::found(self.movement(depth)),
             Some(TokenKind::TerminateAction) => make::found(self.termination(depth)),
+            Some(TokenKind::Wait) => make::found(self.waiting(alloc, depth)),
             _ => Ok(None),
         }
     }

@@ -1,22 +1,22 @@
 -- Instructions are written as the table reads them.
-use Rattle.std.proofs.Common.{◌≡◌, ◌≤◌, ℕ, zero, suc, ◌+◌, Bool, true, false, List, [], ◌∷◌, ◌++◌, refl, ap, ◌∙◌, codes, append_assoc, inl, inr}
+use Rattle.std.proofs.Common.{◌≡◌, ◌≤◌, ℕ, zero, suc, ◌+◌, Bool, true, false, List, [], ◌∷◌, ◌++◌, refl, ap, ◌∙◌, codes, append_assoc, inl, inr, flat_map, arith}
 use Rattle.std.specs.List.{AllByRecursion}
 use Rattle.sml_text.specs.declared.source.Sign.TheVariants as sign
 use Rattle.sml_tree.specs.declared.token_kind.TokenKind.TheVariants as kind
-use Rattle.sml_tree.specs.Syntax.{ArgData, SendData, CondData, InstrData, BlockData, send, choose, assign, move_to, terminate, done as no_more, step}
+use Rattle.sml_tree.specs.Syntax.{ArgData, SendData, WaitedData, CondData, InstrData, BlockData, send, choose, assign, move_to, terminate, wait_for, done as no_more, step}
 use Rattle.sml_tree.specs.Content.{block_of}
 use Rattle.sml_tree.specs.Form as of
 use Rattle.sml_tree.specs.Form.{Bone, Form, gives, Part, Value, Two}
 use Rattle.sml_tree.specs.Brackets.{open_depth}
 use Rattle.sml_tree.specs.Inside.{block_conditions}
 use Rattle.sml_tree.proofs.Marks.{all_front, all_back}
-use Rattle.sml_print.specs.Words.{indent, deeper, bracket_list, passed_text, arg_text}
+use Rattle.sml_print.specs.Words.{indent, deeper, comma_text, bracket_list, passed_text, arg_text}
 use Rattle.sml_print.specs.Conditions.{cond_text}
-use Rattle.sml_print.specs.Blocks.{every_text, send_text, assign_text, towards_text, else_text, instr_text, block_text}
-use Rattle.sml_round_trip.specs.Writable.{IsName, IsArg, IsWritableCond, IsWritableSend, IsWritableBlock}
+use Rattle.sml_print.specs.Blocks.{every_text, send_text, assign_text, towards_text, waited_text, wait_text, else_text, instr_text, block_text}
+use Rattle.sml_round_trip.specs.Writable.{IsName, IsArg, IsWaited, IsWritableCond, IsWritableSend, IsWritableBlock}
 use Rattle.sml_round_trip.proofs.Says.{Anywhere, Say, Wrote, say_end, say_blank, say_part, say_last, say_grouped, wrote_by, wrote_none, say_spelled}
 use Rattle.sml_round_trip.proofs.Words.{say_word, say_name, say_sign}
-use Rattle.sml_round_trip.proofs.Values.{arg_wrote, args_wrote, bracket_edge}
+use Rattle.sml_round_trip.proofs.Values.{arg_wrote, args_wrote, bracket_edge, comma_more, waited_wrote, more_waited}
 use Rattle.sml_round_trip.proofs.Conditions.{cond_wrote}
 use Rattle.sml_tree.specs.declared.limits.TheConstants.{MAX_OPEN}
 
@@ -94,6 +94,21 @@ terminate_wrote d level state text is h b =
     (say_sign sign.Equals tt (λ at. refl)
     (say_spelled _ (state ++ (codes "\n" ++ text)) (simp append_assoc) (say_name state h (λ more e. refl) (λ at. refl) (say_blank refl refl (say_last b refl)))))))))))
 
+wait_wrote : (d level : ℕ) (w : WaitedData) (ws : List WaitedData) (text : List ℕ) (is : List InstrData) → IsWaited w → AllByRecursion IsWaited ws → BlockWrote d text is
+    → BlockWrote d (instr_text level (wait_for (w ∷ ws)) ++ text) (wait_for (w ∷ ws) ∷ is)
+wait_wrote d level w ws text is h k b =
+    wrote_by _ (inr (inr (inr (inr (inr (inl refl))))))
+    (say_grouped (indent level) (wait_text (w ∷ ws)) text
+    (indented level
+    (say_word (codes "wait") kind.Wait refl refl tt (λ rest e. refl) (λ at. refl)
+    (say_blank refl refl
+    (say_sign sign.OpenBracket refl (λ at. refl)
+    (say_blank refl refl
+    (say_spelled _ (waited_text w ++ (flat_map (comma_text waited_text) ws ++ (codes " )\n" ++ text))) (simp append_assoc)
+    (say_part (waited_wrote 0 w h) (λ more e. comma_more waited_text ws _ more refl)
+    (say_part (more_waited 1 ws k) (λ more e. refl)
+    (say_blank refl refl (say_sign sign.CloseBracket tt (λ at. refl) (say_blank refl refl (say_last b refl)))))))))))))
+
 else_wrote : (d level : ℕ) (b : BlockData) (text : List ℕ) → BlockWrote d text (instrs_of b) → Wrote false Anywhere (of.Else d) (else_text level b text) (instrs_of b)
 else_wrote d level no_more text h = wrote_none refl
 else_wrote d level (step i b) text h = wrote_by _ (inl refl) (indented level (say_word (codes "else") kind.Else refl refl tt (λ rest e. refl) (λ at. refl) (say_blank refl refl (say_last h refl))))
@@ -152,3 +167,5 @@ block_wrote d level (step (choose c first second) b) h few =
 block_wrote d level (step (assign name value) b) h few = assign_wrote d level name value _ _ (h.0).0 (h.0).1 (block_wrote d level b h.1 few)
 block_wrote d level (step (move_to state) b) h few = move_wrote d level state _ _ h.0 (block_wrote d level b h.1 few)
 block_wrote d level (step (terminate state) b) h few = terminate_wrote d level state _ _ h.0 (block_wrote d level b h.1 few)
+block_wrote d level (step (wait_for []) b) h few = let some = (h.0).0 in absurd (omega (arith, some))
+block_wrote d level (step (wait_for (w ∷ ws)) b) h few = let named = (h.0).1 in wait_wrote d level w ws _ _ named.0 named.1 (block_wrote d level b h.1 few)

@@ -10,7 +10,7 @@ use Rattle.sml_tree.specs.Grammar.{unit_rules, conj_rules, kind_rules, class_par
 use Rattle.sml_tree.specs.Piece.{Piece}
 use Rattle.sml_tree.specs.Derive.{fine, IsFile}
 use Rattle.sml_tree.proofs.Marks.{◌⨾◌}
-use Rattle.sml_round_trip.specs.Writable.{IsName, IsLiteral, IsArg, IsPassed, AreNamed, IsWritableCond, IsWritableInstr, IsWritableBlock, IsClassParam, IsActionParam, IsWritableAction, IsWritableState, IsWritable}
+use Rattle.sml_round_trip.specs.Writable.{IsName, IsLiteral, IsArg, IsPassed, IsWaited, AreNamed, IsWritableCond, IsWritableInstr, IsWritableBlock, IsClassParam, IsActionParam, IsWritableAction, IsWritableState, IsWritable}
 use Rattle.sml_round_trip.proofs.Real.{IsReal, name_real, int_real, bytes_real}
 use Rattle.sml_round_trip.proofs.Held.{Holding, EachHolds, free_holding, begun_holding, AllReal, part_held}
 
@@ -30,6 +30,8 @@ Writable (of.Block depth) v = IsWritableBlock (block_of v)
 Writable of.ArgList v = AllByRecursion IsPassed v
 Writable (of.Passed n) v = IsPassed v
 Writable (of.MorePassedArg n) v = AllByRecursion IsPassed v
+Writable (of.Waited n) v = IsWaited v
+Writable (of.MoreWaited n) v = AllByRecursion IsWaited v
 Writable of.Arg v = IsArg v
 Writable (of.Branch depth) v = IsWritableInstr v
 Writable (of.Arm depth) v = IsWritableBlock (block_of v.yes_part) × IsWritableBlock (block_of v.no_part)
@@ -94,11 +96,14 @@ all_writable (of.Block d) = (
       ⨾ (λ _ _ _ t e r _ _ _ value x block y. ((name_real t e r, x), y))
       ⨾ (λ _ _ _ t e r block y. (name_real t e r, y))
       ⨾ (λ _ _ _ _ _ _ _ _ _ _ _ _ t e r block y. (name_real t e r, y))
+      ⨾ (λ _ _ _ _ _ _ first x others y _ _ _ block z. ((omega arith, (x, y)), z))
       ⨾ tt,
 )
 all_writable of.ArgList = (tt, (λ _ _ _ first x others y _ _ _. (x, y), tt))
 all_writable (of.Passed n) = (tt, (λ t e r _ _ _ value x. (name_real t e r, x), tt))
 all_writable (of.MorePassedArg n) = (tt, (λ _ _ _ first x others y. (x, y), tt))
+all_writable (of.Waited n) = (tt, (λ t e r. name_real t e r, (λ _ _ _ t e r. name_real t e r, tt)))
+all_writable (of.MoreWaited n) = (tt, (λ _ _ _ first x others y. (x, y), tt))
 all_writable of.Arg = (tt, (λ t e r. int_real t e r) ⨾ (λ t e r. bytes_real t e r) ⨾ (λ t e r. name_real t e r) ⨾ tt)
 all_writable (of.Branch d) = (tt, (λ _ _ _ c x _ _ _ arms y. (x, y.0, y.1), tt))
 all_writable (of.Arm d) = (tt, (λ _ _ _ first x second y _ _ _. (x, y), tt))

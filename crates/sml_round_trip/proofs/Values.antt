@@ -1,18 +1,19 @@
 -- Values, parameters and lists are written as the table reads them.
-use Rattle.std.proofs.Common.{ℕ, ◌+◌, false, List, [], ◌∷◌, ◌++◌, refl, codes, Option, Some, None, IfSome, inl, inr, flat_map, arith}
+use Rattle.std.proofs.Common.{ℕ, ◌+◌, Bool, false, true, List, [], ◌∷◌, ◌++◌, refl, codes, Option, Some, None, IfSome, inl, inr, flat_map, arith}
 use Rattle.std.specs.List.{AllByRecursion}
 use Rattle.sml_text.specs.declared.source.Sign.TheVariants as sign
 use Rattle.sml_text.specs.Decimal.{int_text}
 use Rattle.sml_tree.specs.declared.token_kind.TokenKind.TheVariants as kind
 use Rattle.sml_tree.specs.declared.file.Kind.{Kind}
 use Rattle.sml_tree.specs.declared.file.Kind.TheVariants as sort
-use Rattle.sml_tree.specs.Syntax.{LiteralData, int, str, ArgData, lit, param, PassedData, ClassParamData, ActionParamData}
+use Rattle.sml_tree.specs.Syntax.{LiteralData, int, str, ArgData, lit, param, PassedData, WaitedData, ClassParamData, ActionParamData}
 use Rattle.sml_tree.specs.Form as of
 use Rattle.sml_tree.specs.Form.{Part, Value}
 use Rattle.sml_print.specs.Words.{literal_text, arg_text, passed_text, default_text, class_param_text, action_param_text, comma_text, listed, bracket_list, name_text}
 use Rattle.sml_print.specs.Items.{params_text}
+use Rattle.sml_print.specs.Blocks.{waited_text}
 use Rattle.sml_print.specs.Conditions.{states_text}
-use Rattle.sml_round_trip.specs.Writable.{IsName, IsLiteral, IsArg, IsPassed, AreNamed, IsClassParam, IsActionParam}
+use Rattle.sml_round_trip.specs.Writable.{IsName, IsLiteral, IsArg, IsPassed, IsWaited, AreNamed, IsClassParam, IsActionParam}
 use Rattle.sml_round_trip.proofs.Says.{Edge, Anywhere, Wrote, say_end, say_blank, say_part, say_last, say_grouped, wrote_by, wrote_none, say_alone}
 use Rattle.sml_round_trip.proofs.Words.{say_word, say_name, say_sign, say_string, say_int}
 
@@ -142,6 +143,24 @@ args_wrote (p ∷ ps) h =
     (say_part (passed_wrote 0 p h.0) (λ more e. comma_more passed_text ps _ more refl)
     (say_part (more_passed 1 ps h.1) (λ more e. refl)
     (say_sign sign.CloseBracket tt (λ at. refl) say_end))))))
+
+-- ---- what a `wait` names
+pub waited_wrote : (n : ℕ) (w : WaitedData) → IsWaited w → Wrote false Edge (of.Waited n) (waited_text w) w
+waited_wrote n w h = go w.all
+  where
+    go : (all : Bool) → Wrote false Edge (of.Waited n) (waited_text (record w { all = all })) (record w { all = all })
+    go false = wrote_by _ (inl refl) (say_alone w.name (say_name w.name h (λ more e. e) (λ at. refl) say_end))
+    go true =
+        wrote_by _ (inr (inl refl))
+        (say_word (codes "all_in") kind.AllIn refl refl tt (λ more e. refl) (λ at. refl)
+        (say_blank refl refl (say_alone w.name (say_name w.name h (λ more e. e) (λ at. refl) say_end))))
+
+pub more_waited : (n : ℕ) (ws : List WaitedData) → AllByRecursion IsWaited ws → Wrote false Edge (of.MoreWaited n) (flat_map (comma_text waited_text) ws) ws
+more_waited n [] h = wrote_none refl
+more_waited n (w ∷ ws) h =
+    wrote_by _ (inl refl)
+    (say_sign sign.Comma tt (λ at. refl)
+    (say_blank refl refl (say_part (waited_wrote n w h.0) (λ more e. comma_edge waited_text ws more e) (say_last (more_waited (n + 1) ws h.1) refl))))
 
 -- ---- names
 more_names : (n : ℕ) (names : List (List ℕ)) → AllByRecursion IsName names → Wrote false Edge (of.MoreName n) (flat_map (comma_text name_text) names) names

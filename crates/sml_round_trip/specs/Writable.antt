@@ -5,7 +5,7 @@ use Rattle.sml_text.specs.Bytes.{is_word, is_string_byte, folded}
 use Rattle.sml_text.specs.Tokens.{IsLong, Each}
 use Rattle.sml_tree.specs.declared.token_kind.TokenKind.TheVariants.{Name}
 use Rattle.sml_tree.specs.Piece.{word_kind}
-use Rattle.sml_tree.specs.Syntax.{LiteralData, int, str, ArgData, lit, param, PassedData, TestData, CondData, both, either, neither, test, SendData, InstrData, BlockData, send, choose, assign, move_to, terminate, done, step, ClassParamData, ActionParamData, ActionData, StateData, ClassData, ItemData, class, object, group}
+use Rattle.sml_tree.specs.Syntax.{LiteralData, int, str, ArgData, lit, param, PassedData, WaitedData, TestData, CondData, both, either, neither, test, SendData, InstrData, BlockData, send, choose, assign, move_to, terminate, wait_for, done, step, ClassParamData, ActionParamData, ActionData, StateData, ClassData, ItemData, class, object, group}
 use Rattle.sml_text.specs.declared.limits.TheConstants.{LONGEST_STRING}
 
 -- a word in upper case that is not reserved
@@ -47,6 +47,14 @@ IsWritableCond (test t) = IsWritableTest t
 abbrev pub IsWritableSend : SendData → Type 0
 IsWritableSend s = IsName s.action × AllByRecursion IsPassed s.args × IsName s.target
 
+-- what a `wait` names
+abbrev pub IsWaited : WaitedData → Type 0
+IsWaited w = IsName w.name
+
+-- a `wait`, for something
+abbrev pub IsWritableWait : List WaitedData → Type 0
+IsWritableWait waited = (0 < length waited) × AllByRecursion IsWaited waited
+
 abbrev mutual
   -- an instruction
   pub IsWritableInstr : InstrData → Type 0
@@ -55,6 +63,7 @@ abbrev mutual
   IsWritableInstr (assign name value) = IsName name × IsArg value
   IsWritableInstr (move_to state) = IsName state
   IsWritableInstr (terminate state) = IsName state
+  IsWritableInstr (wait_for waited) = IsWritableWait waited
 
   -- a block, by its instructions
   pub IsWritableBlock : BlockData → Type 0

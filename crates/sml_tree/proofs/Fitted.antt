@@ -9,16 +9,16 @@ use Rattle.sml_tree.specs.Form.{B, P, part, Part, family, Value, Mark, Fine, Dee
 use Rattle.sml_tree.specs.Grammar.{unit_rules, conj_rules, kind_rules, class_param, action_param}
 use Rattle.sml_tree.specs.Derive.{IsFile, fine}
 use Rattle.sml_tree.specs.declared.token_kind.TokenKind.TheVariants.{Name, Equals}
-use Rattle.sml_tree.specs.Inside.{tests, instr_conditions, block_conditions, instr_sends, block_sends}
-use Rattle.sml_tree.specs.Limits.{TestFits, CondFits, SendFits, ActionFits, StateFits, ItemFits, is_class, is_object, is_set, IsWithinLimits}
+use Rattle.sml_tree.specs.Inside.{tests, instr_conditions, block_conditions, instr_sends, block_sends, instr_waits, block_waits}
+use Rattle.sml_tree.specs.Limits.{TestFits, CondFits, SendFits, WaitFits, ActionFits, StateFits, ItemFits, is_class, is_object, is_set, IsWithinLimits}
 use Rattle.sml_tree.proofs.Kept.{Keeping, EachKeeps, free_keeping, begun_keeping, part_kept}
 use Rattle.sml_tree.proofs.Marks.{◌⨾◌, IsFine, all_append, fine_marks, below_deep, below_many}
 use Rattle.sml_tree.proofs.Tallied.{Tallied, part_tallied}
-use Rattle.sml_tree.specs.declared.limits.TheConstants.{MAX_ACTIONS, MAX_ARGUMENTS, MAX_CLASSES, MAX_IFS, MAX_MEMBERS, MAX_NAMES, MAX_OBJECTS, MAX_PARAMETERS, MAX_SETS, MAX_STATES, MAX_TESTS}
+use Rattle.sml_tree.specs.declared.limits.TheConstants.{MAX_ACTIONS, MAX_ARGUMENTS, MAX_CLASSES, MAX_IFS, MAX_MEMBERS, MAX_NAMES, MAX_OBJECTS, MAX_PARAMETERS, MAX_SETS, MAX_STATES, MAX_TESTS, MAX_WAITED}
 
 -- a block in which `if`s may nest so deep
 abbrev pub Nests : ℕ → BlockData → Type 0
-Nests k b = (block_depth b ≤ k) × AllByRecursion SendFits (block_sends b) × AllByRecursion CondFits (block_conditions b)
+Nests k b = (block_depth b ≤ k) × AllByRecursion SendFits (block_sends b) × AllByRecursion CondFits (block_conditions b) × AllByRecursion WaitFits (block_waits b)
 
 -- a condition with what was counted before it
 abbrev pub CountFits : Counted → Type 0
@@ -41,7 +41,9 @@ Fits (of.Block depth) v = Nests (MAX_IFS - depth) (block_of v)
 Fits of.ArgList v = length v ≤ MAX_ARGUMENTS
 Fits (of.Passed n) v = n + 1 ≤ MAX_ARGUMENTS
 Fits (of.MorePassedArg n) v = length v ≤ MAX_ARGUMENTS - n
-Fits (of.Branch depth) v = (instr_depth v ≤ (MAX_IFS - (depth + 1)) + 1) × AllByRecursion SendFits (instr_sends v) × AllByRecursion CondFits (instr_conditions v)
+Fits (of.Waited n) v = n + 1 ≤ MAX_WAITED
+Fits (of.MoreWaited n) v = length v ≤ MAX_WAITED - n
+Fits (of.Branch depth) v = (instr_depth v ≤ (MAX_IFS - (depth + 1)) + 1) × AllByRecursion SendFits (instr_sends v) × AllByRecursion CondFits (instr_conditions v) × AllByRecursion WaitFits (instr_waits v)
 Fits (of.Arm depth) v = Nests (MAX_IFS - (depth + 1)) (block_of v.yes_part) × Nests (MAX_IFS - (depth + 1)) (block_of v.no_part)
 Fits (of.Else depth) v = Nests (MAX_IFS - depth) (block_of v)
 Fits (of.Cond depth n) v = CountFits v
@@ -103,17 +105,20 @@ fitted of.ActionParamList = (omega arith, (λ _ _ _ first _ x others _ y _ _ _. 
 fitted (of.ActionParam n) = (tt, begun_keeping Tallied IsFine Fitted (of.Sort n) (of.ActionParam n) (B Name ∷ P of.Defaults ∷ []) action_param (kind_rules n) (fitted_sort n) (λ w x _ _ _ l _ _. x))
 fitted (of.MoreActionParam n) = (omega arith, (λ _ _ _ first _ x others _ y. omega (arith, x, y), tt))
 fitted (of.Block d) = (
-  (omega arith, tt, tt),
-  (λ _ _ _ _ _ _ args _ x every _ _ _ _ _ block _ y. let f = y.0 in (omega (arith, f), (x, y.1), y.2))
-      ⨾ (λ _ _ m branch _ x block _ y. let few = below_deep MAX_IFS d m in let f = x.0 in let g = y.0 in (omega (arith, few, f, g), all_append SendFits (instr_sends branch) (block_sends (block_of block)) x.1 y.1, all_append CondFits (instr_conditions branch) (block_conditions (block_of block)) x.2 y.2))
-      ⨾ (λ _ _ _ _ _ _ _ _ _ value _ _ block _ y. let f = y.0 in (omega (arith, f), y.1, y.2))
-      ⨾ (λ _ _ _ _ _ _ block _ y. let f = y.0 in (omega (arith, f), y.1, y.2))
-      ⨾ (λ _ _ _ _ _ _ _ _ _ _ _ _ _ _ _ block _ y. let f = y.0 in (omega (arith, f), y.1, y.2))
+  (omega arith, tt, tt, tt),
+  (λ _ _ _ _ _ _ args _ x every _ _ _ _ _ block _ y. let f = y.0 in (omega (arith, f), (x, y.1), y.2, y.3))
+      ⨾ (λ _ _ m branch _ x block _ y. let few = below_deep MAX_IFS d m in let f = x.0 in let g = y.0 in (omega (arith, few, f, g), all_append SendFits (instr_sends branch) (block_sends (block_of block)) x.1 y.1, all_append CondFits (instr_conditions branch) (block_conditions (block_of block)) x.2 y.2, all_append WaitFits (instr_waits branch) (block_waits (block_of block)) x.3 y.3))
+      ⨾ (λ _ _ _ _ _ _ _ _ _ value _ _ block _ y. let f = y.0 in (omega (arith, f), y.1, y.2, y.3))
+      ⨾ (λ _ _ _ _ _ _ block _ y. let f = y.0 in (omega (arith, f), y.1, y.2, y.3))
+      ⨾ (λ _ _ _ _ _ _ _ _ _ _ _ _ _ _ _ block _ y. let f = y.0 in (omega (arith, f), y.1, y.2, y.3))
+      ⨾ (λ _ _ _ _ _ _ first _ p others _ q _ _ _ block _ y. let f = y.0 in (omega (arith, f), y.1, y.2, (omega (arith, q), y.3)))
       ⨾ tt,
 )
 fitted of.ArgList = (omega arith, (λ _ _ _ first _ x others _ y _ _ _. omega (arith, x, y), tt))
 fitted (of.Passed n) = (tt, (λ _ _ m _ _ _ value _ _. below_many MAX_ARGUMENTS n m, tt))
 fitted (of.MorePassedArg n) = (omega arith, (λ _ _ _ first _ x others _ y. omega (arith, x, y), tt))
+fitted (of.Waited n) = (tt, (λ _ _ m. below_many MAX_WAITED n m, (λ _ _ m _ _ _. below_many MAX_WAITED n m, tt)))
+fitted (of.MoreWaited n) = (omega arith, (λ _ _ _ first _ x others _ y. omega (arith, x, y), tt))
 fitted (of.Branch d) = (
   tt,
   (
@@ -121,12 +126,13 @@ fitted (of.Branch d) = (
       omega (arith, first, second),
       all_append SendFits (block_sends (block_of arms.yes_part)) (block_sends (block_of arms.no_part)) (y.0).1 (y.1).1,
       ((omega (arith, k, f), x.1), all_append CondFits (block_conditions (block_of arms.yes_part)) (block_conditions (block_of arms.no_part)) (y.0).2 (y.1).2),
+      all_append WaitFits (block_waits (block_of arms.yes_part)) (block_waits (block_of arms.no_part)) (y.0).3 (y.1).3,
     ),
     tt,
   ),
 )
 fitted (of.Arm d) = (tt, (λ _ _ _ first _ x second _ y _ _ _. (x, y), tt))
-fitted (of.Else d) = ((omega arith, tt, tt), (λ _ _ _ block _ x. x, tt))
+fitted (of.Else d) = ((omega arith, tt, tt, tt), (λ _ _ _ block _ x. x, tt))
 fitted (of.Cond d n) = (
   tt,
   begun_keeping Tallied IsFine Fitted (of.Conj d n) (of.Cond d n) (P of.MoreOrs ∷ []) (λ u. part (of.MoreOr d u.count u.formula)) (conj_rules d n) (fitted_conj d n)

@@ -2,20 +2,20 @@
 use Rattle.std.proofs.Common.{◌≡◌, ℕ, ◌+◌, ◌≤◌, List, [], ◌∷◌, ◌++◌, refl, ap, ◌∙◌, subst, length, inl, inr, arith}
 use Rattle.std.specs.List.{AllByRecursion}
 use Rattle.sml_tree.specs.declared.token_kind.TokenKind.TheVariants.{Name, Equals}
-use Rattle.sml_tree.specs.Syntax.{CondData, SendData}
+use Rattle.sml_tree.specs.Syntax.{CondData, SendData, WaitedData}
 use Rattle.sml_tree.specs.Content.{block_of}
 use Rattle.sml_tree.specs.Form as of
 use Rattle.sml_tree.specs.Form.{B, P, part, Part, family, Value, Mark, Fine, Deep, Many, Counted}
 use Rattle.sml_tree.specs.Grammar.{rules, unit_rules, conj_rules, kind_rules, class_param, action_param}
 use Rattle.sml_tree.specs.Derive.{fine, Derives}
-use Rattle.sml_tree.specs.Inside.{tests, instr_conditions, block_conditions, instr_sends, block_sends}
-use Rattle.sml_tree.specs.Limits.{TestFits, CondFits, SendFits}
+use Rattle.sml_tree.specs.Inside.{tests, instr_conditions, block_conditions, instr_sends, block_sends, instr_waits, block_waits}
+use Rattle.sml_tree.specs.Limits.{TestFits, CondFits, SendFits, WaitFits}
 use Rattle.sml_tree.specs.Laws.{WithinLimits}
 use Rattle.sml_tree.proofs.Marks.{◌⨾◌, all_front, all_back, not_reached, not_deep, unmarked, plain_fine, fine_not_deep}
 use Rattle.sml_tree.proofs.Tallied.{Tallied, part_tallied}
 use Rattle.sml_tree.proofs.Fitted.{Fits, CountFits, file_fits}
 use Rattle.sml_tree.proofs.Owed.{EachOwes, begun_owes, part_paid}
-use Rattle.sml_tree.specs.declared.limits.TheConstants.{MAX_ACTIONS, MAX_ARGUMENTS, MAX_CLASSES, MAX_IFS, MAX_MEMBERS, MAX_NAMES, MAX_OBJECTS, MAX_OPEN, MAX_PARAMETERS, MAX_SETS, MAX_STATES, MAX_TESTS}
+use Rattle.sml_tree.specs.declared.limits.TheConstants.{MAX_ACTIONS, MAX_ARGUMENTS, MAX_CLASSES, MAX_IFS, MAX_MEMBERS, MAX_NAMES, MAX_OBJECTS, MAX_OPEN, MAX_PARAMETERS, MAX_SETS, MAX_STATES, MAX_TESTS, MAX_WAITED}
 
 owing_sort : (n : ℕ) → EachOwes Tallied Fits (of.Sort n) (kind_rules n)
 owing_sort n = (λ _ _ _ x. (tt, not_reached MAX_PARAMETERS n Many x), (λ _ _ _ x. (tt, not_reached MAX_PARAMETERS n Many x), tt))
@@ -47,13 +47,15 @@ owing_conj d n =
     (λ w before h v a x. (h (front_fits w v a x), x))
 
 -- what stands in the first of two blocks fits where what stands in both does, and what stands in the second
-first_of_two : {k l : ℕ} (ss us : List SendData) (cs ds : List CondData) → k ≤ l → AllByRecursion SendFits (ss ++ us) → AllByRecursion CondFits (cs ++ ds)
-    → (k ≤ l) × AllByRecursion SendFits ss × AllByRecursion CondFits cs
-first_of_two ss us cs ds nests x y = (nests, all_front SendFits ss us x, all_front CondFits cs ds y)
+first_of_two : {k l : ℕ} (ss us : List SendData) (cs ds : List CondData) (vs ws : List (List WaitedData)) → k ≤ l
+    → AllByRecursion SendFits (ss ++ us) → AllByRecursion CondFits (cs ++ ds) → AllByRecursion WaitFits (vs ++ ws)
+    → (k ≤ l) × AllByRecursion SendFits ss × AllByRecursion CondFits cs × AllByRecursion WaitFits vs
+first_of_two ss us cs ds vs ws nests x y z = (nests, all_front SendFits ss us x, all_front CondFits cs ds y, all_front WaitFits vs ws z)
 
-second_of_two : {k l : ℕ} (ss us : List SendData) (cs ds : List CondData) → k ≤ l → AllByRecursion SendFits (ss ++ us) → AllByRecursion CondFits (cs ++ ds)
-    → (k ≤ l) × AllByRecursion SendFits us × AllByRecursion CondFits ds
-second_of_two ss us cs ds nests x y = (nests, all_back SendFits ss us x, all_back CondFits cs ds y)
+second_of_two : {k l : ℕ} (ss us : List SendData) (cs ds : List CondData) (vs ws : List (List WaitedData)) → k ≤ l
+    → AllByRecursion SendFits (ss ++ us) → AllByRecursion CondFits (cs ++ ds) → AllByRecursion WaitFits (vs ++ ws)
+    → (k ≤ l) × AllByRecursion SendFits us × AllByRecursion CondFits ds × AllByRecursion WaitFits ws
+second_of_two ss us cs ds vs ws nests x y z = (nests, all_back SendFits ss us x, all_back CondFits cs ds y, all_back WaitFits vs ws z)
 
 owing : (n : Part) → EachOwes Tallied Fits n (rules n)
 owing (of.File classes objects sets) =
@@ -84,26 +86,30 @@ owing (of.ActionParam n) = begun_owes Tallied Fits (of.Sort n) (of.ActionParam n
 owing (of.MoreActionParam n) = (λ _ _ _ first _ others _ x. (((tt, refl), omega (arith, x)), omega (arith, x)), tt)
 owing of.Default = (λ _ _ _ l _ x. ((tt, refl), tt), tt)
 owing (of.Block d) =
-    (λ _ _ _ _ _ _ args _ every _ _ _ _ block _ x. let f = x.0 in ((((((tt, refl), refl), (x.1).0), tt), refl), (omega (arith, f), (x.1).1, x.2)))
+    (λ _ _ _ _ _ _ args _ every _ _ _ _ block _ x. let f = x.0 in ((((((tt, refl), refl), (x.1).0), tt), refl), (omega (arith, f), (x.1).1, x.2, x.3)))
     ⨾ (λ _ _ _ branch k block _ x. let f = x.0 in (
-      ((tt, not_reached MAX_IFS d Deep (omega (arith, f, k))), first_of_two (instr_sends branch) (block_sends (block_of block)) (instr_conditions branch) (block_conditions (block_of block)) (omega (arith, f)) x.1 x.2),
-      second_of_two (instr_sends branch) (block_sends (block_of block)) (instr_conditions branch) (block_conditions (block_of block)) (omega (arith, f)) x.1 x.2,
+      ((tt, not_reached MAX_IFS d Deep (omega (arith, f, k))), first_of_two (instr_sends branch) (block_sends (block_of block)) (instr_conditions branch) (block_conditions (block_of block)) (instr_waits branch) (block_waits (block_of block)) (omega (arith, f)) x.1 x.2 x.3),
+      second_of_two (instr_sends branch) (block_sends (block_of block)) (instr_conditions branch) (block_conditions (block_of block)) (instr_waits branch) (block_waits (block_of block)) (omega (arith, f)) x.1 x.2 x.3,
     ))
-    ⨾ (λ _ _ _ _ _ _ _ _ _ value _ block _ x. let f = x.0 in (((((tt, refl), refl), refl), tt), (omega (arith, f), x.1, x.2)))
-    ⨾ (λ _ _ _ _ _ _ block _ x. let f = x.0 in (((tt, refl), refl), (omega (arith, f), x.1, x.2)))
-    ⨾ (λ _ _ _ _ _ _ _ _ _ _ _ _ _ _ _ block _ x. let f = x.0 in ((((((tt, refl), refl), refl), refl), refl), (omega (arith, f), x.1, x.2)))
+    ⨾ (λ _ _ _ _ _ _ _ _ _ value _ block _ x. let f = x.0 in (((((tt, refl), refl), refl), tt), (omega (arith, f), x.1, x.2, x.3)))
+    ⨾ (λ _ _ _ _ _ _ block _ x. let f = x.0 in (((tt, refl), refl), (omega (arith, f), x.1, x.2, x.3)))
+    ⨾ (λ _ _ _ _ _ _ _ _ _ _ _ _ _ _ _ block _ x. let f = x.0 in ((((((tt, refl), refl), refl), refl), refl), (omega (arith, f), x.1, x.2, x.3)))
+    ⨾ (λ _ _ _ _ _ _ first _ others _ _ _ _ block _ x. let f = x.0 in let few = (x.3).0 in
+    ((((((tt, refl), refl), omega arith), omega (arith, few)), refl), (omega (arith, f), x.1, x.2, (x.3).1)))
     ⨾ tt
 owing of.ArgList = (λ _ _ _ first _ others _ _ _ _ x. ((((tt, refl), omega arith), omega (arith, x)), refl), tt)
 owing (of.Passed n) = (λ _ _ _ _ _ _ value _ x. (((tt, not_reached MAX_ARGUMENTS n Many x), refl), tt), tt)
 owing (of.MorePassedArg n) = (λ _ _ _ first _ others _ x. (((tt, refl), omega (arith, x)), omega (arith, x)), tt)
+owing (of.Waited n) = (λ _ _ _ x. (tt, not_reached MAX_WAITED n Many x), (λ _ _ _ _ _ _ x. ((tt, not_reached MAX_WAITED n Many x), refl), tt))
+owing (of.MoreWaited n) = (λ _ _ _ first _ others _ x. (((tt, refl), omega (arith, x)), omega (arith, x)), tt)
 owing of.Every = (λ _ _ _ x. (tt, refl), tt)
 owing of.Arg = (λ _ _ _ x. (tt, refl), (λ _ _ _ x. (tt, refl), (λ _ _ _ x. (tt, refl), tt)))
 owing (of.Branch d) = (
   λ _ _ _ c k _ _ _ arms _ x. let f = x.0 in let g = ((x.2).0).0 in (
     (((tt, refl), (omega (arith, k, g), ((x.2).0).1)), refl),
     (
-      first_of_two (block_sends (block_of arms.yes_part)) (block_sends (block_of arms.no_part)) (block_conditions (block_of arms.yes_part)) (block_conditions (block_of arms.no_part)) (omega (arith, f)) x.1 (x.2).1,
-      second_of_two (block_sends (block_of arms.yes_part)) (block_sends (block_of arms.no_part)) (block_conditions (block_of arms.yes_part)) (block_conditions (block_of arms.no_part)) (omega (arith, f)) x.1 (x.2).1,
+      first_of_two (block_sends (block_of arms.yes_part)) (block_sends (block_of arms.no_part)) (block_conditions (block_of arms.yes_part)) (block_conditions (block_of arms.no_part)) (block_waits (block_of arms.yes_part)) (block_waits (block_of arms.no_part)) (omega (arith, f)) x.1 (x.2).1 x.3,
+      second_of_two (block_sends (block_of arms.yes_part)) (block_sends (block_of arms.no_part)) (block_conditions (block_of arms.yes_part)) (block_conditions (block_of arms.no_part)) (block_waits (block_of arms.yes_part)) (block_waits (block_of arms.no_part)) (omega (arith, f)) x.1 (x.2).1 x.3,
     ),
   ),
   tt,

@@ -1,12 +1,13 @@
 -- What a tree in memory says.
 use Rattle.std.specs.Prelude.{List, [], ◌∷◌, map, option_map}
-use Rattle.sml_tree.specs.Syntax.{LiteralData, int, str, ArgData, lit, param, PassedData, CondData, both, either, neither, test, InstrData, BlockData, send, choose, assign, move_to, terminate, done, step, ClassParamData, ActionParamData, ActionData, StateData, ClassData, ObjectData, GroupData, ItemData, class, object, group}
+use Rattle.sml_tree.specs.Syntax.{LiteralData, int, str, ArgData, lit, param, PassedData, WaitedData, CondData, both, either, neither, test, InstrData, BlockData, send, choose, assign, move_to, terminate, wait_for, done, step, ClassParamData, ActionParamData, ActionData, StateData, ClassData, ObjectData, GroupData, ItemData, class, object, group}
 use Rattle.sml_tree.specs.declared.literal.Literal.{Literal}
 use Rattle.sml_tree.specs.declared.literal.Literal.TheVariants.{Int, Str}
 use Rattle.sml_tree.specs.declared.literal.Arg.{Arg}
 use Rattle.sml_tree.specs.declared.literal.Arg.TheVariants.{Lit, Param}
 use Rattle.sml_tree.specs.declared.literal.Passed.{Passed}
 use Rattle.sml_tree.specs.declared.cond.Cond.{Cond, And', Or', Not', Test}
+use Rattle.sml_tree.specs.declared.block.Waited.{Waited}
 use Rattle.sml_tree.specs.declared.block.Instr.{Instr, fold-Instr}
 use Rattle.sml_tree.specs.declared.block.Block.{Block, Block-F}
 use Rattle.sml_tree.specs.declared.block.Instr.TheOpen.{Instr-F}
@@ -31,6 +32,9 @@ arg_content (Param name) = param name
 abbrev pub passed_content : {A : Type 0} → Passed A → PassedData
 passed_content p = record { name = p.name; value = arg_content p.value }
 
+abbrev pub waited_content : Waited → WaitedData
+waited_content w = record { all = w.all; name = w.name }
+
 abbrev pub cond_content : {A : Type 0} → Cond A → CondData
 cond_content (And' p l q r) = both (cond_content l) (cond_content r)
 cond_content (Or' p l q r) = either (cond_content l) (cond_content r)
@@ -48,6 +52,7 @@ instr_step (Instr-F.If c first second) = choose (cond_content c) first second
 instr_step (Instr-F.Set name value) = assign name (arg_content value)
 instr_step (Instr-F.MoveTo state) = move_to state
 instr_step (Instr-F.Terminate state) = terminate state
+instr_step (Instr-F.Wait waited) = wait_for (map waited_content waited.items)
 
 abbrev pub block_step : {A : Type 0} → Block-F A InstrData BlockData → BlockData
 block_step b = block_of b.instrs.items

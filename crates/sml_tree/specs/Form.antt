@@ -3,7 +3,7 @@ use Rattle.std.specs.Prelude.{ℕ, Bool, List, [], ◌∷◌, ◌++◌, Option}
 use Rattle.sml_tree.specs.declared.token_kind.TokenKind.{TokenKind}
 use Rattle.sml_tree.specs.declared.file.Kind.{Kind}
 use Rattle.sml_tree.specs.Piece.{Piece}
-use Rattle.sml_tree.specs.Syntax.{LiteralData, ArgData, PassedData, CondData, InstrData, ClassParamData, ActionParamData, ActionData, StateData, ItemData}
+use Rattle.sml_tree.specs.Syntax.{LiteralData, ArgData, PassedData, WaitedData, CondData, InstrData, ClassParamData, ActionParamData, ActionData, StateData, ItemData}
 
 -- Whether a limit stands against a token where it stands: Deep at an `if`, `not` or bracket inside
 -- sixteen others, Many at the first token of an item too many.
@@ -35,6 +35,8 @@ pub data Family : Type 0 where
   ArgLists : Family
   PassedArgs : Family
   MorePassed : Family
+  Waiteds : Family
+  MoreWaiteds : Family
   Everys : Family
   Args : Family
   Branches : Family
@@ -92,6 +94,8 @@ pub data Part : Type 0 where
   ArgList : Part
   Passed : ℕ → Part
   MorePassedArg : ℕ → Part
+  Waited : ℕ → Part
+  MoreWaited : ℕ → Part
   Every : Part
   Arg : Part
   Branch : (depth : ℕ) → Part
@@ -132,6 +136,8 @@ family (Block depth) = Blocks
 family ArgList = ArgLists
 family (Passed n) = PassedArgs
 family (MorePassedArg n) = MorePassed
+family (Waited n) = Waiteds
+family (MoreWaited n) = MoreWaiteds
 family Every = Everys
 family Arg = Args
 family (Branch depth) = Branches
@@ -172,6 +178,8 @@ Worth Blocks = List InstrData
 Worth ArgLists = List PassedData
 Worth PassedArgs = PassedData
 Worth MorePassed = List PassedData
+Worth Waiteds = WaitedData
+Worth MoreWaiteds = List WaitedData
 Worth Everys = Bool
 Worth Args = ArgData
 Worth Branches = InstrData

@@ -2,17 +2,17 @@
 -- `[x]` is x or nothing, `x*` any number of x, `x+,` one or more x with commas between them.
 use Rattle.std.specs.Prelude.{ℕ, ◌+◌, List, [], ◌∷◌, ◌++◌, Option, Some, None, nat_lt, true, false, map, if◌then◌else◌}
 use Rattle.sml_tree.specs.declared.token_kind.TokenKind.{TokenKind}
-use Rattle.sml_tree.specs.declared.token_kind.TokenKind.TheVariants.{Class, Object, ObjectSet, IsOfClass, State, Action, Parameters, IntKind, StringKind, Do, If, Then, Else, Endif, Set, MoveTo, TerminateAction, InState, NotInState, AllIn, AnyIn, And, Or, Not, Associated, InitialState, DeadState, Colon, Comma, Equals, OpenBracket, CloseBracket, OpenBrace, CloseBrace, Slash, Name, Int, Str}
+use Rattle.sml_tree.specs.declared.token_kind.TokenKind.TheVariants.{Class, Object, ObjectSet, IsOfClass, State, Action, Parameters, IntKind, StringKind, Do, If, Then, Else, Endif, Set, MoveTo, TerminateAction, Wait, InState, NotInState, AllIn, AnyIn, And, Or, Not, Associated, InitialState, DeadState, Colon, Comma, Equals, OpenBracket, CloseBracket, OpenBrace, CloseBrace, Slash, Name, Int, Str}
 use Rattle.sml_tree.specs.declared.file.Kind.{Kind}
 use Rattle.sml_tree.specs.declared.file.Kind.TheVariants as sort
 use Rattle.sml_tree.specs.declared.cond.Scope.{Scope}
 use Rattle.sml_tree.specs.declared.cond.Scope.TheVariants as scope
-use Rattle.sml_tree.specs.Syntax.{int, str, lit, param, both, either, neither, test, send, choose, assign, move_to, terminate, class, object, group}
+use Rattle.sml_tree.specs.Syntax.{int, str, lit, param, both, either, neither, test, send, choose, assign, move_to, terminate, wait_for, class, object, group}
 use Rattle.sml_tree.specs.Content.{block_of}
 use Rattle.sml_tree.specs.Piece.{Piece, word_of, int_of, bytes_of}
 use Rattle.sml_tree.specs.Form as of
 use Rattle.sml_tree.specs.Form.{Bone, B, P, Form, gives, ◌>>=◌, ◌>>◌, word, limited, part, Mark, Fine, Deep, Many, Part, family, Value, Counted}
-use Rattle.sml_tree.specs.declared.limits.TheConstants.{MAX_CLASSES, MAX_OBJECTS, MAX_SETS, MAX_STATES, MAX_ACTIONS, MAX_PARAMETERS, MAX_ARGUMENTS, MAX_MEMBERS, MAX_NAMES, MAX_TESTS, MAX_IFS, MAX_OPEN}
+use Rattle.sml_tree.specs.declared.limits.TheConstants.{MAX_CLASSES, MAX_OBJECTS, MAX_SETS, MAX_STATES, MAX_ACTIONS, MAX_PARAMETERS, MAX_ARGUMENTS, MAX_MEMBERS, MAX_NAMES, MAX_WAITED, MAX_TESTS, MAX_IFS, MAX_OPEN}
 
 -- a limit, and the count of what stands before
 abbrev pub most : ℕ → ℕ → Mark → Mark
@@ -119,6 +119,7 @@ empty of.Default = Some None
 empty (of.Block depth) = Some []
 empty of.ArgList = Some []
 empty (of.MorePassedArg n) = Some []
+empty (of.MoreWaited n) = Some []
 empty of.Every = Some false
 empty (of.Else depth) = Some []
 empty (of.MoreAnd depth tests left) = Some (record { formula = left; count = tests })
@@ -253,6 +254,7 @@ rules of.Default =
 --       | SET name = arg
 --       | MOVE_TO name
 --       | TERMINATE_ACTION / STATE = name
+--       | WAIT ( waited+, )
 rules (of.Block depth) =
     way Do Fine (λ _. do
       action ← word Name
@@ -282,6 +284,26 @@ rules (of.Block depth) =
       state ← word Name
       block ← part (of.Block depth)
       gives (terminate (name state) ∷ block))
+    ∷ way Wait Fine (λ _. do
+      word OpenBracket
+      first ← part (of.Waited 0)
+      others ← part (of.MoreWaited 1)
+      word CloseBracket
+      block ← part (of.Block depth)
+      gives (wait_for (first ∷ others) ∷ block))
+    ∷ []
+-- waited = name | ALL_IN name
+rules (of.Waited n) =
+    way Name (most MAX_WAITED n Many) (λ t. gives (record { all = false; name = name t }))
+    ∷ way AllIn (most MAX_WAITED n Many) (λ _. do
+      t ← word Name
+      gives (record { all = true; name = name t }))
+    ∷ []
+rules (of.MoreWaited n) =
+    way Comma Fine (λ _. do
+      first ← part (of.Waited n)
+      others ← part (of.MoreWaited (n + 1))
+      gives (first ∷ others))
     ∷ []
 -- [ ( passed+, ) ]
 rules of.ArgList =

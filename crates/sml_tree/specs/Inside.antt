@@ -1,7 +1,7 @@
 -- What stands in a block, in a condition and in a file.
 use Rattle.std.specs.Prelude.{List, [], ◌∷◌, ◌++◌}
 use Rattle.std.specs.List.{flat_map}
-use Rattle.sml_tree.specs.Syntax.{TestData, CondData, both, either, neither, test, SendData, InstrData, BlockData, send, choose, assign, move_to, terminate, done, step, ActionData, StateData, ItemData, class, object, group}
+use Rattle.sml_tree.specs.Syntax.{TestData, CondData, both, either, neither, test, SendData, WaitedData, InstrData, BlockData, send, choose, assign, move_to, terminate, wait_for, done, step, ActionData, StateData, ItemData, class, object, group}
 
 -- the tests of a condition
 abbrev pub tests : CondData → List TestData
@@ -18,6 +18,7 @@ abbrev mutual
   instr_conditions (assign name value) = []
   instr_conditions (move_to state) = []
   instr_conditions (terminate state) = []
+  instr_conditions (wait_for waited) = []
 
   pub block_conditions : BlockData → List CondData
   block_conditions done = []
@@ -31,10 +32,25 @@ abbrev mutual
   instr_sends (assign name value) = []
   instr_sends (move_to state) = []
   instr_sends (terminate state) = []
+  instr_sends (wait_for waited) = []
 
   pub block_sends : BlockData → List SendData
   block_sends done = []
   block_sends (step instr rest) = instr_sends instr ++ block_sends rest
+
+abbrev mutual
+  -- what its `wait`s wait for
+  pub instr_waits : InstrData → List (List WaitedData)
+  instr_waits (send s) = []
+  instr_waits (choose c first second) = block_waits first ++ block_waits second
+  instr_waits (assign name value) = []
+  instr_waits (move_to state) = []
+  instr_waits (terminate state) = []
+  instr_waits (wait_for waited) = waited ∷ []
+
+  pub block_waits : BlockData → List (List WaitedData)
+  block_waits done = []
+  block_waits (step instr rest) = instr_waits instr ++ block_waits rest
 
 -- the states of the classes
 abbrev pub item_states : ItemData → List StateData

@@ -1,9 +1,9 @@
 -- The limits of a file, said of its tree.
 use Rattle.std.specs.Prelude.{◌≤◌, Bool, true, false, List, length}
 use Rattle.std.specs.List.{AllByRecursion, filter}
-use Rattle.sml_tree.specs.Syntax.{TestData, CondData, SendData, BlockData, block_depth, ActionData, StateData, ClassData, ItemData, class, object, group}
-use Rattle.sml_tree.specs.Inside.{tests, block_conditions, block_sends}
-use Rattle.sml_tree.specs.declared.limits.TheConstants.{MAX_CLASSES, MAX_OBJECTS, MAX_SETS, MAX_STATES, MAX_ACTIONS, MAX_PARAMETERS, MAX_ARGUMENTS, MAX_MEMBERS, MAX_NAMES, MAX_TESTS, MAX_IFS}
+use Rattle.sml_tree.specs.Syntax.{TestData, CondData, SendData, WaitedData, BlockData, block_depth, ActionData, StateData, ClassData, ItemData, class, object, group}
+use Rattle.sml_tree.specs.Inside.{tests, block_conditions, block_sends, block_waits}
+use Rattle.sml_tree.specs.declared.limits.TheConstants.{MAX_CLASSES, MAX_OBJECTS, MAX_SETS, MAX_STATES, MAX_ACTIONS, MAX_PARAMETERS, MAX_ARGUMENTS, MAX_MEMBERS, MAX_NAMES, MAX_WAITED, MAX_TESTS, MAX_IFS}
 
 -- names of a list of states
 abbrev pub TestFits : TestData → Type 0
@@ -17,9 +17,13 @@ CondFits c = (length (tests c) ≤ MAX_TESTS) × AllByRecursion TestFits (tests 
 abbrev pub SendFits : SendData → Type 0
 SendFits s = length s.args ≤ MAX_ARGUMENTS
 
+-- names of a `wait`
+abbrev pub WaitFits : List WaitedData → Type 0
+WaitFits waited = length waited ≤ MAX_WAITED
+
 -- nesting of `if`
 abbrev pub BlockFits : BlockData → Type 0
-BlockFits b = (block_depth b ≤ MAX_IFS) × AllByRecursion SendFits (block_sends b) × AllByRecursion CondFits (block_conditions b)
+BlockFits b = (block_depth b ≤ MAX_IFS) × AllByRecursion SendFits (block_sends b) × AllByRecursion CondFits (block_conditions b) × AllByRecursion WaitFits (block_waits b)
 
 -- parameters of an action
 abbrev pub ActionFits : ActionData → Type 0

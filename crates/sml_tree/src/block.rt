@@ -1,13 +1,48 @@
 //! Instructions.
 ghost use Rattle.std.specs.Prelude.{◌≡◌, ◌↔◌, ◌<◌, ◌^◌, ◌-◌, min, map, IfOk, IsTrue, Ok};
-ghost use Rattle.sml_tree.specs.Content.{arg_content, passed_content, cond_content, instr_content, block_content};
-ghost use Rattle.sml_tree.specs.Syntax.{send, choose, assign, move_to, terminate, block_depth, instr_depth};
+ghost use Rattle.sml_tree.specs.Content.{arg_content, passed_content, waited_content, cond_content, instr_content, block_content};
+ghost use Rattle.sml_tree.specs.Syntax.{WaitedData, send, choose, assign, move_to, terminate, wait_for, block_depth, instr_depth};
 
 use crate::cond::Cond;
-use crate::lists::{add, copy_list, same_list};
+use crate::lists::{Part, add, copy_list, same_list};
 use crate::literal::{Arg, Passed};
 use crate::name::Name;
 use std::alloc::{AllocError, Allocator};
+
+/// What a `wait` waits for: an object, or all members of a set.
+#[derive(Clone, Copy)]
+pub struct Waited {
+    /// Whether it is a set.
+    pub all: bool,
+    pub name: Name,
+}
+
+impl Waited {
+    /// Whether the two are the same.
+    pub fn same(&self, other: &Waited) -> bool
+        ensures { IsTrue result ↔ (waited_content self.now ≡ waited_content other.now) }
+    {
+        self.all == other.all && self.name == other.name
+    }
+}
+
+impl<B: Allocator + Clone> Part<B> for Waited {
+    type Other = Waited;
+
+    ghost Said = { WaitedData };
+
+    ghost said = { waited_content };
+
+    ghost other_said = { waited_content };
+
+    fn copy_of(&self, _alloc: &B) -> Result<Waited, AllocError> {
+        Ok(*self)
+    }
+
+    fn is_same(&self, other: &Waited) -> bool {
+        self.same(other)
+    }
+}
 
 /// An instruction.
 #[cycle(block)]
@@ -30,6 +65,8 @@ pub enum Instr<A: Allocator + Clone> {
     },
     MoveTo(Name),
     Terminate(Name),
+    /// At least one, and at most `MAX_WAITED`, where a text was read.
+    Wait(Vec<Waited, A>),
 }
 
 /// Instructions, in their order.
@@ -74,6 +111,7 @@ impl<A: Allocator + Clone> Instr<A> {
             }),
             Instr::MoveTo(state) => Ok(Instr::MoveTo(*state)),
             Instr::Terminate(state) => Ok(Instr::Terminate(*state)),
+            Instr::Wait(waited) => Ok(Instr::Wait(copy_list(waited, alloc)?)),
         }
     }
 
@@ -101,6 +139,7 @@ impl<A: Allocator + Clone> Instr<A> {
             Instr::Set { param, value } => other.is_set(param, value),
             Instr::MoveTo(state) => other.is_move_to(state),
             Instr::Terminate(state) => other.is_terminate(state),
+            Instr::Wait(waited) => other.is_wait(waited),
         }
     }
 
@@ -161,6 +200,16 @@ impl<A: Allocator + Clone> Instr<A> {
         }
     }
 
+    // Whether it waits for these.
+    fn is_wait<B: Allocator + Clone>(&self, waited: &Vec<Waited, B>) -> bool
+        ensures { IsTrue result ↔ (wait_for (map waited_content waited.now.items) ≡ instr_content self.now) }
+    {
+        match self {
+            Instr::Wait(own) => same_list(waited, own),
+            _ => false,
+        }
+    }
+
     /// How deep `if`s nest here, or `u32::MAX` where that is more.
     #[cycle(depth)]
     #[tactic(auto, using(crate::proofs::Blocks::instr_equations))]
@@ -169,7 +218,11 @@ impl<A: Allocator + Clone> Instr<A> {
     {
         match self {
             Instr::If { yes, no, .. } => yes.depth().max(no.depth()).saturating_add(1),
-            Instr::Do { .. } | Instr::Set { .. } | Instr::MoveTo(_) | Instr::Terminate(_) => 0,
+            Instr::Do { .. }
+            | Instr::Set { .. }
+            | Instr::MoveTo(_)
+            | Instr::Terminate(_)
+            | Instr::Wait(_) => 0,
         }
     }
 }

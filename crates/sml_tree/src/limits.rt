@@ -27,6 +27,9 @@ pub const MAX_MEMBERS: usize = 64;
 /// Names in a list of states of a condition.
 pub const MAX_NAMES: usize = 32;
 
+/// Names in a `wait`.
+pub const MAX_WAITED: usize = 64;
+
 /// Tests of a condition.
 pub const MAX_TESTS: u32 = 64;
 

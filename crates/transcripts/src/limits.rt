@@ -8,7 +8,7 @@ use sml_read::MAX_TEXT;
 use sml_text::limits::{LONGEST_NAME, LONGEST_STRING};
 use sml_tree::limits::{
     MAX_ACTIONS, MAX_ARGUMENTS, MAX_CLASSES, MAX_IFS, MAX_MEMBERS, MAX_NAMES, MAX_OBJECTS,
-    MAX_OPEN, MAX_PARAMETERS, MAX_SETS, MAX_STATES, MAX_TESTS,
+    MAX_OPEN, MAX_PARAMETERS, MAX_SETS, MAX_STATES, MAX_TESTS, MAX_WAITED,
 };
 use std::alloc::{AllocError, Global};
 use std::str;
@@ -34,6 +34,7 @@ const OF_A_DOMAIN: &[Limit] = &[
     (MAX_MEMBERS, " members of a set"),
     (MAX_NAMES, " states of a list"),
     (MAX_TESTS as usize, " tests"),
+    (MAX_WAITED, " names of a `wait`"),
 ];
 
 // The limits of this name.

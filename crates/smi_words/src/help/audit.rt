@@ -44,15 +44,15 @@ What a rule says where it is broken; `now` means by the lines before:
   Meaning     this is not what the open action does next, or not how it ends; an action that the state
               now does not declare is skipped, and no other is
   Dead        accepted or refused full where TARGET is killed now, or refused dead where it is not
-  Clear       no object that the `if` asks is busy, so that there is nothing to wait for
-  Busy        an object that the `if` asks is busy
+  Clear       no object that the `if` or `wait` asks is busy, so that there is nothing to wait for
+  Busy        an object that the `if` or `wait` asks is busy
   Reading     a state is not the state of its object now
   NotAState   STATE is none of the class of OBJECT
 
-An object is busy for the `if` of OBJECT while an action is open at it, or while a request that OBJECT has
-sent to it has not ended; a killed one is not busy. A journal does not hold how many requests a mailbox
-has room for, so that `refused full` is not judged; a second `wait` for one `if` is legal. What `step
---journal` writes is legal. For example, with the domain of `smirun step --help`,
+An object is busy for the `if` or `wait` of OBJECT while an action is open at it, or while a request that
+OBJECT has sent to it has not ended; a killed one is not busy. A journal does not hold how many requests a
+mailbox has room for, so that `refused full` is not judged; a second line `wait OBJECT` for one `if` or
+`wait` is legal. What `step --journal` writes is legal. For example, with the domain of `smirun step --help`,
 
   smi-journal 1
   start RUN @1 0 CONFIGURE (VOLTS = 1500)

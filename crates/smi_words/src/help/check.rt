@@ -41,6 +41,10 @@ in braces, as in { ON, OFF }:
   any_in SET in_state STATES        some member of SET is in one of STATES; not_in_state as above
   not C,  C and C,  C or C,  ( C )  `not` binds closest, then `and`, then `or`
 
+A `wait` has one name or more in brackets, with commas between them:
+
+  wait ( OBJECT, all_in SET )       waits for OBJECT and for each member of SET
+
 The kinds of `read`. The first three are looked for in this order over the whole text; then the first
 place in the text is told:
 
@@ -53,7 +57,7 @@ place in the text is told:
   6 TooMany         one more than the language allows of what begins here: 64 classes, 64 objects,
                     32 sets, 32 states of a class, 32 actions of a state, 16 parameters of a list,
                     16 arguments of a `do`, 64 members of a set, 32 states of a list, 64 tests of a
-                    condition
+                    condition, 64 names of a `wait`
 
 The kinds of `check`. Of several faults the one of the lowest NO is told, and of these the first in the
 text:
@@ -64,7 +68,7 @@ text:
   3 TwoInitial      two states of a class are marked as initial
   4 TwoDead         two states of a class are marked as dead
   5 UnknownClass    an object is of no declared class
-  6 UnknownObject   a member, a target of `do` or a tested object is not declared
+  6 UnknownObject   a member, a target of `do`, or an object of a test or a `wait` is not declared
   7 UnknownSet      the name after `all_in` or `any_in` is no set
   8 UnknownState    an action ends in, or a test names, a state that is none there
   9 UnknownAction   a target of `do` does not have the action
@@ -72,7 +76,7 @@ text:
   11 KindMismatch   a value is of another kind than its parameter
   12 MissingArg     a `do` leaves a parameter without a value
   13 ParamsDiffer   an action has two lists of parameters in one class
-  14 SelfInCondition  a condition asks an object of its own class
+  14 SelfInCondition  a condition or a `wait` asks an object of its own class
   15 AssociatedBody an action of an associated class has instructions
 
 A refused file is told, and the next follows. `output fault` on standard error says that the output

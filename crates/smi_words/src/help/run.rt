@@ -40,7 +40,7 @@ left and nothing can be done any more, the run ends, and the summary is written 
   end Limit                      the same, but M requests were started, and no more may be
   end Memory                     memory was refused, and the rest was left undone
   state OBJECT STATE             the state of each object
-  stalled OBJECT                 its action is still open: an `if` waits for an object that is busy
+  stalled OBJECT                 its action is still open: an `if` or `wait` waits for an object that is busy
   accepted SENDER OBJECT COUNT   so many requests of SENDER to OBJECT were accepted
   left SENDER OBJECT COUNT       so many of these were never started
   refused @S COUNT               so many lines of session @S were refused
@@ -51,8 +51,9 @@ What to do:
 
   Limit      run it again with more `--max-starts`, or look for objects that send to one another for ever
   Memory     run it again where there is more memory, or with a smaller SCRIPT
-  stalled    the journal (`--journal`) has a `wait` of the object; look which object of that `if` is busy:
-             one that is stalled too, or whose requests are left. Two objects that wait for each other stay so
+  stalled    the journal (`--journal`) has a line `wait` of the object; look which object of that `if` or
+             `wait` is busy: one that is stalled too, or whose requests are left. Two objects that wait for
+             each other stay so
   left       the object was killed, or is stalled, or the run ended with Limit or Memory
   refused    no such object, or no such action in any state of its class; a wrong argument; the object was
              killed before the request or kill; or its mailbox was full (`--capacity`). A session does not

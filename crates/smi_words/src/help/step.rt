@@ -44,9 +44,11 @@ comment. For example:
 An object begins in the state of its class that is marked `/initial_state`, or else in the first. `set`
 gives a parameter of the class a value. `do` sends a request and goes on; `do .. all_in` sends it to each
 member of a set. An `if` waits while an action is open at one of the objects that it asks, or while what
-was sent to one of them by the object itself has not ended; then it reads all their states at once.
-`move_to` and `terminate_action /state=` end the action in a state; one that runs off its end leaves the
-state as it was. The dead state of a class is the one that is marked `/dead_state`, or else DEAD.
+was sent to one of them by the object itself has not ended; then it reads all their states at once. A
+`wait`, as in wait ( HV, all_in SUPPLIES ), does the same for the objects that it names and the members of
+its sets, and goes on whatever their states are. `move_to` and `terminate_action /state=` end the action in
+a state; one that runs off its end leaves the state as it was. The dead state of a class is the one that is
+marked `/dead_state`, or else DEAD.
 
 SCHEDULE has at most 16777216 bytes of ASCII. Each line is one step, of at most 8192 bytes, or has only
 blanks and a comment. Names may be written in capitals or not. The steps:
@@ -57,7 +59,7 @@ blanks and a comment. Names may be written in capitals or not. The steps:
   start OBJECT                              OBJECT takes the request that waits longest and begins its
                                             action
   go OBJECT                                 the action that is open at OBJECT makes its next move: one
-                                            `set`, one `do`, one `if`, or its end
+                                            `set`, one `do`, one `if`, one `wait`, or its end
   answer OBJECT STATE                       the device of OBJECT has done its action, and is in STATE
   fault OBJECT                              the device of OBJECT fails at its action: OBJECT is killed
   kill OBJECT @S                            session @S kills OBJECT: its open action is cut off, it is in
@@ -73,9 +75,10 @@ action has no parameters, else all of them in order, as in (T = 5, M = \"a\"):
   post OBJECT TARGET NUMBER ACTION ARGS         a `do` of OBJECT has sent the request to TARGET
   post OBJECT TARGET refused full ACTION ARGS   a `do` of OBJECT, but as many wait at TARGET as may
   post OBJECT TARGET refused dead ACTION ARGS   a `do` of OBJECT, but TARGET is killed
-  wait OBJECT                                   an `if` of OBJECT waits: an object that it asks is busy
+  wait OBJECT                                   an `if` or a `wait` of OBJECT waits: an object that it
+                                                asks is busy
   still OBJECT                                  it waits on
-  seen OBJECT OBJECT1=STATE1 OBJECT2=STATE2 ..  an `if` of OBJECT has read these states
+  seen OBJECT OBJECT1=STATE1 OBJECT2=STATE2 ..  an `if` or a `wait` of OBJECT has read these states
   end OBJECT STATE                              the action has ended, and OBJECT is in STATE
   end OBJECT skipped                            the state of OBJECT does not declare the action, so it
                                                 ended as it began
@@ -126,7 +129,7 @@ With `--states` these lines follow what the schedule writes:
   param OBJECT NAME=VALUE         each of its parameters
   open OBJECT ACTION              an action is open at OBJECT, and `go` is its next move
   open OBJECT ACTION waits device     the same; its device is to answer
-  open OBJECT ACTION waits OBJECT1 ..  the same; its next `if` waits for these objects
+  open OBJECT ACTION waits OBJECT1 ..  the same; its next `if` or `wait` waits for these objects
   waiting OBJECT COUNT            so many requests wait in the mailbox of OBJECT
 
 With `--explain` standard error has why, behind the line of each refused step: the place in SCHEDULE as

@@ -1,12 +1,13 @@
-use Rattle.std.proofs.Common.{ap, ◌∙◌, ◌++◌, sym, map, flat_map}
-use Rattle.sml_tree.specs.Content.{file_content, class_content, action_content, cond_content, instr_content, block_content, passed_content, arg_content}
+use Rattle.std.proofs.Common.{[], ap, ◌∙◌, ◌++◌, sym, map, flat_map}
+use Rattle.sml_tree.specs.Content.{file_content, class_content, action_content, cond_content, instr_content, block_content, passed_content, arg_content, waited_content}
 use Rattle.sml_tree.proofs.Blocks.{instr_content-If}
 use Rattle.sml_faults.specs.Lookup.{first, objects_meant}
 use Rattle.sml_faults.specs.Sites.{asks, sets, ends, cond_sites, block_sites, instr_sites}
-use Rattle.sml_faults.specs.Kinds.{site_faults, send_faults}
-use Rattle.sml_faults.proofs.Instrs.{says_Do, says_Set, ends_in}
+use Rattle.sml_faults.specs.Kinds.{site_faults, send_faults, test_faults}
+use Rattle.sml_faults.proofs.Instrs.{says_Do, says_Set, says_Wait, ends_in}
 use Rattle.sml_faults.proofs.BlockRests.{block_here, block_next, first_first, first_second, first_third, one_site}
 use Rattle.sml_faults.proofs.Rests.{rest_end_lent}
+use Rattle.sml_faults.proofs.Waits.{waited_first}
 use Rattle.sml_faults.proofs.tables.Tables.+fault.Goals as goal
 
 pub block_fault-returns-in-Some : goal.block_fault-returns-in-Some
@@ -48,6 +49,16 @@ pub instr_fault-returns-in-MoveTo : goal.instr_fault-returns-in-MoveTo
 instr_fault-returns-in-MoveTo g t c =
     let f = site_faults c.args.kind (file_content c.args.self.now.file.now) (class_content c.args.class.now) (action_content c.args.action.now) in
     c.end_fault.ensures ∙ sym (one_site f (ends c.in-MoveTo.state)) ∙ sym (ap (λ ss. first (flat_map f ss)) (ends_in c.args.instr.now c.in-MoveTo.state c.in-MoveTo.is))
+
+pub instr_fault-returns-in-Wait : goal.instr_fault-returns-in-Wait
+instr_fault-returns-in-Wait g t c =
+    let file = file_content c.args.self.now.file.now in
+    let k = class_content c.args.class.now in
+    let a = action_content c.args.action.now in
+    let f = site_faults c.args.kind file k a in
+    c.wait_fault.ensures ∙ ap (λ ws. first (flat_map (λ w. test_faults c.args.kind file k w.all w.name []) (map waited_content ws))) c.deref-in-Wait.ensures.value
+    ∙ waited_first file k a c.args.kind (map waited_content c.in-Wait.waited.items)
+    ∙ sym (ap (λ i. first (flat_map f (instr_sites (instr_content i)))) c.in-Wait.is ∙ ap (λ i. first (flat_map f (instr_sites i))) (says_Wait c.in-Wait.waited))
 
 pub instr_fault-returns-in-Some : goal.instr_fault-returns-in-Some
 instr_fault-returns-in-Some g t c =

@@ -1,14 +1,15 @@
-use Rattle.std.proofs.Common.{◌≡◌, ◌∙◌, ◌||◌, ap, sym, map, is_some}
+use Rattle.std.proofs.Common.{[], ◌≡◌, ◌∙◌, ◌||◌, ap, sym, map, is_some}
 use Rattle.std.specs.List.{list_any}
 use Rattle.std.proofs.lemmas.List.Folds.{list_any-append}
-use Rattle.sml_tree.specs.Content.{file_content, class_content, action_content, instr_content, block_of, block_content, cond_content, passed_content, arg_content}
+use Rattle.sml_tree.specs.Content.{file_content, class_content, action_content, instr_content, block_of, block_content, cond_content, passed_content, arg_content, waited_content}
 use Rattle.sml_tree.proofs.Blocks.{instr_content-If}
 use Rattle.sml_faults.specs.Sites.{cond_sites, asks, sets, ends, block_sites, instr_sites}
 use Rattle.sml_faults.specs.Lookup.{objects_meant}
-use Rattle.sml_faults.specs.InBlocks.{is_faulty_site, is_faulty_send}
-use Rattle.sml_faults.proofs.Instrs.{says_Do, says_Set, ends_in}
+use Rattle.sml_faults.specs.InBlocks.{is_faulty_site, is_faulty_send, is_faulty_test}
+use Rattle.sml_faults.proofs.Instrs.{says_Do, says_Set, says_Wait, ends_in}
 use Rattle.sml_faults.proofs.InBlocks.{any_here, any_next, one_any, any_early, any_late, first_so, second_so}
 use Rattle.sml_faults.proofs.Rests.{rest_end_lent}
+use Rattle.sml_faults.proofs.Waits.{waited_any}
 use Rattle.sml_faults.proofs.tables.Tables.+faulty.Goals as goal
 use Rattle.sml_faults.proofs.tables.Tables.+faulty.Goals.{is_faulty_instr-then-is_faulty_cond, is_faulty_instr-else-is_faulty_cond}
 
@@ -47,6 +48,15 @@ pub is_faulty_instr-returns-in-MoveTo : goal.is_faulty_instr-returns-in-MoveTo
 is_faulty_instr-returns-in-MoveTo g t c =
     let p = is_faulty_site (file_content c.args.self.now.file.now) (class_content c.args.class.now) (action_content c.args.action.now) in
     c.is_some-in-MoveTo.ensures ∙ ap is_some c.unknown_end.ensures ∙ sym (one_any p (ends c.in-MoveTo.state)) ∙ sym (ap (list_any p) (ends_in c.args.instr.now c.in-MoveTo.state c.in-MoveTo.is))
+
+pub is_faulty_instr-returns-in-Wait : goal.is_faulty_instr-returns-in-Wait
+is_faulty_instr-returns-in-Wait g t c =
+    let file = file_content c.args.self.now.file.now in
+    let k = class_content c.args.class.now in
+    let p = is_faulty_site file k (action_content c.args.action.now) in
+    c.is_faulty_wait.ensures ∙ ap (λ ws. list_any (λ w. is_faulty_test file k w.all w.name [] (objects_meant file w.all w.name)) (map waited_content ws)) c.deref-in-Wait.ensures.value
+    ∙ waited_any file k (action_content c.args.action.now) (map waited_content c.in-Wait.waited.items)
+    ∙ sym (ap (λ i. list_any p (instr_sites (instr_content i))) c.in-Wait.is ∙ ap (λ i. list_any p (instr_sites i)) (says_Wait c.in-Wait.waited))
 
 pub is_faulty_instr-returns-then-is_faulty_block : goal.is_faulty_instr-returns-then-is_faulty_block
 is_faulty_instr-returns-then-is_faulty_block g t c =

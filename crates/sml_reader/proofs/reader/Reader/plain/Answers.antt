@@ -16,3 +16,6 @@ returns-in-Some-MoveTo g c = found_front (Block c.args.depth) (Block c.args.dept
 
 pub returns-in-Some-TerminateAction : goal.returns-in-Some-TerminateAction
 returns-in-Some-TerminateAction g c = found_front (Block c.args.depth) (Block c.args.depth) (λ i v. instr_content i ∷ v) [] c.termination.result c.found-in-Some-TerminateAction.result c.args.self.now c.termination.new.self c.found-in-Some-TerminateAction.ensures c.termination.ensures
+
+pub returns-in-Some-Wait : goal.returns-in-Some-Wait
+returns-in-Some-Wait g c = found_front (Block c.args.depth) (Block c.args.depth) (λ i v. instr_content i ∷ v) [] c.waiting.result c.found-in-Some-Wait.result c.args.self.now c.waiting.new.self c.found-in-Some-Wait.ensures c.waiting.ensures

@@ -1,0 +1,5 @@
+use Rattle.sml_print.proofs.Tolds.{then_told}
+use Rattle.sml_print.proofs.block.tell_wait.Goals as goal
+
+pub returns-clause-told : goal.returns-clause-told
+returns-clause-told g c = then_told c.tell.ensures.told (then_told c.tell_waited_list.ensures.told c.tell-2.ensures.told)
