@@ -1,5 +1,6 @@
 -- Where a byte of a text stands, as people count it.
-use Rattle.std.specs.Prelude.{◌≡◌, ◌==◌, ◌⊎◌, ◌+◌, ◌≤◌, ℕ, List, length, count_by, slice_get, Some}
+use Rattle.std.specs.Prelude.{◌≡◌, ◌==◌, ◌⊎◌, ◌+◌, ◌≤◌, ◌++◌, ℕ, List, length, count_by, slice_get, Some, codes}
+use Rattle.sml_text.specs.Decimal.{decimal_text}
 use Rattle.sml_places.specs.declared.place.Place.{Place}
 
 -- a line begins here: at the front of the bytes, or behind a line feed
@@ -15,3 +16,11 @@ NoLineFeedFrom at text = (i : ℕ) → at ≤ i → slice_get text i ≡ Some 10
 abbrev pub IsPlace : List ℕ → Place → Type 0
 IsPlace before p = (p.line ≡ count_by (λ b. b == 10) before + 1)
     × ((at : ℕ) × LineBegins before at × NoLineFeedFrom at before × (at + p.column ≡ length before + 1))
+
+-- a place as it is written: its line and its column
+abbrev pub spot_text : Place → List ℕ
+spot_text p = decimal_text p.line ++ codes ":" ++ decimal_text p.column
+
+-- what an explanation begins with: the file, and the place in it
+abbrev pub place_text : List ℕ → Place → List ℕ
+place_text file p = file ++ codes ":" ++ spot_text p ++ codes ": "

@@ -1,6 +1,7 @@
 //! Lines and columns.
 ghost use Rattle.std.specs.Prelude.{◌≡◌, ◌==◌, ◌≤◌, length, take, count_by};
-ghost use Rattle.sml_places.specs.Places.{IsPlace, LineBegins, NoLineFeedFrom};
+ghost use Rattle.sml_text.specs.Written.{StaysDue, Told};
+ghost use Rattle.sml_places.specs.Places.{IsPlace, LineBegins, NoLineFeedFrom, place_text, spot_text};
 
 use memchr::memrchr;
 use sml_text::decimal::tell_u64;
@@ -46,16 +47,23 @@ fn line_begin(text: &[u8]) -> usize
     }
 }
 
-/// Writes `FILE:LINE:COLUMN: `, as compilers do and editors read it.
-pub fn tell_place<W: Sink>(writer: &mut W, failed: &mut bool, file: &str, place: Place) {
+/// Writes `FILE:LINE:COLUMN: `, as compilers do and editors read it, unless a write before it failed. The cost is that
+/// of `tell`.
+pub fn tell_place<W: Sink>(writer: &mut W, failed: &mut bool, file: &str, place: Place)
+    ensures told { Told (W.contents writer.old) failed.old (W.contents writer.new) failed.new (place_text file.now place) }
+    ensures due { StaysDue (W.has_refused writer.old) failed.old (W.has_refused writer.new) failed.new }
+{
     tell(writer, failed, file.as_bytes());
     tell(writer, failed, b":");
     tell_spot(writer, failed, place);
     tell(writer, failed, b": ");
 }
 
-/// Writes `LINE:COLUMN`.
-pub fn tell_spot<W: Sink>(writer: &mut W, failed: &mut bool, place: Place) {
+/// Writes `LINE:COLUMN`, unless a write before it failed. The cost is that of `tell`.
+pub fn tell_spot<W: Sink>(writer: &mut W, failed: &mut bool, place: Place)
+    ensures told { Told (W.contents writer.old) failed.old (W.contents writer.new) failed.new (spot_text place) }
+    ensures due { StaysDue (W.has_refused writer.old) failed.old (W.has_refused writer.new) failed.new }
+{
     tell_u64(writer, failed, place.line as u64);
     tell(writer, failed, b":");
     tell_u64(writer, failed, place.column as u64);
