@@ -12,7 +12,7 @@ use std::test::*;
 const MOST: usize = 1_000;
 
 // Whether a fault is among those that were found.
-fn has(findings: &Findings, fault: CheckError) -> bool {
+fn has(findings: &Findings<MOST>, fault: CheckError) -> bool {
     findings.kept().iter().any(|finding| finding.kind == fault.kind && finding.name == fault.name)
 }
 
@@ -30,7 +30,7 @@ fn checked(alloc: Global, text: &[u8]) -> Option<Option<CheckError>> {
 
 // Whether faults are found exactly if the checker finds one, and its fault is among them.
 fn is_found(alloc: Global, text: &[u8]) -> bool {
-    let Ok(found) = faults_of_text(alloc, text, MOST) else {
+    let Ok(found) = faults_of_text::<MOST>(alloc, text) else {
         return false;
     };
     let is_so = match (checked(alloc, text), &found) {

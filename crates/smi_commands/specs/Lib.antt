@@ -2,3 +2,5 @@ pub mod Status
 pub mod Judgement
 pub mod Ruling
 pub mod Paths
+pub mod Refused
+pub mod Performed

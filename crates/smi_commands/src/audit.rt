@@ -1,5 +1,5 @@
 //! The command `audit`: a domain and a journal go in, and what the judge says of it comes out.
-ghost use Rattle.std.specs.Prelude.{◌≡◌, ◌<◌, ◌≤◌, ◌++◌, Err, IfErr, IfOk, OnOk, codes, length};
+ghost use Rattle.std.specs.Prelude.{◌≡◌, ◌≢◌, ◌⊎◌, ◌<◌, ◌≤◌, ◌++◌, Err, IfErr, IfOk, OnOk, codes, length};
 ghost use Rattle.std.specs.Arc.{arc_value};
 ghost use Rattle.sml_text.specs.Written.{Wrote};
 ghost use Rattle.smi_audit.specs.Audit.{Judges};
@@ -93,6 +93,8 @@ pub fn judge_bytes<'a, W: Write, E: Write>(
     ensures judged { IfOk result (λ status. (judgement : Judgement) × Judges (arc_value domain.now) bytes.now judgement
         × Wrote (W.contents output.old) (W.contents output.new) (ruling_text judgement ++ codes "\n")
         × (status ≡ ruling_status judgement)) }
+    ensures err { IfErr result (λ fault. fault ≢ Fault.Output
+        → IsNotJudged (arc_value domain.now) options.now.journal.now bytes.now fault) }
     ensures range { IfOk result (λ status. status ≤ 4) }
 {
     let ruling = match judge_text(heap, domain, options.journal, bytes) {
@@ -196,7 +198,8 @@ fn judge_text<'a>(
 
 // Writes the line of a ruling to its end.
 fn tell_all<W: Write>(heap: Global, ruling: &Ruling, output: &mut W) -> Result<(), Fault<'static>>
-    ensures { OnOk result (Wrote (W.contents output.old) (W.contents output.new)
+    ensures err { IfErr result (λ fault. (fault ≡ Fault.Output) ⊎ (fault ≡ Fault.Memory)) }
+    ensures told { OnOk result (Wrote (W.contents output.old) (W.contents output.new)
         (ruling_text ruling.now.judgement ++ codes "\n")) }
 {
     if let Err(fault) = tell_ruling(heap, ruling, output) {
@@ -210,7 +213,8 @@ fn tell_all<W: Write>(heap: Global, ruling: &Ruling, output: &mut W) -> Result<(
 
 // Writes the line of a ruling.
 fn tell_ruling<W: Sink>(heap: Global, ruling: &Ruling, writer: &mut W) -> Result<(), Fault<'static>>
-    ensures { OnOk result (Wrote (W.contents writer.old) (W.contents writer.new)
+    ensures err { IfErr result (λ fault. (fault ≡ Fault.Output) ⊎ (fault ≡ Fault.Memory)) }
+    ensures told { OnOk result (Wrote (W.contents writer.old) (W.contents writer.new)
         (ruling_text ruling.now.judgement ++ codes "\n")) }
 {
     let Ok(line) = format!(in heap; "{ruling}\n") else {

@@ -1,14 +1,15 @@
 //! The command `check`: domain files go in, and one line comes out for each.
 
-ghost use Rattle.std.specs.Prelude.{◌≤◌, IfOk};
-ghost use Rattle.smi_commands.specs.Judgement.{IsTold};
+ghost use Rattle.std.specs.Prelude.{◌≤◌, ◌++◌, IfOk, OnOk, codes};
+ghost use Rattle.sml_text.specs.Written.{Wrote};
+ghost use Rattle.smi_commands.specs.Judgement.{IsTold, judgement_text};
 
 use crate::advice::Advice;
 use crate::fault::{Fault, tell_cause};
 use crate::judgement::{Judgement, judge};
 use crate::text::load_text;
 use bumpalo::Bump;
-use sml_text::writing::Sink;
+use sml_text::writing::{Sink, put};
 use std::alloc::{AllocError, Allocator, Global};
 use std::fs::Files;
 use std::io::{BufWriter, Read, Write};
@@ -59,8 +60,8 @@ fn tell_files<R: Files + AllocGlobal, I: Read, W: Write, E: Write>(
         let Ok(judgement) = judge_file(rt, &arena, file, &mut text, input, errors) else {
             return Err(Fault::Memory);
         };
-        if writeln!(writer, "{file} {judgement}").is_err() {
-            return Err(Fault::Output);
+        if let Err(fault) = tell_judgement(rt.alloc(), file, judgement, writer) {
+            return Err(fault);
         }
         if explain && writer.flush().is_ok() {
             advise(rt.alloc(), file, text.as_slice(), judgement, errors);
@@ -71,6 +72,25 @@ fn tell_files<R: Files + AllocGlobal, I: Read, W: Write, E: Write>(
         }
     }
     Ok(worst)
+}
+
+// Writes the line of a file that was judged so.
+fn tell_judgement<W: Sink>(
+    heap: Global,
+    file: &str,
+    judgement: Judgement,
+    writer: &mut W,
+) -> Result<(), Fault<'static>>
+    ensures { OnOk result (Wrote (W.contents writer.old) (W.contents writer.new)
+        (file.now ++ codes " " ++ judgement_text judgement ++ codes "\n")) }
+{
+    let Ok(line) = format!(in heap; "{file} {judgement}\n") else {
+        return Err(Fault::Memory);
+    };
+    match put(writer, line.as_bytes()) {
+        Ok(()) => Ok(()),
+        Err(_) => Err(Fault::Output),
+    }
 }
 
 // Writes what is advised on a text that was judged so.

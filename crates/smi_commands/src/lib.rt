@@ -19,6 +19,7 @@ mod same_file;
 mod status;
 mod step;
 mod text;
+mod traced;
 
 pub use advice::Advice;
 pub use audit::{AuditOptions, LONGEST_JOURNAL, judge_bytes, run_audit};

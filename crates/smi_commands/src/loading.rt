@@ -1,7 +1,8 @@
 //! The domains of files.
-ghost use Rattle.std.specs.Prelude.{IfOk};
+ghost use Rattle.std.specs.Prelude.{IfErr, IfOk};
 ghost use Rattle.std.specs.Arc.{arc_value};
 ghost use Rattle.sml_checkable.specs.Texts.{IsDomainOfText};
+ghost use Rattle.smi_commands.specs.Refused.{IsDomainFault};
 
 use crate::advice::Advice;
 use crate::fault::Fault;
@@ -48,7 +49,8 @@ pub fn domain_of_bytes<'a>(
     file: &'a str,
     text: &[u8],
 ) -> Result<Arc<Domain>, Fault<'a>>
-    ensures { IfOk result (λ shared. IsDomainOfText text.now (arc_value shared)) }
+    ensures domain { IfOk result (λ shared. IsDomainOfText text.now (arc_value shared)) }
+    ensures err { IfErr result (IsDomainFault file.now text.now) }
 {
     match sml_checkable::domain_of(heap, text) {
         Ok(domain) => Ok(domain),

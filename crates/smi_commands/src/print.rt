@@ -1,9 +1,10 @@
 //! The command `print`: a domain file goes in, and its canonical text comes out.
-ghost use Rattle.std.specs.Prelude.{List, OnOk};
-ghost use Rattle.sml_text.specs.Written.{Wrote};
+ghost use Rattle.std.specs.Prelude.{◌≡◌, ◌≢◌, Err, IfErr, List, OnErr, OnOk};
+ghost use Rattle.sml_text.specs.Written.{Wrote, WroteFront};
 ghost use Rattle.sml_tree.specs.Syntax.{ItemData};
 ghost use Rattle.sml_read.specs.Promise.{IsFileOf};
 ghost use Rattle.sml_print.specs.Items.{file_text};
+ghost use Rattle.smi_commands.specs.Refused.{IsTextFault};
 
 use crate::advice::Advice;
 use crate::fault::Fault;
@@ -91,8 +92,12 @@ pub fn print_text<'a, A: Allocator + Clone, W: Write>(
     text: &[u8],
     writer: &mut W,
 ) -> Result<(), Fault<'a>>
-    ensures { OnOk result ((said : List ItemData) × IsFileOf text.now said
+    ensures printed { OnOk result ((said : List ItemData) × IsFileOf text.now said
         × Wrote (W.contents writer.old) (W.contents writer.new) (file_text said)) }
+    ensures err { IfErr result (λ fault. fault ≢ Fault.Output → IsTextFault file.now text.now fault) }
+    ensures output { result ≡ Err Fault.Output → (said : List ItemData) × IsFileOf text.now said
+        × WroteFront (W.contents writer.old) (W.contents writer.new) (file_text said) }
+    ensures unwritten { OnErr result (result ≢ Err Fault.Output → W.contents writer.new ≡ W.contents writer.old) }
 {
     let tree = match sml_read::read(alloc, text) {
         Ok(tree) => tree,

@@ -1,14 +1,14 @@
 //! The command `step`: a domain and a schedule go in, and what was done comes out.
-ghost use Rattle.std.specs.Prelude.{◌≡◌, ◌≤◌, ℕ, List, Err, IfOk, IfSome, OnErr, OnOk, length};
+ghost use Rattle.std.specs.Prelude.{◌≡◌, ◌≢◌, ◌≤◌, ◌⊎◌, ¬◌, ℕ, List, Option, Err, None, IfErr, IfOk, IfSome, OnErr, OnOk};
 ghost use Rattle.std.specs.Arc.{arc_value};
-ghost use Rattle.std.specs.Io.KnownBytes.{Appends, Consumes, IsAtEnd};
+ghost use Rattle.std.specs.Io.KnownBytes.{Appends};
 ghost use Rattle.sml_text.specs.Written.{Wrote, WroteFront};
 ghost use Rattle.sml_checkable.specs.Texts.{IsDomainOfText};
 ghost use Rattle.smi_world.specs.World.{opening};
 ghost use Rattle.smi_journal.specs.JournalText.{journal_text};
-ghost use Rattle.smi_core.specs.Feeds.{Outputs, lines_of};
-ghost use Rattle.smi_core.specs.Output.{LineWrites};
-ghost use Rattle.smi_core.specs.declared.schedule.TheConstants.{LONGEST_SCHEDULE};
+ghost use Rattle.smi_machine.specs.Machines.{AreLimits};
+ghost use Rattle.smi_commands.specs.Performed.{FollowsIf, PerformsAll, PerformsFirst};
+ghost use Rattle.smi_commands.specs.Refused.{IsDomainFault};
 ghost use Rattle.smi_commands.specs.Paths.{IsReadAs};
 
 use crate::advice::Advice;
@@ -18,11 +18,12 @@ use crate::notes::Notes;
 use crate::same_file::is_one_read;
 use crate::status::{DONE, REFUSED};
 use crate::text::{STANDARD_INPUT, load_text};
+use crate::traced::TracedReader;
 use smi_core::{Core, Input, Lookout, run_watched_schedule};
 use smi_journal::journal_text::write_journal;
 use smi_standing::standing::tell_standing;
 use sml_domain::domain::Domain;
-use sml_text::writing::{Sink, WriteFault};
+use sml_text::writing::{Sink, WriteFault, put};
 use std::alloc::{AllocError, Global};
 use std::fs;
 use std::fs::Files;
@@ -132,8 +133,12 @@ pub fn core_of_bytes<'a>(
     ensures domain { IfOk result (λ made. IsDomainOfText text.now made.0.setup.domain) }
     ensures shared { IfOk result (λ made. made.0.setup.domain ≡ arc_value made.1) }
     ensures limits { IfOk result (λ made. (made.0.setup.capacity ≡ options.now.capacity)
-        × (made.0.setup.max_starts ≡ options.now.max_starts)) }
+        × (made.0.setup.max_starts ≡ options.now.max_starts)
+        × AreLimits options.now.capacity options.now.max_starts) }
     ensures opening { IfOk result (λ made. made.0.world ≡ opening made.0.setup) }
+    ensures numbers { result ≡ Err Fault.WrongNumbers → ¬ AreLimits options.now.capacity options.now.max_starts }
+    ensures err { IfErr result (λ fault. fault ≢ Fault.WrongNumbers
+        → IsDomainFault options.now.file.now text.now fault) }
 {
     let domain = match domain_of_bytes(heap, options.file, text) {
         Ok(domain) => domain,
@@ -176,14 +181,33 @@ fn run_in<'a, R: Files + AllocGlobal, I: Read, W: Write, E: Write>(
     output: &mut W,
     notes: &mut Notes<'_, 'a, E>,
 ) -> Result<(), Fault<'a>> {
-    let options = notes.options;
-    if options.schedule == STANDARD_INPUT {
-        return run_by_lines(rt, core, input, output, notes);
+    let schedule = notes.options.schedule;
+    if schedule == STANDARD_INPUT {
+        return run_traced(rt, core, input, output, notes);
     }
-    match fs::open(rt, options.schedule) {
-        Ok(mut reader) if options.explain => run_by_lines(rt, core, &mut reader, output, notes),
-        Ok(mut reader) => run_file(rt, core, &mut reader, output, notes),
-        Err(error) => Err(Fault::of_input(options.schedule, &error)),
+    match fs::open(rt, schedule) {
+        Ok(mut reader) => run_traced(rt, core, &mut reader, output, notes),
+        Err(error) => Err(Fault::of_input(schedule, &error)),
+    }
+}
+
+// Runs a schedule. Where its reader fails, the fault has the cause.
+fn run_traced<'a, R: Files + AllocGlobal, I: Read, W: Write, E: Write>(
+    rt: &R,
+    core: &mut Core,
+    reader: &mut I,
+    output: &mut W,
+    notes: &mut Notes<'_, 'a, E>,
+) -> Result<(), Fault<'a>> {
+    let mut traced = TracedReader::new(reader);
+    let ran = if notes.options.explain || notes.options.schedule == STANDARD_INPUT {
+        run_by_lines(rt, core, &mut traced, output, notes)
+    } else {
+        run_file(rt, core, &mut traced, output, notes)
+    };
+    match ran {
+        Ok(()) => Ok(()),
+        Err(fault) => Err(fault.with_cause(traced.cause)),
     }
 }
 
@@ -261,10 +285,7 @@ fn run_all<'a, I: Read, W: Write, E: Write>(
     writer: &mut W,
     notes: &mut Notes<'_, 'a, E>,
 ) -> Result<(), Fault<'a>> {
-    let mut ran = run_steps(heap, core, notes.options.schedule, reader, writer, notes);
-    if ran.is_ok() && notes.options.states {
-        ran = tell_states(heap, core, notes, writer);
-    }
+    let ran = run_and_tell(heap, core, notes.options, reader, writer, notes);
     // After a fault too: what was done before it is told.
     let flushed = writer.flush();
     match ran {
@@ -274,26 +295,68 @@ fn run_all<'a, I: Read, W: Write, E: Write>(
     }
 }
 
-// Writes how all stands.
+// Runs a schedule, and writes behind its output how all stands, where that is asked for. After a fault of the schedule
+// nothing more is written.
+fn run_and_tell<'a, I: Input, W: Sink, E: Sink>(
+    heap: Global,
+    core: &mut Core,
+    options: &StepOptions<'a>,
+    reader: &mut I,
+    writer: &mut W,
+    notes: &mut Notes<'_, 'a, E>,
+) -> Result<(), Fault<'a>>
+    ensures ok { OnOk result ((mid : Option (List ℕ)) × PerformsAll (I.remaining reader.old)
+        (I.remaining reader.new) (W.contents writer.old) mid core.old core.new
+        × FollowsIf options.now.states mid (W.contents writer.new)) }
+    ensures err { OnErr result ((mid : Option (List ℕ)) × FollowsIf options.now.states mid (W.contents writer.new)
+        × (PerformsAll (I.remaining reader.old) (I.remaining reader.new) (W.contents writer.old) mid core.old core.new
+        ⊎ PerformsFirst (I.remaining reader.old) (I.remaining reader.new) (W.contents writer.old) mid core.old core.new
+        (result ≡ Err Fault.Output) (result ≡ Err (Fault.TooLong options.now.schedule)))) }
+{
+    if let Err(fault) = run_steps(heap, core, options.schedule, reader, writer, notes) {
+        return Err(fault);
+    }
+    if options.states {
+        return tell_states(heap, core, notes, writer);
+    }
+    Ok(())
+}
+
+// Writes how all stands. It is a text in memory before it is written.
 fn tell_states<'a, W: Sink, E>(
     heap: Global,
     core: &Core,
     notes: &Notes<'_, 'a, E>,
     writer: &mut W,
-) -> Result<(), Fault<'a>> {
+) -> Result<(), Fault<'a>>
+    ensures { (more : List ℕ) × Appends (W.contents writer.old) (W.contents writer.new) more }
+{
+    let Ok(text) = standing_text(heap, core, notes) else {
+        return Err(Fault::Memory);
+    };
+    match put(writer, text.as_slice()) {
+        Ok(()) => Ok(()),
+        Err(_) => Err(Fault::Output),
+    }
+}
+
+// The text of how all stands.
+fn standing_text<E>(
+    heap: Global,
+    core: &Core,
+    notes: &Notes<'_, '_, E>,
+) -> Result<Vec<u8>, AllocError> {
+    let mut text = Vec::new(heap);
     let mut failed = false;
-    match tell_standing(
+    tell_standing(
         heap,
         notes.domain,
         core,
         &notes.history,
-        writer,
+        &mut text,
         &mut failed,
-    ) {
-        Ok(()) if !failed => Ok(()),
-        Ok(()) => Err(Fault::Output),
-        Err(_) => Err(Fault::Memory),
-    }
+    )?;
+    if failed { Err(AllocError) } else { Ok(text) }
 }
 
 /// Runs the steps of a schedule of this path in a core, and writes what they write. The lookout is told of each line.
@@ -308,10 +371,15 @@ pub fn run_steps<'a, I: Input, W: Sink, L: Lookout>(
     writer: &mut W,
     lookout: &mut L,
 ) -> Result<(), Fault<'a>>
-    ensures { OnOk result ((text : List ℕ) × Consumes (I.remaining reader.old) (I.remaining reader.new) text
-        × IsAtEnd (I.remaining reader.new) × (length text ≤ LONGEST_SCHEDULE)
-        × ((out : List ℕ) × Appends (W.contents writer.old) (W.contents writer.new) out
-        × Outputs LineWrites core.old (lines_of text) out core.new)) }
+    ensures ok { OnOk result (PerformsAll (I.remaining reader.old) (I.remaining reader.new) (W.contents writer.old)
+        (W.contents writer.new) core.old core.new) }
+    ensures err { OnErr result (PerformsFirst (I.remaining reader.old) (I.remaining reader.new)
+        (W.contents writer.old) (W.contents writer.new) core.old core.new (result ≡ Err Fault.Output)
+        (result ≡ Err (Fault.TooLong schedule.entry))) }
+    ensures fault { IfErr result (λ fault. (fault ≡ Fault.Unreadable schedule.entry None) ⊎ (fault ≡ Fault.Output)
+        ⊎ (fault ≡ Fault.TooLong schedule.entry) ⊎ (fault ≡ Fault.Memory)) }
+    ensures read { result ≡ Err (Fault.Unreadable schedule.entry None) → I.has_failed reader.new }
+    ensures write { result ≡ Err Fault.Output → W.has_refused writer.new }
 {
     match run_watched_schedule(heap, core, reader, writer, lookout) {
         Ok(()) => Ok(()),

@@ -288,6 +288,31 @@ fn feed_chunk<W: Sink, L: Lookout>(
     Ok(())
 }
 
+// Feeds the bytes that were read. A fault ends the schedule, and what is kept of a line that it cut off is let go.
+fn feed_read<W: Sink, L: Lookout>(
+    alloc: Global,
+    core: &mut Core,
+    writer: &mut W,
+    pending: &mut Pending,
+    lookout: &mut L,
+    bytes: &[u8],
+) -> Result<(), ScheduleFault>
+    ensures ok { (line : List ℕ) → IsPending pending.old.kept.items pending.old.over line → OnOk result
+        (Went LineWrites core.old line bytes.now (W.contents writer.old) (W.contents writer.new) core.new
+        pending.new.kept.items pending.new.over) }
+    ensures err { (line : List ℕ) → IsPending pending.old.kept.items pending.old.over line → OnErr result
+        (Halted LineWrites core.old line bytes.now (result ≡ Err ScheduleFault.Write) (W.contents writer.old)
+        (W.contents writer.new) core.new) }
+    ensures read { result ≡ Err ScheduleFault.Read → ⊥ }
+    ensures too_long { result ≡ Err ScheduleFault.TooLong → ⊥ }
+    ensures write { result ≡ Err ScheduleFault.Write → W.has_refused writer.new }
+{
+    match feed_chunk(alloc, core, writer, pending, lookout, bytes) {
+        Ok(()) => Ok(()),
+        Err(fault) => Err(fault.of_schedule()),
+    }
+}
+
 /// What gives bytes, some at a call, and knows whether it has failed to. Every reader is one.
 ///
 /// A reader's own contract doesn't say that it failed. So a function over any `Input` can say of a
@@ -397,8 +422,8 @@ pub fn run_watched_schedule<R: Input, W: Sink, L: Lookout>(
             return Err(ScheduleFault::TooLong);
         }
         total += n;
-        if let Err(fault) = feed_chunk(alloc, core, writer, &mut pending, lookout, &buf[..n]) {
-            return Err(fault.of_schedule());
+        if let Err(fault) = feed_read(alloc, core, writer, &mut pending, lookout, &buf[..n]) {
+            return Err(fault);
         }
     }
     match end_line(alloc, core, writer, &mut pending, lookout) {

@@ -5,7 +5,7 @@ use sml_tree::block::{Block, Instr};
 use sml_tree::cond::Cond;
 use std::alloc::Global;
 
-impl<'w> Walk<'w> {
+impl<'w, const MOST: usize> Walk<'w, MOST> {
     /// Goes over the instructions of a block.
     #[cycle(blocks)]
     pub(crate) fn block(&mut self, within: Within<'_>, block: &Block<Global>) {

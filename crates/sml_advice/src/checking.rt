@@ -1,5 +1,7 @@
 //! The faults of a file that was read.
-ghost use Rattle.std.specs.Prelude.{◌≡◌, IfOk, IfSome, min};
+ghost use Rattle.std.specs.Prelude.{◌≡◌, ◌<◌, ◌-◌, IfOk, IfSome, min};
+ghost use Rattle.sml_text.specs.Written.{StaysDue, Told};
+ghost use Rattle.sml_advice.specs.Others.{faults_word, others_text};
 
 use crate::directory::Directory;
 use crate::finding::{Finding, Findings};
@@ -10,12 +12,13 @@ use crate::teller::Teller;
 use crate::tokens::Tokens;
 use crate::walk::{Before, Walk};
 use sml_read::{ReadError, ReadErrorKind, read};
+use sml_text::decimal::tell_u64;
 use sml_text::writing::{Sink, tell};
 use sml_tree::file::SmlFile;
 use std::alloc::{AllocError, Global};
 
-// How many faults are told.
-const MOST: usize = 20;
+// How many faults of a file are told.
+const TOLD: usize = 20;
 
 /// Explains each fault of a file that was read and is not well-formed: for each its place, one sentence, and the
 /// line with a caret below it, in the order of the text, twenty at most, and then how many more there are. Nothing
@@ -56,22 +59,21 @@ pub fn explain_good<W: Sink>(file: &str, text: &[u8], writer: &mut W, failed: &m
     }
 }
 
-/// The faults of a text, of which the first so many are kept, in the order of the text; None where it is refused by
-/// the reader.
+/// The faults of a text, of which the first are kept, in the order of the text, and `MOST` of them where there are as
+/// many; None where it is refused by the reader.
 ///
 /// The time is that of reading and checking, and some looks at each member of a set for each `do` and test of the set;
 /// where a `do` leaves an argument out, as many as the square of the members, of which there are `MAX_MEMBERS` at
 /// most. The memory is that of the tree, of its tables, and of the faults that are kept.
-pub fn faults_of_text(
+pub fn faults_of_text<const MOST: usize>(
     alloc: Global,
     text: &[u8],
-    most: usize,
-) -> Result<Option<Findings>, AllocError>
-    ensures { IfOk result (λ r. IfSome r (λ found. found.kept ≡ min found.told found.most)) }
+) -> Result<Option<Findings<MOST>>, AllocError>
+    ensures { IfOk result (λ r. IfSome r (λ found. found.kept ≡ min found.told MOST)) }
 {
     match read(alloc, text) {
         Ok(tree) => {
-            let mut findings = Findings::new(alloc, most);
+            let mut findings = Findings::new(alloc);
             let found = find_in_tree(alloc, text, &tree, &mut findings);
             drop(tree);
             handed(found, findings)
@@ -84,8 +86,11 @@ pub fn faults_of_text(
 }
 
 // What was found, where there was memory.
-fn handed(found: Result<(), AllocError>, findings: Findings) -> Result<Option<Findings>, AllocError>
-    ensures { IfOk result (λ r. IfSome r (λ found. found.kept ≡ min found.told found.most)) }
+fn handed<const MOST: usize>(
+    found: Result<(), AllocError>,
+    findings: Findings<MOST>,
+) -> Result<Option<Findings<MOST>>, AllocError>
+    ensures { IfOk result (λ r. IfSome r (λ found. found.kept ≡ min found.told MOST)) }
 {
     if found.is_ok() && !findings.lacks_memory() {
         return Ok(Some(findings));
@@ -103,11 +108,11 @@ fn of_refusal(error: &ReadError) -> Result<(), AllocError> {
 }
 
 // Finds the faults of a tree.
-fn find_in_tree(
+fn find_in_tree<const MOST: usize>(
     alloc: Global,
     text: &[u8],
     tree: &SmlFile<Global>,
-    findings: &mut Findings,
+    findings: &mut Findings<MOST>,
 ) -> Result<(), AllocError> {
     let mut directory = Directory::new(alloc, tree);
     let mut spots = Spots::new(alloc);
@@ -124,11 +129,11 @@ fn find_in_tree(
 }
 
 // Finds the faults of a file.
-fn find(
+fn find<const MOST: usize>(
     alloc: Global,
     directory: &Directory<'_>,
     spots: &Spots,
-    findings: &mut Findings,
+    findings: &mut Findings<MOST>,
 ) -> Result<(), AllocError> {
     let mut before = Before::new(alloc);
     let mut walk = Walk {
@@ -175,14 +180,14 @@ fn explain_file<W: Sink>(
     spots: &Spots,
     out: &mut Teller<'_, W>,
 ) -> Result<(), AllocError> {
-    let mut findings = Findings::new(alloc, MOST);
+    let mut findings: Findings<TOLD> = Findings::new(alloc);
     let found = find(alloc, directory, spots, &mut findings);
     if found.is_ok() {
         let subject = Subject { directory, spots };
         for finding in findings.kept() {
             tell_finding(out, subject, finding);
         }
-        tell_rest(out, findings.told().saturating_sub(findings.kept().len()));
+        tell_rest(&mut *out.writer, &mut *out.failed, out.file, &findings);
     }
     drop(findings);
     found
@@ -195,17 +200,44 @@ fn tell_finding<W: Sink>(out: &mut Teller<'_, W>, subject: Subject<'_>, finding:
     out.end(finding.at);
 }
 
-// How many faults are not told.
-fn tell_rest<W: Sink>(out: &mut Teller<'_, W>, count: usize) {
-    if count == 0 {
-        return;
+// How many faults there are behind those that are told one by one, if there are any.
+fn tell_rest<W: Sink, const MOST: usize>(
+    writer: &mut W,
+    failed: &mut bool,
+    file: &str,
+    findings: &Findings<MOST>,
+)
+    ensures told { Told (W.contents writer.old) failed.old (W.contents writer.new) failed.new
+        (others_text file.now (findings.now.told - findings.now.kept)) }
+    ensures due { StaysDue (W.has_refused writer.old) failed.old (W.has_refused writer.new) failed.new }
+{
+    let count = findings.others();
+    if count > 0 {
+        tell_others(writer, failed, file, count);
     }
-    out.say(out.file.as_bytes());
-    out.say(b": and ");
-    out.number(count as u64);
-    out.say(if count == 1 {
+}
+
+// The line of as many other faults, one at least.
+fn tell_others<W: Sink>(writer: &mut W, failed: &mut bool, file: &str, count: usize)
+    requires { 0 < count }
+    ensures told { Told (W.contents writer.old) failed.old (W.contents writer.new) failed.new
+        (others_text file.now count) }
+    ensures due { StaysDue (W.has_refused writer.old) failed.old (W.has_refused writer.new) failed.new }
+{
+    tell(writer, failed, file.as_bytes());
+    tell(writer, failed, b": and ");
+    tell_u64(writer, failed, count as u64);
+    tell(writer, failed, faults_word(count));
+}
+
+// The end of that line.
+fn faults_word(count: usize) -> &'static [u8]
+    requires { 0 < count }
+    ensures { result.now ≡ faults_word count }
+{
+    if count == 1 {
         b" more fault\n"
     } else {
         b" more faults\n"
-    });
+    }
 }

@@ -1,5 +1,5 @@
 //! What was found wrong with a file, and where.
-ghost use Rattle.std.specs.Prelude.{◌≡◌, ◌+◌, false, length, min, OnOk};
+ghost use Rattle.std.specs.Prelude.{◌≡◌, ◌+◌, ◌-◌, false, length, min, OnOk};
 
 use sml_faults::CheckKind;
 use sml_tree::file::Kind;
@@ -96,17 +96,17 @@ pub struct Finding {
     pub detail: Detail,
 }
 
-/// The faults of a text, in the order of their places.
+/// The faults of a text, in the order of their places, of which the first are kept: `MOST` of them, where there are as
+/// many.
 #[derive(Drop)]
-pub struct Findings {
+pub struct Findings<const MOST: usize> {
     kept: Vec<Finding>,
     told: usize,
     count: usize,
-    most: usize,
     lacks_memory: bool,
 }
 
-impl Model for Findings {
+impl<const MOST: usize> Model for Findings<MOST> {
     ghost use Rattle.std.specs.Prelude.{◌≡◌, false, length, min};
     ghost use Rattle.sml_advice.specs.Found.{FoundView};
 
@@ -116,21 +116,19 @@ impl Model for Findings {
       kept = length f.kept.items;
       told = f.told;
       count = f.count;
-      most = f.most;
       lacks_memory = f.lacks_memory;
     } };
 
-    ghost invariant = { λ f. f.lacks_memory ≡ false → length f.kept.items ≡ min f.told f.most };
+    ghost invariant = { λ f. f.lacks_memory ≡ false → length f.kept.items ≡ min f.told MOST };
 }
 
-impl Findings {
-    /// None yet, of which as many may be kept.
-    pub(crate) fn new(alloc: Global, most: usize) -> Findings {
+impl<const MOST: usize> Findings<MOST> {
+    /// No faults yet.
+    pub(crate) fn new(alloc: Global) -> Findings<MOST> {
         Findings {
             kept: Vec::new(alloc),
             told: 0,
             count: 0,
-            most,
             lacks_memory: false,
         }
     }
@@ -147,6 +145,13 @@ impl Findings {
         ensures { result ≡ self.now.told }
     {
         self.told
+    }
+
+    /// How many of those that are told are not kept.
+    pub(crate) fn others(&self) -> usize
+        ensures { result ≡ self.now.told - self.now.kept }
+    {
+        self.told.saturating_sub(self.kept.len())
     }
 
     /// How many faults the file has. More than are told: what follows from another fault alone, as an unknown action
@@ -170,7 +175,7 @@ impl Findings {
         if follows {
             return;
         }
-        if self.told < self.most {
+        if self.told < MOST {
             let finding = Finding {
                 kind,
                 name: *name,

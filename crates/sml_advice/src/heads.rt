@@ -70,7 +70,7 @@ fn same_param(param: &ActionParam<Global>, other: &ActionParam<Global>) -> bool 
         && same_default(&param.default, &other.default)
 }
 
-impl<'w> Walk<'w> {
+impl<'w, const MOST: usize> Walk<'w, MOST> {
     /// Goes over a class, which is at a place among the items.
     pub(crate) fn class(&mut self, place: usize, class: &Class<Global>) {
         let at = self.take();

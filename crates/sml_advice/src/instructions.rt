@@ -27,7 +27,7 @@ fn kinds_differ(kind: Kind, other: Option<Kind>) -> bool {
     }
 }
 
-impl<'w> Walk<'w> {
+impl<'w, const MOST: usize> Walk<'w, MOST> {
     // Adds that a name is no object's or no set's, where it should be one's.
     fn named(&mut self, is_set: bool, name: &Name, at: usize, site: Site) {
         if is_set {

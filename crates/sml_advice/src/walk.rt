@@ -67,16 +67,16 @@ pub(crate) fn first_of(names: &[Standing], name: &Name) -> Option<usize> {
 
 /// A walk over the items of a file.
 #[derive(Drop)]
-pub(crate) struct Walk<'w> {
+pub(crate) struct Walk<'w, const MOST: usize> {
     pub directory: &'w Directory<'w>,
     pub spots: &'w Spots,
     /// How many names stand before the place.
     pub passed: usize,
     pub before: &'w mut Before,
-    pub findings: &'w mut Findings,
+    pub findings: &'w mut Findings<MOST>,
 }
 
-impl<'w> Walk<'w> {
+impl<'w, const MOST: usize> Walk<'w, MOST> {
     /// Goes over the next name, and tells where it stands.
     pub(crate) fn take(&mut self) -> usize {
         let at = self.spots.name(self.passed);

@@ -120,8 +120,9 @@ With the domain above, the schedule on the left writes what is on the right:
 
 With `--journal PATH` the file PATH is made, or what stands there is deleted, before the first step; the
 journal is written to it when the whole schedule is done: the line `smi-journal 1`, and then the lines
-above but `accept`, `set`, `still` and `refused`. `smirun audit FILE PATH` judges it. Where PATH is FILE or
-SCHEDULE, by this path or another, the command line is a wrong one, and nothing is read or written.
+above but `accept`, `set`, `still` and `refused`. `smirun audit FILE PATH` judges it. A journal over 67108864
+bytes is written, and `audit` and `graph` refuse it. Where PATH is FILE or SCHEDULE, by this path or another, the
+command line is a wrong one, and nothing is read or written.
 
 With `--states` these lines follow what the schedule writes:
 
