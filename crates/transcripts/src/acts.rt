@@ -1,6 +1,7 @@
 //! The lines of a script: their first byte tells what they do.
 
 use crate::calls::{ask, call, call_cut_off, call_in_vain, call_with_no_memory, tell_no_words};
+use crate::explained::compare;
 use crate::limits::tell_untold;
 use crate::outcomes::tell_run;
 use crate::place::Place;
@@ -33,6 +34,8 @@ pub fn perform<R: Host>(rt: &R, line: &str, place: &mut Place) -> io::Result<()>
         "^" => call_cut_off(rt, rest, place),
         // performs a command line where there is no memory
         "~" => call_with_no_memory(rt, rest, place),
+        // performs two command lines, and tells that they give different things, if so: LINE | LINE
+        "=" => compare(rt, rest, place),
         // does something with a file
         "@" => handle(rt, rest, place),
         _ => Ok(()),

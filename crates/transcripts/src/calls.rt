@@ -1,5 +1,6 @@
 //! Calls of command lines.
 
+use crate::explained::{give, tell_explained};
 use crate::place::Place;
 use crate::writers::{Fails, FailsLate, NoMemory, TakesNothing, TakesSome};
 use smi_run_command::Host;
@@ -23,7 +24,7 @@ fn words_of(alloc: Global, line: &str) -> Result<Vec<String>, AllocError> {
 }
 
 /// Performs a command line, whose standard input is the text at hand, and gives its status.
-fn run<R: Host, W: Write>(
+pub fn run<R: Host, W: Write>(
     rt: &R,
     line: &str,
     text: &[u8],
@@ -48,14 +49,16 @@ pub fn tell(alloc: Global, place: &mut Place, status: u8, errors: &[u8]) -> io::
     Ok(())
 }
 
-/// Performs a command line and tells its status and its errors. Its output is kept.
+/// Performs a command line and tells its status and its errors, and that `--explain` changes what it gives, if so. Its
+/// output is kept.
 pub fn ask<R: Host>(rt: &R, line: &str, place: &mut Place) -> io::Result<()> {
     place.is_open = false;
-    let mut output = Vec::new(rt.alloc());
     let mut errors = Vec::new(rt.alloc());
-    let status = run(rt, line, place.text.as_slice(), &mut output, &mut errors)?;
-    place.output = output;
-    tell(rt.alloc(), place, status, errors.as_slice())
+    let given = give(rt, line, place.text.as_slice(), &mut errors)?;
+    tell(rt.alloc(), place, given.status, errors.as_slice())?;
+    tell_explained(rt, line, &given, place)?;
+    place.output = given.output;
+    Ok(())
 }
 
 /// Performs a command line and tells its output too.

@@ -3,6 +3,7 @@
 
 mod acts;
 mod calls;
+mod explained;
 mod limits;
 mod outcomes;
 mod place;
