@@ -55,19 +55,6 @@ module _ {S : Type 0} (makes : S → List ℕ → List ℕ → S → Type 0) whe
     whole = told_still fault fault2 told h.whole;
   }
 
-  pub halted_as : (m : S) (line xs : List ℕ) (fault fault2 : Type 0) (old new : Option (List ℕ)) (m2 : S) → (fault → fault2) → Halted makes m line xs fault old new m2 → Halted makes m line xs fault2 old new m2
-  halted_as m line xs fault fault2 old new m2 told h = record {
-    fed = h.fed;
-    unfed = h.unfed;
-    out = h.out;
-    unwritten = h.unwritten;
-    left = h.left;
-    split = h.split;
-    feeds = h.feeds;
-    written = h.written;
-    whole = told_still fault fault2 told h.whole;
-  }
-
   -- nothing more was fed
   pub halted_here : (m : S) (line xs ys : List ℕ) (fault : Type 0) (old new : Option (List ℕ)) (m2 : S) (kept : List ℕ) (over : Bool) → Went makes m line xs old new m2 kept over → Halted makes m line (xs ++ ys) fault old new m2
   halted_here m line xs ys fault old new m2 kept over w = record {

@@ -19,7 +19,7 @@ returns-then-n-total-clause-err g c =
 pub returns-in-Err-clause-err : goal.returns-in-Err-clause-err
 returns-in-Err-clause-err g c =
     let s = c.reads.invariant.so_far in
-    (s.0 ++ take c.in-Some.n c.fetch.new.buf, consumes_more _ _ _ _ _ s.1 c.in-Some.ensures.some.1, first_lines LineWrites _ _ _ _ _ _ _ _ (λ e. ap Err (c.of_schedule.ensures.write.1 (cc e))) (halted_more LineWrites _ _ _ _ _ _ _ _ _ _ _ _ s.3 c.in-Err.ensures.err), inl (omega (arith, s.2, c.reads.invariant.most, c.if-n-total.false, length-take-le c.in-Some.n c.fetch.new.buf c.in-Some.ensures.some.0, length-append s.0 (take c.in-Some.n c.fetch.new.buf))))
+    (s.0 ++ take c.in-Some.n c.fetch.new.buf, consumes_more _ _ _ _ _ s.1 c.in-Some.ensures.some.1, first_lines LineWrites _ _ _ _ _ _ _ _ (λ e. e) (halted_more LineWrites _ _ _ _ _ _ _ _ _ _ _ _ s.3 c.in-Err.ensures.err), inl (omega (arith, s.2, c.reads.invariant.most, c.if-n-total.false, length-take-le c.in-Some.n c.fetch.new.buf c.in-Some.ensures.some.0, length-append s.0 (take c.in-Some.n c.fetch.new.buf))))
 
 -- nothing is read, fed or kept yet
 pub reads-init : goal.reads-init
@@ -41,7 +41,7 @@ reads-preserved g c =
         s.0 ++ take n c.fetch.new.buf,
         consumes_more _ _ _ _ _ s.1 c.in-Some.ensures.some.1,
         omega (arith, s.2, length-take-le c.in-Some.n c.fetch.new.buf c.in-Some.ensures.some.0, length-append s.0 (take n c.fetch.new.buf)),
-        went_more LineWrites _ _ _ _ _ _ _ _ _ _ _ _ _ s.3 c.in_default-feed_chunk.ensures.ok,
+        went_more LineWrites _ _ _ _ _ _ _ _ _ _ _ _ _ s.3 c.in_default-feed_read.ensures.ok,
       );
     }
 
@@ -77,6 +77,6 @@ returns-clause-err g c =
     let s = c.reads.invariant.so_far in (
       s.0,
       consumes_empty _ _ _ _ _ _ c.if-n-eq0.true s.1 c.in-Some.ensures.some.1,
-      torn LineWrites _ _ _ _ _ _ _ _ _ _ _ _ (c.in-Some.ensures.some.2 c.if-n-eq0.true (omega (arith, c.fetch.auto.buf, c.reads.invariant.room))) (λ e. ap Err (c.of_schedule-in-Err-end_line.ensures.write.1 (cc e))) s.3 (c.in-Err-end_line.ensures.err s.3.left s.3.pending),
+      torn LineWrites _ _ _ _ _ _ _ _ _ _ _ _ (c.in-Some.ensures.some.2 c.if-n-eq0.true (omega (arith, c.fetch.auto.buf, c.reads.invariant.room))) (λ e. ap Err (c.of_schedule.ensures.write.1 (cc e))) s.3 (c.in-Err-end_line.ensures.err s.3.left s.3.pending),
       inl (omega (arith, s.2, c.reads.invariant.most)),
     )
