@@ -1,5 +1,5 @@
 -- Why a command takes no file.
-use Rattle.std.specs.Prelude.{◌≡◌, ◌≢◌, ¬◌, ℕ, List, Some, None}
+use Rattle.std.specs.Prelude.{◌≡◌, ◌≢◌, ℕ, List, Some, None}
 use Rattle.sml_tree.specs.Syntax.{ItemData}
 use Rattle.sml_read.specs.Promise.{IsFileOf, Cause}
 use Rattle.sml_read.specs.declared.error.ReadErrorKind.TheVariants as kind

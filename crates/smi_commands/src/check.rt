@@ -82,7 +82,7 @@ fn tell_judgement<W: Sink>(
     writer: &mut W,
 ) -> Result<(), Fault<'static>>
     ensures { OnOk result (Wrote (W.contents writer.old) (W.contents writer.new)
-        (file.now ++ codes " " ++ judgement_text judgement ++ codes "\n")) }
+        (file.now ++ (codes " " ++ (judgement_text judgement ++ codes "\n")))) }
 {
     let Ok(line) = format!(in heap; "{file} {judgement}\n") else {
         return Err(Fault::Memory);

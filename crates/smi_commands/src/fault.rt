@@ -1,7 +1,7 @@
 //! Why a command ends before it is done.
 ghost use Rattle.std.specs.Prelude.{◌≡◌, ◌≢◌, ◌≤◌, ℕ, Some, None};
 ghost use Rattle.std.specs.IoError.{error_kind};
-ghost use Rattle.smi_commands.specs.Status.{fault_line, fault_status};
+ghost use Rattle.smi_commands.specs.Status.{fault_status};
 
 use crate::judgement::Judgement;
 use crate::status::{NO_MEMORY, REFUSED, WRONG_WORDS};
@@ -135,17 +135,6 @@ impl<'a> Fault<'a> {
             ScheduleFault::Write => Fault::Output,
             ScheduleFault::TooLong => Fault::TooLong(schedule),
             ScheduleFault::Memory => Fault::Memory,
-        }
-    }
-
-    /// The same fault, with this cause where a file cannot be read and none is known.
-    pub(crate) fn with_cause(self, cause: Option<io::Error>) -> Fault<'a>
-        ensures line { fault_line result ≡ fault_line self }
-        ensures status { fault_status result ≡ fault_status self }
-    {
-        match self {
-            Fault::Unreadable(file, None) => Fault::Unreadable(file, cause),
-            fault => fault,
         }
     }
 

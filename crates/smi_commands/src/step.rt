@@ -1,5 +1,5 @@
 //! The command `step`: a domain and a schedule go in, and what was done comes out.
-ghost use Rattle.std.specs.Prelude.{◌≡◌, ◌≢◌, ◌≤◌, ◌⊎◌, ¬◌, ℕ, List, Option, Err, None, IfErr, IfOk, IfSome, OnErr, OnOk};
+ghost use Rattle.std.specs.Prelude.{◌≡◌, ◌≢◌, ◌≤◌, ◌⊎◌, ℕ, List, Option, Err, None, IfErr, IfOk, IfSome, OnErr, OnOk};
 ghost use Rattle.std.specs.Arc.{arc_value};
 ghost use Rattle.std.specs.Io.KnownBytes.{Appends};
 ghost use Rattle.sml_text.specs.Written.{Wrote, WroteFront};
@@ -205,10 +205,11 @@ fn run_traced<'a, R: Files + AllocGlobal, I: Read, W: Write, E: Write>(
     } else {
         run_file(rt, core, &mut traced, output, notes)
     };
-    match ran {
-        Ok(()) => Ok(()),
-        Err(fault) => Err(fault.with_cause(traced.cause)),
+    let is_unread = matches!(ran, Err(Fault::Unreadable(_, None)));
+    if is_unread {
+        return Err(Fault::Unreadable(notes.options.schedule, traced.cause));
     }
+    ran
 }
 
 // Runs a schedule, and writes each line out before more is read. So who gives the lines of standard input one by one
