@@ -1,3 +1,4 @@
 pub mod Unplanned
 pub mod Outcomes
 pub mod Ends
+pub mod Summary
