@@ -49,10 +49,10 @@ line_counted front zero lt = absurd (omega (arith, lt))
 line_counted front (suc n) lt = refl
 
 module _ (d : Domain) (lines : Sender → List ℕ) where
-  objects : List ℕ
+  abbrev objects : List ℕ
   objects = range_with_len 0 (length d.objects)
 
-  operator : ℕ → Sender
+  abbrev operator : ℕ → Sender
   operator k = Operator (k + 1)
 
   -- the lines of all senders: those of the sessions, and then those of the objects
