@@ -1,14 +1,15 @@
 -- What is told behind the summary of a run.
-use Rattle.std.specs.Prelude.{◌≡◌, ◌≢◌, ℕ}
+use Rattle.std.specs.Prelude.{◌≡◌, ◌≢◌, List, []}
+use Rattle.smi_report.specs.declared.told.Receipt.{Receipt}
 use Rattle.smi_shared.specs.declared.ending.ServeEnd.{ServeEnd}
 use Rattle.smi_shared.specs.declared.ending.ServeEnd.TheVariants as end
 use Rattle.smi_commands.specs.declared.fault.Fault.{Fault}
 use Rattle.smi_commands.specs.declared.fault.Fault.TheVariants as fault
 
--- a run that ended so, with so many receipts unmet, may be told by this fault: that the report differs is told only
+-- a run that ended so, with these receipts unmet, may be told by this fault: that the report differs is told only
 -- where one is unmet and the end is not Memory
-abbrev pub IsFaultOf : ServeEnd → ℕ → Fault → Type 0
-IsFaultOf e unmet fault.ReportDiffers = (e ≢ end.Memory) × (unmet ≢ 0)
+abbrev pub IsFaultOf : ServeEnd → List Receipt → Fault → Type 0
+IsFaultOf e unmet fault.ReportDiffers = (e ≢ end.Memory) × (unmet ≢ [])
 IsFaultOf e unmet fault.Memory = Unit {0}
 IsFaultOf e unmet fault.Output = Unit {0}
 IsFaultOf e unmet (fault.JournalUnwritten _ _) = Unit {0}

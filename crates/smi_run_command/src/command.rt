@@ -1,6 +1,8 @@
 //! The command `run`.
-ghost use Rattle.std.specs.Prelude.{◌≡◌, Err, IfSome};
+ghost use Rattle.std.specs.Prelude.{◌≡◌, Err, IfErr, IfSome};
+ghost use Rattle.std.specs.Arc.{arc_value};
 ghost use Rattle.smi_commands.specs.Paths.{IsReadAs};
+ghost use Rattle.smi_run_command.specs.Running.{IsRunError};
 
 use crate::host::Host;
 use crate::options::RunOptions;
@@ -51,6 +53,7 @@ pub fn run_run<'a, R: Host, I: Read, W: Write, E: Write>(
     match run_told(rt, &domain, plan, options, errors) {
         Ok(outcome) => tell_outcome(rt, &domain, options.journal, &outcome, output),
         Err(RunError::BadConfig) => Err(Fault::WrongRunNumbers),
+        Err(RunError::DeviceCount) => unreachable!(),
         Err(RunError::Memory) => Err(Fault::Memory),
     }
 }
@@ -62,7 +65,9 @@ fn run_told<R: Host, E: Write>(
     plan: Plan,
     options: &RunOptions<'_>,
     errors: &mut E,
-) -> Result<Outcome, RunError> {
+) -> Result<Outcome, RunError>
+    ensures refused { IfErr result (IsRunError (arc_value domain.now) options.now.numbers plan) }
+{
     if !options.progress {
         return run_plan(
             *rt,

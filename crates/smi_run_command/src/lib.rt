@@ -18,6 +18,7 @@ pub use outcome::{Outcome, tell_outcome, write_kept_journal};
 pub use planning::plan_of_bytes;
 pub use running::{RunError, RunNumbers, run_plan};
 pub use smi_plan::plan::LONGEST_SCRIPT;
+pub use smi_report::told::Receipt;
 pub use smi_run::opening::MAX_WORKERS;
 pub use smi_scripts::watch::{Unwatched, Watch};
 pub use summary::summary_of;

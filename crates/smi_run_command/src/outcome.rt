@@ -1,5 +1,5 @@
 //! What a run came to, and how it is told.
-ghost use Rattle.std.specs.Prelude.{◌≡◌, ◌≢◌, IfErr, OnErr, OnOk};
+ghost use Rattle.std.specs.Prelude.{◌≡◌, ◌≢◌, [], IfErr, OnErr, OnOk};
 ghost use Rattle.sml_text.specs.Written.{Wrote, WroteFront};
 ghost use Rattle.smi_journal.specs.JournalText.{journal_text};
 ghost use Rattle.smi_run_command.specs.Outcomes.{IsFaultOf};
@@ -7,6 +7,7 @@ ghost use Rattle.smi_run_command.specs.Outcomes.{IsFaultOf};
 use smi_commands::Fault;
 use smi_entry::journal::Journal;
 use smi_journal::journal_text::write_journal;
+use smi_report::told::Receipt;
 use smi_shared::ending::ServeEnd;
 use sml_domain::domain::Domain;
 use sml_text::writing::{Sink, WriteFault, put};
@@ -24,8 +25,8 @@ pub struct Outcome {
     pub summary: Vec<u8>,
     /// Its journal.
     pub journal: Journal,
-    /// How many receipts the journal does not bear out.
-    pub unmet: usize,
+    /// The receipts that the journal does not bear out, by sessions and in their order.
+    pub unmet: Vec<Receipt>,
 }
 
 /// Tells what a run came to: its summary goes to `output`, to its end, and then the journal to the file of the path,
@@ -44,8 +45,8 @@ pub fn tell_outcome<'a, R: Files + AllocGlobal, W: Write>(
     output: &mut W,
 ) -> Result<(), Fault<'a>>
     ensures told { OnOk result (Wrote (W.contents output.old) (W.contents output.new) outcome.now.summary.items) }
-    ensures met { OnOk result ((outcome.now.end ≢ ServeEnd.Memory) × (outcome.now.unmet ≡ 0)) }
-    ensures fault { IfErr result (IsFaultOf outcome.now.end outcome.now.unmet) }
+    ensures met { OnOk result ((outcome.now.end ≢ ServeEnd.Memory) × (outcome.now.unmet.items ≡ [])) }
+    ensures fault { IfErr result (IsFaultOf outcome.now.end outcome.now.unmet.items) }
 {
     if let Err(fault) = tell_summary(outcome.summary.as_slice(), output) {
         return Err(fault);
@@ -60,7 +61,7 @@ pub fn tell_outcome<'a, R: Files + AllocGlobal, W: Write>(
     if outcome.end == ServeEnd::Memory {
         return Err(Fault::Memory);
     }
-    if outcome.unmet > 0 {
+    if !outcome.unmet.is_empty() {
         return Err(Fault::ReportDiffers);
     }
     Ok(())

@@ -1,6 +1,8 @@
 //! The plan of a script.
 ghost use Rattle.std.specs.Prelude.{IfErr, IfOk};
+ghost use Rattle.std.specs.Arc.{arc_value};
 ghost use Rattle.smi_plan.specs.Plans.{IsPlanOfText};
+ghost use Rattle.smi_run_command.specs.Running.{HasDevices};
 ghost use Rattle.smi_run_command.specs.Unplanned.{IsUnplanned};
 
 use smi_commands::{Advice, Fault, load_prefix};
@@ -19,7 +21,9 @@ pub(crate) fn load_plan<'a, R: Files + AllocGlobal, I: Read>(
     domain: &Arc<Domain>,
     script: &'a str,
     advice: &mut Advice,
-) -> Result<Plan, Fault<'a>> {
+) -> Result<Plan, Fault<'a>>
+    ensures devices { IfOk result (HasDevices (arc_value domain.now)) }
+{
     // One byte more, so that a script which is too long is seen to be so.
     match load_prefix(rt, input, script, LONGEST_SCRIPT as u64 + 1) {
         Ok(text) => advised_plan(rt.alloc(), domain, script, text.as_slice(), advice),
@@ -28,13 +32,16 @@ pub(crate) fn load_plan<'a, R: Files + AllocGlobal, I: Read>(
 }
 
 // The plan of the text of a script. What is advised on a fault, or on lines that will be refused, goes to the advice.
+#[tactic(auto, using(crate::proofs::Planned::has_devices))]
 fn advised_plan<'a>(
     heap: Global,
     domain: &Arc<Domain>,
     script: &'a str,
     text: &[u8],
     advice: &mut Advice,
-) -> Result<Plan, Fault<'a>> {
+) -> Result<Plan, Fault<'a>>
+    ensures devices { IfOk result (HasDevices (arc_value domain.now)) }
+{
     let plan = plan_of_bytes(heap, domain, script, text);
     match &plan {
         Ok(_) => advice.of_requests(heap, domain, script, text),

@@ -1,17 +1,26 @@
-//! The summary of a run. (docs/FORMATS.md, "Scripts".)
-ghost use Rattle.std.specs.Prelude.{◌<◌, length};
+//! The summary of a run. (docs/FORMATS.md, "Summary".) Each function that tells lines writes them unless a write before
+//! them failed.
+ghost use Rattle.std.specs.Prelude.{◌≡◌, ◌<◌, ◌+◌, IfOk, flat_map, length};
+ghost use Rattle.std.specs.List.{range_with_len};
+ghost use Rattle.sml_text.specs.Written.{Told};
+ghost use Rattle.smi_entry.specs.declared.entry.Sender.TheVariants.{Object, Operator};
+ghost use Rattle.smi_journal.specs.CallText.{spaced, state_text};
+ghost use Rattle.smi_journal.specs.EntryText.{sender_text};
+ghost use Rattle.smi_run_command.specs.Summary as says;
 
 use smi_entry::entry::Sender;
 use smi_entry::session::SessionId;
+use smi_journal::call_text::tell_object;
+use smi_journal::entry_text::{tell_number, tell_session};
 use smi_report::report::Report;
 use smi_ruled::mailboxes::MAX_SESSIONS;
 use smi_ruled::ruled::MailNames;
 use smi_shared::ending::ServeEnd;
 use sml_domain::domain::Domain;
-use sml_domain::ids::ObjId;
+use sml_domain::ids::{ObjId, StateId};
+use sml_text::decimal::tell_u64;
+use sml_text::writing::{Sink, tell};
 use std::alloc::{AllocError, Global};
-use std::io;
-use std::io::Write;
 
 // What is counted for each sender and object.
 #[derive(Clone, Copy)]
@@ -21,188 +30,285 @@ enum Group {
 }
 
 impl Group {
-    fn word(self) -> &'static str {
-        match self {
-            Group::Accepted => "accepted",
-            Group::Left => "left",
-        }
-    }
-
-    // How many requests of a session there are at an object.
-    fn of_session<D: Drop, K: MailNames>(
-        self,
-        report: &Report<D, K>,
-        session: SessionId,
-        o: ObjId,
-    ) -> usize
-        requires { o < length K.names.domain.objects }
+    fn word(self) -> &'static [u8]
+        ensures { result.now ≡ says.group_word self }
     {
         match self {
-            Group::Accepted => report.accepted(session, o).len(),
-            Group::Left => report.left_count(&Sender::Operator(session), o),
+            Group::Accepted => b"accepted",
+            Group::Left => b"left",
         }
     }
 
-    // How many requests of an object there are at another.
-    fn of_object<D: Drop, K: MailNames>(self, report: &Report<D, K>, a: ObjId, o: ObjId) -> usize
-        requires sender { a < length K.names.domain.objects }
+    // How many requests of a sender there are at an object.
+    fn count<D: Drop, K: MailNames>(self, report: &Report<D, K>, sender: &Sender, o: ObjId) -> usize
+        requires sender { says.IsCounted K.names.domain sender.now }
         requires target { o < length K.names.domain.objects }
+        ensures { result ≡ says.summed report.now self sender.now o }
     {
         match self {
-            Group::Accepted => report.posted(a, o),
-            Group::Left => report.left_count(&Sender::Object(a), o),
+            Group::Accepted => accepted(report, sender, o),
+            Group::Left => report.left_count(sender, o),
         }
+    }
+}
+
+// How many requests of a sender were accepted at an object.
+fn accepted<D: Drop, K: MailNames>(report: &Report<D, K>, sender: &Sender, o: ObjId) -> usize
+    requires sender { says.IsCounted K.names.domain sender.now }
+    requires target { o < length K.names.domain.objects }
+    ensures { result ≡ says.summed report.now Group.Accepted sender.now o }
+{
+    match sender {
+        Sender::Operator(session) => report.accepted(*session, o).len(),
+        Sender::Object(a) => report.posted(*a, o),
     }
 }
 
 // The line of the end.
-fn add_end(text: &mut Vec<u8>, end: ServeEnd) -> io::Result<()> {
-    let word = match end {
-        ServeEnd::Quiet => "Quiet",
-        ServeEnd::Limit => "Limit",
-        ServeEnd::Memory => "Memory",
-    };
-    writeln!(text, "end {word}")
-}
-
-// The line of each object's state.
-fn add_states<D: Drop, K: MailNames>(text: &mut Vec<u8>, report: &Report<D, K>) -> io::Result<()> {
-    let domain = report.domain();
-    for o in 0..domain.objects() {
-        let o = ObjId::new(o);
-        let state = domain.state_name(report.state(o));
-        if let (Some(name), Some(state)) = (domain.object_name(o), state) {
-            writeln!(text, "state {} {}", name.as_str(), state.as_str())?;
-        }
+fn tell_end<W: Sink>(text: &mut W, failed: &mut bool, end: ServeEnd)
+    ensures { Told (W.contents text.old) failed.old (W.contents text.new) failed.new (says.ending_line end) }
+{
+    match end {
+        ServeEnd::Quiet => tell(text, failed, b"end Quiet\n"),
+        ServeEnd::Limit => tell(text, failed, b"end Limit\n"),
+        ServeEnd::Memory => tell(text, failed, b"end Memory\n"),
     }
-    Ok(())
 }
 
-// The line of each object whose action is open.
-fn add_stalled<D: Drop, K: MailNames>(text: &mut Vec<u8>, report: &Report<D, K>) -> io::Result<()> {
-    let domain = report.domain();
-    for o in 0..domain.objects() {
-        let o = ObjId::new(o);
-        if !report.is_stalled(o) {
-            continue;
-        }
-        if let Some(name) = domain.object_name(o) {
-            writeln!(text, "stalled {}", name.as_str())?;
-        }
+// The name of a state, with a blank before it.
+fn tell_state<W: Sink>(text: &mut W, failed: &mut bool, domain: &Domain, s: StateId)
+    ensures { Told (W.contents text.old) failed.old (W.contents text.new) failed.new
+        (spaced (state_text domain.now s)) }
+{
+    tell(text, failed, b" ");
+    if let Some(name) = domain.state_name(s) {
+        tell(text, failed, name.as_bytes());
     }
-    Ok(())
 }
 
-// The line of a sender, which goes by its name, and an object, unless there is nothing to count.
-fn add_count(
-    text: &mut Vec<u8>,
-    domain: &Domain,
-    group: Group,
-    sender: &str,
+// The line of an object's state.
+fn tell_standing<D: Drop, K: MailNames, W: Sink>(
+    text: &mut W,
+    failed: &mut bool,
+    report: &Report<D, K>,
     o: ObjId,
-    count: usize,
-) -> io::Result<()> {
-    match domain.object_name(o) {
-        Some(name) if count > 0 => {
-            let word = group.word();
-            writeln!(text, "{word} {sender} {} {count}", name.as_str())
-        }
-        _ => Ok(()),
-    }
-}
-
-// The lines of a session's requests, by objects.
-fn add_session<D: Drop, K: MailNames>(
-    alloc: Global,
-    text: &mut Vec<u8>,
-    report: &Report<D, K>,
-    group: Group,
-    session: SessionId,
-) -> io::Result<()> {
-    let domain = report.domain();
-    let sender = format!(in alloc; "@{}", session.get())?;
-    for o in 0..domain.objects() {
-        let o = ObjId::new(o);
-        let count = group.of_session(report, session, o);
-        add_count(text, domain, group, sender.as_str(), o, count)?;
-    }
-    Ok(())
-}
-
-// The lines of an object's requests, by objects.
-fn add_object<D: Drop, K: MailNames>(
-    text: &mut Vec<u8>,
-    report: &Report<D, K>,
-    group: Group,
-    a: ObjId,
-) -> io::Result<()>
-    requires { a < length K.names.domain.objects }
+)
+    requires { o < length K.names.domain.objects }
+    ensures { Told (W.contents text.old) failed.old (W.contents text.new) failed.new
+        (says.standing_line K.names.domain report.now.journal o) }
 {
     let domain = report.domain();
-    let Some(sender) = domain.object_name(a) else {
-        return Ok(());
-    };
-    for o in 0..domain.objects() {
-        let o = ObjId::new(o);
-        let count = group.of_object(report, a, o);
-        add_count(text, domain, group, sender.as_str(), o, count)?;
-    }
-    Ok(())
+    tell(text, failed, b"state");
+    tell_object(text, failed, domain, o);
+    tell_state(text, failed, domain, report.state(o));
+    tell(text, failed, b"\n");
 }
 
-// The lines of all sessions' requests.
-fn add_sessions<D: Drop, K: MailNames>(
-    alloc: Global,
-    text: &mut Vec<u8>,
+// The lines of all objects' states.
+fn tell_states<D: Drop, K: MailNames, W: Sink>(
+    text: &mut W,
+    failed: &mut bool,
     report: &Report<D, K>,
-    group: Group,
-) -> io::Result<()> {
-    for number in 1..=MAX_SESSIONS as u8 {
-        if let Some(session) = SessionId::new(number) {
-            add_session(alloc, text, report, group, session)?;
-        }
+)
+    ensures { Told (W.contents text.old) failed.old (W.contents text.new) failed.new
+        (says.object_lines K.names.domain (says.standing_line K.names.domain report.now.journal)) }
+{
+    for o in 0..report.domain().objects() {
+        tell_standing(text, failed, report, ObjId::new(o));
     }
-    Ok(())
 }
 
-// The lines of all objects' requests.
-fn add_objects<D: Drop, K: MailNames>(
-    text: &mut Vec<u8>,
+// The line of an object, if its action is open.
+fn tell_stalled<D: Drop, K: MailNames, W: Sink>(
+    text: &mut W,
+    failed: &mut bool,
+    report: &Report<D, K>,
+    o: ObjId,
+)
+    requires { o < length K.names.domain.objects }
+    ensures { Told (W.contents text.old) failed.old (W.contents text.new) failed.new
+        (says.stalled_line K.names.domain report.now.journal o) }
+{
+    if report.is_stalled(o) {
+        tell(text, failed, b"stalled");
+        tell_object(text, failed, report.domain(), o);
+        tell(text, failed, b"\n");
+    }
+}
+
+// The lines of all objects whose action is open.
+fn tell_all_stalled<D: Drop, K: MailNames, W: Sink>(
+    text: &mut W,
+    failed: &mut bool,
+    report: &Report<D, K>,
+)
+    ensures { Told (W.contents text.old) failed.old (W.contents text.new) failed.new
+        (says.object_lines K.names.domain (says.stalled_line K.names.domain report.now.journal)) }
+{
+    for o in 0..report.domain().objects() {
+        tell_stalled(text, failed, report, ObjId::new(o));
+    }
+}
+
+// A session or an object, with a blank before it.
+fn tell_sender<W: Sink>(text: &mut W, failed: &mut bool, domain: &Domain, sender: &Sender)
+    ensures { Told (W.contents text.old) failed.old (W.contents text.new) failed.new
+        (spaced (sender_text domain.now sender.now)) }
+{
+    match sender {
+        Sender::Operator(session) => tell_session(text, failed, *session),
+        Sender::Object(a) => tell_object(text, failed, domain, *a),
+    }
+}
+
+// The line of a group for a sender and an object, unless there is nothing to count.
+fn tell_summed<D: Drop, K: MailNames, W: Sink>(
+    text: &mut W,
+    failed: &mut bool,
     report: &Report<D, K>,
     group: Group,
-) -> io::Result<()> {
+    sender: &Sender,
+    o: ObjId,
+)
+    requires sender { says.IsCounted K.names.domain sender.now }
+    requires target { o < length K.names.domain.objects }
+    ensures { Told (W.contents text.old) failed.old (W.contents text.new) failed.new
+        (says.summed_line K.names.domain report.now group sender.now o) }
+{
+    let count = group.count(report, sender, o);
+    if count == 0 {
+        return;
+    }
+    let domain = report.domain();
+    tell(text, failed, group.word());
+    tell_sender(text, failed, domain, sender);
+    tell_object(text, failed, domain, o);
+    tell_number(text, failed, count as u64);
+    tell(text, failed, b"\n");
+}
+
+// The lines of a group for a sender.
+fn tell_sent<D: Drop, K: MailNames, W: Sink>(
+    text: &mut W,
+    failed: &mut bool,
+    report: &Report<D, K>,
+    group: Group,
+    sender: &Sender,
+)
+    requires { says.IsCounted K.names.domain sender.now }
+    ensures { Told (W.contents text.old) failed.old (W.contents text.new) failed.new
+        (says.sender_lines K.names.domain report.now group sender.now) }
+{
+    for o in 0..report.domain().objects() {
+        tell_summed(text, failed, report, group, sender, ObjId::new(o));
+    }
+}
+
+// The session at a place, the first at 0.
+fn session_at(place: usize) -> SessionId
+    requires { place < MAX_SESSIONS }
+    ensures { result ≡ place + 1 }
+{
+    match SessionId::new(place as u8 + 1) {
+        Some(session) => session,
+        None => unreachable!(),
+    }
+}
+
+// The lines of a group for all sessions.
+fn tell_sessions<D: Drop, K: MailNames, W: Sink>(
+    text: &mut W,
+    failed: &mut bool,
+    report: &Report<D, K>,
+    group: Group,
+)
+    ensures { Told (W.contents text.old) failed.old (W.contents text.new) failed.new
+        (flat_map (λ k. says.sender_lines K.names.domain report.now group (Operator (k + 1)))
+        (range_with_len 0 MAX_SESSIONS)) }
+{
+    for place in 0..MAX_SESSIONS {
+        tell_sent(
+            text,
+            failed,
+            report,
+            group,
+            &Sender::Operator(session_at(place)),
+        );
+    }
+}
+
+// The lines of a group for all objects.
+fn tell_objects<D: Drop, K: MailNames, W: Sink>(
+    text: &mut W,
+    failed: &mut bool,
+    report: &Report<D, K>,
+    group: Group,
+)
+    ensures { Told (W.contents text.old) failed.old (W.contents text.new) failed.new
+        (says.object_lines K.names.domain (λ a. says.sender_lines K.names.domain report.now group (Object a))) }
+{
     for a in 0..report.domain().objects() {
-        add_object(text, report, group, ObjId::new(a))?;
+        tell_sent(text, failed, report, group, &Sender::Object(ObjId::new(a)));
     }
-    Ok(())
 }
 
-// The line of each session of which lines were refused.
-fn add_refused(text: &mut Vec<u8>, refused: &[u64]) -> io::Result<()> {
-    for (k, count) in refused.iter().enumerate() {
-        if *count > 0 {
-            writeln!(text, "refused @{} {count}", k.wrapping_add(1))?;
-        }
+// The lines of a group.
+fn tell_group<D: Drop, K: MailNames, W: Sink>(
+    text: &mut W,
+    failed: &mut bool,
+    report: &Report<D, K>,
+    group: Group,
+)
+    ensures { Told (W.contents text.old) failed.old (W.contents text.new) failed.new
+        (says.group_lines K.names.domain report.now group) }
+{
+    tell_sessions(text, failed, report, group);
+    tell_objects(text, failed, report, group);
+}
+
+// The line of a session's refused lines, unless there are none.
+fn tell_refused<W: Sink>(text: &mut W, failed: &mut bool, refused: &[u64], place: usize)
+    requires { place < length refused.now }
+    ensures { Told (W.contents text.old) failed.old (W.contents text.new) failed.new
+        (says.refused_line refused.now place) }
+{
+    let count = refused[place];
+    if count == 0 {
+        return;
     }
-    Ok(())
+    tell(text, failed, b"refused @");
+    tell_u64(text, failed, place as u64 + 1);
+    tell_number(text, failed, count);
+    tell(text, failed, b"\n");
+}
+
+// The lines of all sessions' refused lines.
+fn tell_all_refused<W: Sink>(text: &mut W, failed: &mut bool, refused: &[u64])
+    ensures { Told (W.contents text.old) failed.old (W.contents text.new) failed.new
+        (flat_map (says.refused_line refused.now) (range_with_len 0 (length refused.now))) }
+{
+    for place in 0..refused.len() {
+        tell_refused(text, failed, refused, place);
+    }
 }
 
 // All lines in their order.
-fn add_all<D: Drop, K: MailNames>(
-    alloc: Global,
-    text: &mut Vec<u8>,
+fn tell_all<D: Drop, K: MailNames, W: Sink>(
+    text: &mut W,
+    failed: &mut bool,
     report: &Report<D, K>,
     end: ServeEnd,
     refused: &[u64],
-) -> io::Result<()> {
-    add_end(text, end)?;
-    add_states(text, report)?;
-    add_stalled(text, report)?;
-    for group in [Group::Accepted, Group::Left] {
-        add_sessions(alloc, text, report, group)?;
-        add_objects(text, report, group)?;
-    }
-    add_refused(text, refused)
+)
+    ensures { Told (W.contents text.old) failed.old (W.contents text.new) failed.new
+        (says.summary_text K.names.domain report.now end refused.now) }
+{
+    tell_end(text, failed, end);
+    tell_states(text, failed, report);
+    tell_all_stalled(text, failed, report);
+    tell_group(text, failed, report, Group::Accepted);
+    tell_group(text, failed, report, Group::Left);
+    tell_all_refused(text, failed, refused);
 }
 
 /// The text of the summary of a run: its end, each object's state, the objects that are stalled, how many requests of
@@ -215,10 +321,11 @@ pub fn summary_of<D: Drop, K: MailNames>(
     report: &Report<D, K>,
     end: ServeEnd,
     refused: &[u64],
-) -> Result<Vec<u8>, AllocError> {
+) -> Result<Vec<u8>, AllocError>
+    ensures { IfOk result (λ text. text.items ≡ says.summary_text K.names.domain report.now end refused.now) }
+{
     let mut text = Vec::new(alloc);
-    match add_all(alloc, &mut text, report, end, refused) {
-        Ok(()) => Ok(text),
-        Err(_) => Err(AllocError),
-    }
+    let mut failed = false;
+    tell_all(&mut text, &mut failed, report, end, refused);
+    if failed { Err(AllocError) } else { Ok(text) }
 }

@@ -1,5 +1,14 @@
+use Rattle.std.proofs.Common.{List, subst, sym}
+use Rattle.smi_entry.specs.declared.entry.Entry.{Entry}
+use Rattle.smi_report.specs.declared.told.Receipt.{Receipt}
+use Rattle.smi_run_command.specs.Told.{AreUnmet}
+use Rattle.smi_run_command.proofs.Receipts.{none_met}
 use Rattle.smi_run_command.proofs.running.run_over.Goals as goal
 
--- nothing was sent by ends that were just made
-pub open-requires-clause-unused : goal.open-requires-clause-unused
-open-requires-clause-unused g c κs within k e at = (c.in-Ok.ensures.ends k e at).1
+-- the receipts that were looked for in the report's journal, which is that of the outcome
+pub returns-in-Ok-clause-unmet : goal.returns-in-Ok-clause-unmet
+returns-in-Ok-clause-unmet g c =
+    let o = c.in_ok-outcome_of-in-Ok.ensures in
+    let past = c.in-Ok.report.journal in
+    subst (λ (later : List Entry). AreUnmet later c.in_ok-outcome_of-in-Ok.field-0.unmet.items) (sym o.journal)
+    (subst (λ (rs : List Receipt). AreUnmet past rs) (sym o.unmet) (none_met past c.in-Ok.report.unmet))

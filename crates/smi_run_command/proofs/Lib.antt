@@ -1,0 +1,4 @@
+mod Openings
+mod Planned
+mod Lines
+mod Receipts
