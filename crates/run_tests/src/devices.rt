@@ -36,8 +36,8 @@ impl Supply {
     }
 }
 
-// The state after an action.
-fn state_after(action: usize) -> Option<usize> {
+/// The state after an action.
+pub fn state_after(action: usize) -> Option<usize> {
     match action {
         SWITCH_ON => Some(ON),
         SWITCH_OFF => Some(OFF),

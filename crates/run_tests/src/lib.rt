@@ -14,6 +14,14 @@ mod reports;
 #[cfg(test)]
 mod runs;
 #[cfg(test)]
+mod staged_tests;
+#[cfg(test)]
+mod stages;
+#[cfg(test)]
 mod tests;
 #[cfg(test)]
 mod texts;
+#[cfg(test)]
+mod two_names;
+#[cfg(test)]
+mod valves;

@@ -211,6 +211,21 @@ fn misses<K: MailNames, R: Wait + Copy + Send>(
     }
 }
 
+// Whether a report is refused while both sessions are missing, and all comes back; and then as `misses` says.
+fn misses_both<K: MailNames, R: Wait + Copy + Send>(
+    rt: &R,
+    alloc: Global,
+    runtime: Runtime<R, K, Supply>,
+    sessions: Vec<Session<K>>,
+) -> bool {
+    match runtime.finish(alloc, Vec::new(alloc)) {
+        Err((FinishError::Missing, runtime, closed)) => {
+            closed.is_empty() && misses(rt, alloc, runtime, sessions)
+        }
+        _ => false,
+    }
+}
+
 // A runtime of the supplies and its sessions, to which something is done.
 fn with_runtime<K: MailNames, R: Wait + Copy + Send>(
     rt: R,
@@ -240,7 +255,7 @@ fn with_runtime<K: MailNames, R: Wait + Copy + Send>(
     };
     match case {
         Some(case) => goes(&rt, alloc, runtime, sessions, case),
-        None => misses(&rt, alloc, runtime, sessions),
+        None => misses_both(&rt, alloc, runtime, sessions),
     }
 }
 
@@ -267,7 +282,7 @@ pub fn answers<R: Wait + Copy + Send + Drop>(rt: R, alloc: Global, case: Case) -
     with_sessions(rt, alloc, 1, Some(case))
 }
 
-/// Whether a report is refused while one of two sessions is missing.
-pub fn misses_one<R: Wait + Copy + Send + Drop>(rt: R, alloc: Global) -> bool {
+/// Whether a report is refused while both sessions are missing, and while one is.
+pub fn misses_any<R: Wait + Copy + Send + Drop>(rt: R, alloc: Global) -> bool {
     with_sessions(rt, alloc, 2, None)
 }

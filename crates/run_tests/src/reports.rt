@@ -254,10 +254,10 @@ pub fn is_all_answered<K: MailNames>(
 }
 
 /// Whether the journal of a report is legal, as the judge reads its text.
-pub fn is_judged<K: MailNames>(
+pub fn is_judged<D: Drop, K: MailNames>(
     alloc: Global,
     domain: Arc<Domain>,
-    report: &Report<Supply, K>,
+    report: &Report<D, K>,
 ) -> bool {
     let mut text = Vec::new(alloc);
     if write_journal(&domain, report.journal(), &mut text).is_err() {

@@ -1,13 +1,14 @@
 //! Runs of two supplies and what switches them on.
 
 use crate::late::drops_late_answers;
-use crate::one_by_one::{Asked, Case, Ended, NONE, answers, misses_one};
+use crate::one_by_one::{Asked, Case, Ended, NONE, answers, misses_any};
 use crate::openings::refuses;
 use crate::reports::Wanted;
 use crate::runs::{Act, Run, goes};
 use crate::texts::{
     CONFIGURE, DEAD, EMPTY, FIRST, NOT_READY, OFF, ON, READY, RUN, SECOND, SUPPLIES, SWITCH_ON,
 };
+use crate::two_names::finishes_two;
 use smi_run::errors::{KillError, OpenError, PostError};
 use smi_run::opening::Config;
 use smi_shared::ending::ServeEnd;
@@ -307,7 +308,12 @@ fn progress_at_limit(rt: HostRuntime) {
 
 #[test]
 fn finish_missing(rt: HostRuntime) {
-    assert!(rt; misses_one(rt, rt.alloc()));
+    assert!(rt; misses_any(rt, rt.alloc()));
+}
+
+#[test]
+fn two_names(rt: HostRuntime) {
+    assert!(rt; finishes_two(rt, rt.alloc()));
 }
 
 const fn numbers(workers: usize, max_starts: usize) -> Config {

@@ -25,6 +25,22 @@ object: RUN is_of_class RUN_TYPE
 objectset: HV { HV1, HV2 }
 ";
 
+/// Eight supplies.
+pub const EIGHT: &[u8] = b"class: SUPPLY /associated
+  state: OFF /initial_state
+    action: SWITCH_ON
+  state: ON
+    action: SWITCH_OFF
+object: HV1 is_of_class SUPPLY
+object: HV2 is_of_class SUPPLY
+object: HV3 is_of_class SUPPLY
+object: HV4 is_of_class SUPPLY
+object: HV5 is_of_class SUPPLY
+object: HV6 is_of_class SUPPLY
+object: HV7 is_of_class SUPPLY
+object: HV8 is_of_class SUPPLY
+";
+
 /// The first supply.
 pub const FIRST: usize = 0;
 

@@ -1,8 +1,8 @@
 -- What was told, what the mailboxes held and the journal, put together.
-use Rattle.std.proofs.Common.{◌≡◌, ◌<◌, ◌+◌, ◌++◌, ◌∷◌, ℕ, zero, suc, List, [], length, map, get_or, Bool, true, false, cond, refl, sym, ap, ◌∙◌, subst}
+use Rattle.std.proofs.Common.{◌≡◌, ◌<◌, ◌≤◌, ◌+◌, ◌++◌, ◌∷◌, ℕ, zero, suc, List, [], length, map, get_or, Bool, true, false, cond, refl, sym, ap, ◌∙◌, subst}
 use Rattle.std.specs.Prelude.{Vec}
 use Rattle.std.specs.Global.{Global}
-use Rattle.std.proofs.lemmas.List.{map-append, get_or-map}
+use Rattle.std.proofs.lemmas.List.{map-append, get_or-map, get_or_past, length-map}
 use Rattle.std.proofs.lemmas.Option.{get_or_from_slice_get, slice_get_within}
 use Rattle.sml_domain.specs.Domain.{Domain}
 use Rattle.smi_entry.specs.declared.entry.Sender.{Sender}
@@ -99,6 +99,10 @@ module _ (d : Domain) (n : ℕ) (ends : List OperatorSide) (accepted : List (Vec
         ∙ ap (λ j. letters_from (Operator j) taken ++ letters_from (Operator j) left) t.session in
         ap (map (told_request (k + 1))) (told_is k o lt ∙ ap (map accepted_of) own) ∙ told_twice (k + 1) taken left
         ∙ split (Operator (k + 1)) o lt';
+    untold = λ k o le.
+        ap (λ (l : List (List Accepted)). get_or l o [])
+        (get_or_past all k [] (subst (λ (m : ℕ). m ≤ k) (sym (length-map accepted _ ∙ told.wide)) le));
+    settled = λ s o lt. ap requests_in (closed.settled s o lt) ∙ split s o lt;
     objects_sent = λ a o lt lt'.
         closed.posts a o lt lt' ∙ ap requests_in (closed.settled (Object a) o lt') ∙ split (Object a) o lt';
     taken = λ o lt. sym (closed.starts o lt);

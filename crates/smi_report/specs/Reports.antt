@@ -1,5 +1,5 @@
 -- What a report shows.
-use Rattle.std.specs.Prelude.{◌≡◌, ◌<◌, ◌+◌, ◌++◌, ℕ, List, length, map}
+use Rattle.std.specs.Prelude.{◌≡◌, ◌<◌, ◌≤◌, ◌+◌, ◌++◌, ℕ, List, [], length, map}
 use Rattle.std.specs.List.{filter, range_with_len}
 use Rattle.sml_domain.specs.Domain.{Domain}
 use Rattle.sml_domain.specs.Lookups.{associated_at}
@@ -33,13 +33,17 @@ abbrev pub device_count : Domain → ℕ
 device_count d = length (filter (associated_at d) (range_with_len 0 (length d.objects)))
 
 -- What each session was told is accepted at an object is what was started of it there, followed by what is left of
--- it; so is what each object posted there. What was started is what was taken out of the mailbox, what objects posted
--- is what they sent, and the journal is legal.
+-- it; so is what each object posted there. Sessions that the run does not have were told nothing. What the mailbox has
+-- of any sender is what was started of it, followed by what is left of it. What was started is what was taken out of
+-- the mailbox, what objects posted is what they sent, and the journal is legal.
 pub record IsFinalReport (d : Domain) (sessions : ℕ) (J : List Entry) (accepted : List (List (List Accepted)))
     (end : List Final) : Type 0 where
   pub operators : (k o : ℕ) → k < sessions → o < length d.objects →
       map (told_request (k + 1)) (accepted_in accepted k o)
       ≡ from_sender (Operator (k + 1)) (starts_at o J) ++ left_from end (Operator (k + 1)) o
+  pub untold : (k o : ℕ) → sessions ≤ k → accepted_in accepted k o ≡ []
+  pub settled : (s : Sender) (o : ℕ) → o < length d.objects →
+      requests_in (final_sent end s o) ≡ from_sender s (starts_at o J) ++ left_from end s o
   pub objects_sent : (a o : ℕ) → a < length d.objects → o < length d.objects →
       posts_between a o J ≡ from_sender (Object a) (starts_at o J) ++ left_from end (Object a) o
   pub taken : (o : ℕ) → o < length d.objects → requests_in (final_at end o).taken ≡ starts_at o J

@@ -1,4 +1,4 @@
 mod Accepting
-mod Counting
+mod Count
 mod Places
 mod Refusing

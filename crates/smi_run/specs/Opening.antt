@@ -1,6 +1,8 @@
 -- How runtimes are opened.
-use Rattle.std.specs.Prelude.{◌≡◌, ◌≤◌, ◌∷◌, ◌==◌, ◌&&◌, not, nat_le, ℕ, Bool, false, List, [], Option, Some, None}
+use Rattle.std.specs.Prelude.{◌≡◌, ◌≤◌, ◌∷◌, ◌==◌, ◌&&◌, not, nat_le, ℕ, Bool, false, List, [], Option, Some, None, length, map}
+use Rattle.std.specs.List.{filter, range_with_len}
 use Rattle.sml_domain.specs.Domain.{Domain}
+use Rattle.sml_domain.specs.Lookups.{associated_at}
 use Rattle.smi_entry.specs.Refusals.{first_standing}
 use Rattle.smi_report.specs.Reports.{device_count}
 use Rattle.smi_run.specs.declared.errors.OpenError.{OpenError}
@@ -32,3 +34,11 @@ abbrev pub IsOpenError : Option OpenError → OpenError → Type 0
 IsOpenError found BadConfig = found ≡ Some BadConfig
 IsOpenError found DeviceCount = found ≡ Some DeviceCount
 IsOpenError found Memory = found ≡ None
+
+-- the place of an object's device: how many objects before it have devices
+abbrev pub device_place : Domain → ℕ → ℕ
+device_place d o = length (filter (associated_at d) (range_with_len 0 o))
+
+-- the places of all
+abbrev pub device_places : Domain → List ℕ
+device_places d = map (device_place d) (range_with_len 0 (length d.objects))

@@ -6,7 +6,7 @@ ghost use Rattle.smi_entry.specs.declared.entry.Sender.{Sender};
 ghost use Rattle.smi_ruled.specs.Drains.{AreAllEnds};
 ghost use Rattle.smi_ruled.specs.Mails.{requests_taken, requests_sent};
 ghost use Rattle.smi_report.specs.Reports.{device_count};
-ghost use Rattle.smi_run.specs.Opening.{IsOpenError, are_run_numbers, open_refusal};
+ghost use Rattle.smi_run.specs.Opening.{IsOpenError, are_run_numbers, device_places, open_refusal};
 ghost use Rattle.smi_run.specs.Sessions.{AreEmptyRows, AreSessionsOf, AreUnused};
 
 use crate::errors::OpenError;
@@ -15,6 +15,7 @@ use crate::session::Session;
 use smi_board::board::Board;
 use smi_report::told::Accepted;
 use smi_ruled::ruled::{MailNames, OperatorEnd, RuledMail};
+use smi_shared::crew::{Crew, first_slowness};
 use smi_shared::shared::Shared;
 use sml_domain::domain::Domain;
 use sml_domain::ids::ObjId;
@@ -96,7 +97,7 @@ fn make_sessions<K: MailNames>(
 }
 
 // How many objects have devices.
-#[tactic(auto, using(crate::proofs::Counting::one_more, crate::proofs::Counting::none_more))]
+#[tactic(auto, using(crate::proofs::Count::one_more, crate::proofs::Count::none_more))]
 fn count_devices(domain: &Domain) -> usize
     ensures { result ≡ device_count domain.now }
 {
@@ -110,16 +111,28 @@ fn count_devices(domain: &Domain) -> usize
 }
 
 // For each object how many of those before it have devices: the place of its own, where it has one.
-fn device_places(alloc: Global, domain: &Domain) -> Result<Vec<usize>, AllocError> {
+#[tactic(auto, using(crate::proofs::Count::one_more, crate::proofs::Count::none_more, crate::proofs::Count::one_place))]
+fn device_places(alloc: Global, domain: &Domain) -> Result<Vec<usize>, AllocError>
+    ensures { IfOk result (λ v. v.items ≡ device_places domain.now) }
+{
     let mut places = Vec::with_capacity(alloc, domain.objects())?;
     let mut count = 0usize;
     for o in 0..domain.objects() {
         places.push(count)?;
         if domain.associated(ObjId::new(o)) {
-            count = count.saturating_add(1);
+            count += 1;
         }
     }
     Ok(places)
+}
+
+// How slow each object is held to be at first.
+fn first_slownesses(alloc: Global, domain: &Domain) -> Result<Vec<u8>, AllocError> {
+    let mut list = Vec::with_capacity(alloc, domain.objects())?;
+    for o in 0..domain.objects() {
+        list.push(first_slowness(domain.associated(ObjId::new(o))))?;
+    }
+    Ok(list)
 }
 
 // Each device under a lock of its own.
@@ -139,6 +152,7 @@ struct OpenRoom<D: Drop, K: MailNames> {
     rows: Vec<Vec<Vec<Accepted>>>,
     sessions: Vec<Session<K>>,
     places: Vec<usize>,
+    slowness: Vec<u8>,
     locks: Vec<Mutex<D>>,
     domain: Arc<Domain>,
 }
@@ -154,19 +168,41 @@ fn grow<D: Drop, K: MailNames>(
     ensures sessions { IfOk result (λ r. (r.sessions.items ≡ []) × (sessions ≤ vec_capacity r.sessions)) }
     ensures locks { IfOk result (λ r. (r.locks.items ≡ []) × (devices ≤ vec_capacity r.locks)) }
     ensures domain { IfOk result (λ r. arc_value r.domain ≡ arc_value domain.now) }
+    ensures places { IfOk result (λ r. r.places.items ≡ device_places (arc_value domain.now)) }
 {
     let rows = new_rows(alloc, sessions, domain.objects())?;
     let sessions = Vec::with_capacity(alloc, sessions)?;
     let places = device_places(alloc, domain)?;
+    let slowness = first_slownesses(alloc, domain)?;
     let locks = Vec::with_capacity(alloc, devices)?;
     let domain = Arc::try_clone(domain)?;
     Ok(OpenRoom {
         rows,
         sessions,
         places,
+        slowness,
         locks,
         domain,
     })
+}
+
+// The board of a run, which starts as many requests as the numbers of the run say.
+fn new_board<R: Wait + Copy + Send, K: MailNames>(
+    alloc: Global,
+    domain: Arc<Domain>,
+    mail: RuledMail<R, K>,
+    config: Config,
+) -> Result<Board<RuledMail<R, K>>, RuledMail<R, K>>
+    requires domain { arc_value domain ≡ K.names.domain }
+    requires taken { (o : ℕ) → requests_taken mail o ≡ [] }
+    requires sent { (s : Sender) (o : ℕ) → requests_sent mail s o ≡ [] }
+    ensures most { IfOk result (λ b. b.most ≡ config.max_starts) }
+    ensures back { IfErr result (λ m. m ≡ mail) }
+{
+    match Board::new(alloc, domain, mail, config.max_starts) {
+        Ok(board) => Ok(board),
+        Err((_, mail)) => Err(mail),
+    }
 }
 
 impl<R: Wait + Copy + Send, K: MailNames, D: Drop> Runtime<R, K, D> {
@@ -207,20 +243,21 @@ impl<R: Wait + Copy + Send, K: MailNames, D: Drop> Runtime<R, K, D> {
             Ok(room) => room,
             Err(_) => return Err((OpenError::Memory, mail, ends, devices)),
         };
-        let board = match Board::new(alloc, domain, mail, config.max_starts) {
+        let board = match new_board(alloc, domain, mail, config) {
             Ok(board) => board,
-            Err((_, mail)) => return Err((OpenError::Memory, mail, ends, devices)),
+            Err(mail) => return Err((OpenError::Memory, mail, ends, devices)),
         };
         let OpenRoom {
             rows,
             sessions,
             places,
+            slowness,
             locks,
             domain,
         } = room;
         let sessions = make_sessions(alloc, ends, rows, sessions);
         let runtime = Runtime {
-            shared: Mutex::new(Shared::new(board, count)),
+            shared: Mutex::new(Shared::new(board, count, Crew::new(slowness))),
             changed: Condvar::new(),
             devices: lock_devices(devices, locks),
             places,

@@ -1,5 +1,6 @@
 //! Workers over a board under a lock.
-ghost use Rattle.std.specs.Prelude.{◌≡◌, ◌<◌, IfSome, length};
+ghost use Rattle.std.specs.Prelude.{◌≡◌, ◌<◌, IfSome, length, slice_get};
+ghost use Rattle.smi_run.specs.Opening.{device_places};
 ghost use Rattle.sml_domain.specs.Lookups.{object_named};
 
 use crate::opening::Config;
@@ -8,23 +9,26 @@ use smi_board::errors::KillError;
 use smi_board::starting::Started;
 use smi_entry::session::SessionId;
 use smi_ruled::ruled::MailNames;
+use smi_shared::crew::{Notify, Trip, Watch};
 use smi_shared::device::{Device, DeviceFault};
 use smi_shared::ending::ServeEnd;
 use smi_shared::job::{Job, make_moves};
 use smi_shared::progress::{Progress, Tally};
+use smi_shared::resting::Pause;
 use smi_shared::shared::Shared;
 use sml_domain::domain::Domain;
 use sml_domain::ids::{ObjId, StateId};
 use sml_tree::name::Name;
 use std::marker::Model;
 use std::sync::{Arc, Condvar, Mutex, MutexGuard, Wait};
+use std::time::Duration;
 
 /// A board that workers and sessions share under one lock, with the devices of its objects. Contracts see its
 /// numbers; of what the lock holds they say what `Shared::keeps` says.
 #[derive(Drop)]
 pub struct Runtime<R: Wait + Copy + Send, K: MailNames, D> {
     pub(crate) shared: Mutex<Shared<R, K>>,
-    // Told where an idle worker could do something, and where all is over.
+    // Notified where a worker that waits could do something, and where all is over.
     pub(crate) changed: Condvar,
     pub(crate) devices: Vec<Mutex<D>>,
     // The place of each object's device.
@@ -39,13 +43,15 @@ impl<R: Wait + Copy + Send, K: MailNames, D> Model for Runtime<R, K, D> {
     ghost use Rattle.std.specs.Arc.{arc_value};
     ghost use Rattle.smi_report.specs.Reports.{device_count};
     ghost use Rattle.smi_run.specs.declared.opening.Config.{Config as Numbers};
+    ghost use Rattle.smi_run.specs.Opening.{device_places};
 
     ghost Value = { Numbers };
 
     ghost view = { λ r. r.config };
 
     ghost invariant = { λ r. (arc_value r.domain ≡ K.names.domain) × (r.sessions ≡ K.names.sessions)
-        × (length r.devices.items ≡ device_count K.names.domain) };
+        × (length r.devices.items ≡ device_count K.names.domain)
+        × (r.places.items ≡ device_places K.names.domain) };
 }
 
 impl<R: Wait + Copy + Send, K: MailNames, D> Runtime<R, K, D> {
@@ -78,32 +84,85 @@ impl<R: Wait + Copy + Send, K: MailNames, D> Runtime<R, K, D> {
         self.shared.lock(rt).dead_at(o)
     }
 
-    // Lets go of the lock. Where a worker that waits and was not told could do something, it is told.
-    //
-    // No wake-up is lost: a worker is counted as waiting before it lets go of the lock to sleep, and each that counts
-    // as told ends a sleep. One that wakes by itself is still counted, so too many may be told, but never too few.
-    fn let_go(&self, mut shared: MutexGuard<'_, Shared<R, K>>) {
-        let is_wanted = shared.is_wanted();
-        drop(shared);
-        if is_wanted {
-            self.changed.notify_one();
+    // Notifies whom the lock's last holder said, once the lock is free. That no wake-up is lost is said at the head of
+    // `smi_shared::crew`.
+    fn notify(&self, whom: Notify) {
+        match whom {
+            Notify::Nobody => {}
+            Notify::One => self.changed.notify_one(),
+            Notify::All => self.changed.notify_all(),
         }
     }
 
-    // Lets go of the lock, and tells all workers that wait.
-    fn tell_all(&self, mut shared: MutexGuard<'_, Shared<R, K>>) {
-        shared.clear_idle();
+    // A worker lets go of the lock for something that it does for an object.
+    fn go_out(&self, mut shared: MutexGuard<'_, Shared<R, K>>, object: usize) -> Trip {
+        let (trip, whom) = shared.go_out(object);
         drop(shared);
-        self.changed.notify_all();
+        self.notify(whom);
+        trip
     }
 
-    // A session kills an object. A suspended action may go on for it.
+    // A worker takes the lock again. Tells whether it may be one too many.
+    fn come_back(&self, rt: &R, trip: Trip) -> (MutexGuard<'_, Shared<R, K>>, bool) {
+        if let Some(mut shared) = self.shared.try_lock() {
+            let is_spare = shared.come_back(trip, false);
+            return (shared, is_spare);
+        }
+        let mut shared = self.shared.lock(rt);
+        let is_spare = shared.come_back(trip, true);
+        (shared, is_spare)
+    }
+
+    // A worker that is not at work lets go of the lock and sleeps, until it is notified or, as the guard, for a while.
+    fn sleep<'a>(
+        &'a self,
+        rt: &R,
+        shared: MutexGuard<'a, Shared<R, K>>,
+        watch: &Watch,
+    ) -> MutexGuard<'a, Shared<R, K>> {
+        let Some(micros) = watch.micros() else {
+            return self.changed.wait(rt, shared);
+        };
+        // Read under the lock: a notification between the lock and the sleep ends the sleep.
+        let seen = self.changed.notifications();
+        drop(shared);
+        self.changed.sleep(rt, seen, Duration::from_micros(micros));
+        self.shared.lock(rt)
+    }
+
+    // A worker that is not at work waits until it is to begin, or all is over.
+    fn rest<'a>(
+        &'a self,
+        rt: &R,
+        shared: MutexGuard<'a, Shared<R, K>>,
+    ) -> Result<MutexGuard<'a, Shared<R, K>>, ServeEnd> {
+        let mut shared = shared;
+        let mut watch = Watch::new();
+        for _ in rt.forever() {
+            match shared.rest(watch) {
+                Pause::Over { end, notify } => {
+                    drop(shared);
+                    self.notify(notify);
+                    return Err(end);
+                }
+                Pause::Begin => return Ok(shared),
+                Pause::Sleep(next) => {
+                    shared = self.sleep(rt, shared, &next);
+                    watch = shared.look(next);
+                }
+            }
+        }
+        unreachable!()
+    }
+
+    // A session kills an object.
     pub(crate) fn kill(&self, rt: &R, o: ObjId, session: SessionId) -> Result<u64, KillError>
         requires { o < length K.names.domain.objects }
     {
         let mut shared = self.shared.lock(rt);
-        let killed = shared.kill(o, session);
-        self.let_go(shared);
+        let (killed, whom) = shared.kill(o, session);
+        drop(shared);
+        self.notify(whom);
         killed
     }
 
@@ -112,8 +171,9 @@ impl<R: Wait + Copy + Send, K: MailNames, D> Runtime<R, K, D> {
         requires { o < length K.names.domain.objects }
     {
         let mut shared = self.shared.lock(rt);
-        shared.wake(o);
-        self.let_go(shared);
+        let whom = shared.wake(o);
+        drop(shared);
+        self.notify(whom);
     }
 
     /// How far the run is, as `Shared::progress` says. It takes the board's lock once.
@@ -129,23 +189,33 @@ impl<R: Wait + Copy + Send, K: MailNames, D> Runtime<R, K, D> {
         ensures { result ≡ session }
     {
         let mut shared = self.shared.lock(rt);
-        if shared.leave() {
-            self.tell_all(shared);
-        }
+        let whom = shared.leave();
+        drop(shared);
+        self.notify(whom);
         Closed { session }
     }
 }
 
 impl<R: Wait + Copy + Send, K: MailNames, D: Device> Runtime<R, K, D> {
+    // The place of an object's device.
+    fn place(&self, object: usize) -> Option<usize>
+        ensures { result ≡ slice_get (device_places K.names.domain) object }
+    {
+        match self.places.get(object) {
+            Some(place) => Some(*place),
+            None => None,
+        }
+    }
+
     // A device performs what was started at its object, outside the board's lock. An object without one has a fault.
     fn perform(&self, rt: &R, object: usize, started: &Started) -> Result<StateId, DeviceFault> {
         let Started::Perform { action, args } = started else {
             return Err(DeviceFault);
         };
-        let Some(place) = self.places.get(object) else {
+        let Some(place) = self.place(object) else {
             return Err(DeviceFault);
         };
-        let Some(device) = self.devices.get(*place) else {
+        let Some(device) = self.devices.get(place) else {
             return Err(DeviceFault);
         };
         device.lock(rt).perform(rt, *action, args)
@@ -155,40 +225,49 @@ impl<R: Wait + Copy + Send, K: MailNames, D: Device> Runtime<R, K, D> {
     /// does it. The moves of a task up to one that asks the board for something are made outside the lock, and so are
     /// calls of devices.
     ///
-    /// It ends as `ServeEnd` says, and waits where nothing can be done and not all is over: for sessions that have
-    /// not left, and for what other workers have in hand. Whoever leaves the lock while there is something that a
-    /// waiting worker could do tells one, and none twice; the last session that leaves and a worker that ends tell
-    /// all.
+    /// It ends as `ServeEnd` says. It waits where nothing can be done and not all is over, for sessions that have not
+    /// left and for what other workers have in hand, and where another is at work that will do in a moment what there
+    /// is. A session that is let go without `leave` keeps the workers waiting for ever.
+    ///
+    /// Whoever lets go of the lock notifies a worker that waits where something can be done and nobody does it; one of
+    /// those that wait looks now and then whether those at work get on. The last session that leaves and a worker that
+    /// ends notify all. (`smi_shared::crew` has the rules.)
     pub fn serve(&self, rt: &R) -> ServeEnd {
-        let mut shared = self.shared.lock(rt);
-        let mut job = shared.next_job();
+        let mut shared = match self.rest(rt, self.shared.lock(rt)) {
+            Ok(shared) => shared,
+            Err(end) => return end,
+        };
+        let mut is_spare = false;
+        let mut job = Job::Again;
         for _ in rt.forever() {
             match job {
-                Job::Again => job = shared.next_job(),
+                Job::Again => job = shared.job_after(is_spare),
                 Job::Move(mut task) => {
-                    self.let_go(shared);
+                    let trip = self.go_out(shared, task.turn().object.get());
                     let is_moved = make_moves(rt, &mut task);
-                    shared = self.shared.lock(rt);
+                    (shared, is_spare) = self.come_back(rt, trip);
                     job = shared.contact(task, is_moved);
                 }
                 Job::Perform { object, started } => {
-                    self.let_go(shared);
+                    let trip = self.go_out(shared, object);
                     let answer = self.perform(rt, object, &started);
-                    shared = self.shared.lock(rt);
+                    (shared, is_spare) = self.come_back(rt, trip);
                     shared.answered(object, answer);
-                    job = shared.next_job();
+                    job = Job::Again;
                 }
                 Job::Rest => {
-                    if let Some(end) = shared.ended() {
-                        self.tell_all(shared);
-                        return end;
-                    }
-                    shared.add_idle();
-                    shared = self.changed.wait(rt, shared);
-                    job = shared.next_job();
+                    shared.stop();
+                    shared = match self.rest(rt, shared) {
+                        Ok(shared) => shared,
+                        Err(end) => return end,
+                    };
+                    is_spare = false;
+                    job = Job::Again;
                 }
                 Job::Memory => {
-                    self.tell_all(shared);
+                    let whom = shared.give_up();
+                    drop(shared);
+                    self.notify(whom);
                     return ServeEnd::Memory;
                 }
             }

@@ -19,7 +19,8 @@ use std::marker::Model;
 use std::sync::Wait;
 
 /// A session under way: what it was told is accepted, and what it was told of kills. It is of the runtime whose
-/// mailboxes `K` names, and of no other.
+/// mailboxes `K` names, and of no other. One that is let go without `Runtime::leave` keeps the workers waiting for
+/// ever.
 #[derive(Drop)]
 pub struct Session<K: MailNames> {
     pub(crate) end: OperatorEnd<K>,

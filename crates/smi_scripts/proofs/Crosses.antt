@@ -31,6 +31,7 @@ use Rattle.smi_interp.proofs.cursor.Place.TheSendSync as place
 use Rattle.smi_ruled.proofs.ruled.RuledMail.TheSendSync as ruled
 use Rattle.smi_board.proofs.params.Params.TheSendSync as params
 use Rattle.smi_board.proofs.ring.Ring.TheSendSync as ring
+use Rattle.smi_shared.proofs.crew.Crew.TheSendSync as crew
 use Rattle.smi_run.specs.contracts.runtime.Runtime as Runtime
 use Rattle.smi_run.proofs.opening.Config.TheSendSync as config
 
@@ -72,10 +73,10 @@ board_send M g s = search (task_send, ledger_send, domain_send, domain_sync, par
 module _ (R K : RattleType) (w : Wait.Ghosts R.Denot) (c : Clone.Ghosts R.Denot) (n : MailNames.Ghosts K.Denot) (r : IsSend R) where
   -- what the lock holds
   shared_send : IsSend (Shared.the_row R K w c n)
-  shared_send = let m = ruled.the_send R K n r in search (board_send, sendable, crosses) depth 40 fits 20000
+  shared_send = let m = ruled.the_send R K n r in search (board_send, crew.the_send, sendable, crosses) depth 40 fits 20000
 
   shared_field_send : IsSend (Shared.the_field R K w c n).row
-  shared_field_send = let m = ruled.the_send R K n r in search (board_send, sendable, crosses) depth 40 fits 20000
+  shared_field_send = let m = ruled.the_send R K n r in search (board_send, crew.the_send, sendable, crosses) depth 40 fits 20000
 
   -- what workers and sessions share
   pub runtime_sync : (D : RattleType) → IsSend D → IsSync (Runtime.the_row R K D w c n)

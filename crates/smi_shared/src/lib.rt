@@ -2,8 +2,10 @@
 //! "Threads".)
 #![tactic(auto)]
 
+pub mod crew;
 pub mod device;
 pub mod ending;
 pub mod job;
 pub mod progress;
+pub mod resting;
 pub mod shared;

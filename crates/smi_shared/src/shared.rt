@@ -1,15 +1,19 @@
 //! What the lock holds: a board over mailboxes that threads share, and who is about.
-ghost use Rattle.std.specs.Prelude.{◌≡◌, ◌<◌, ◌++◌, ◌∷◌, [], IfErr, IfOk, IsSome, length};
+ghost use Rattle.std.specs.Prelude.{◌≡◌, ◌↔◌, ◌⊎◌, ◌<◌, ◌++◌, ◌∷◌, [], IfErr, IfOk, IfSome, IsSome, false, length, true};
 ghost use Rattle.smi_entry.specs.declared.entry.Cause.TheVariants as cause;
 ghost use Rattle.smi_entry.specs.declared.entry.Entry.TheVariants as entry;
 ghost use Rattle.smi_entry.specs.Words as says;
-ghost use Rattle.smi_board.specs.Refusals.{IsKillError, kill_refusal};
+ghost use Rattle.smi_board.specs.Refusals.{IsKillError, kill_refusal, start_refusal};
 ghost use Rattle.smi_board.specs.Rings.{with_one};
-ghost use Rattle.smi_board.specs.Waking.{IsQuiet};
-ghost use Rattle.smi_shared.specs.declared.job.Job.TheVariants.{Memory};
+ghost use Rattle.smi_board.specs.Waking.{IsQuiet, NothingNext};
+ghost use Rattle.smi_shared.specs.declared.job.Job.TheVariants.{Memory, Rest};
+ghost use Rattle.smi_shared.specs.Crews.{makes_way};
 ghost use Rattle.smi_shared.specs.Jobs.{IsJobIn, IsTaskIn, object_started};
 ghost use Rattle.smi_shared.specs.Keeping.{IsSharedBoard, entries_of_answer};
+ghost use Rattle.smi_shared.specs.Notices.{IsOver, NotifiesWanted, end_by};
+ghost use Rattle.smi_shared.specs.Works.{GivesBack, GivesNext, GivesStart, IsPutBack, limited_by};
 
+use crate::crew::{Crew, Notify};
 use crate::device::DeviceFault;
 use crate::ending::ServeEnd;
 use crate::job::Job;
@@ -25,14 +29,13 @@ use sml_domain::ids::{ObjId, StateId};
 use std::sync::Wait;
 
 /// The board over the mailboxes that `K` names, how many sessions have not left, how many of their posts woke their
-/// objects, how many workers wait and were not told of anything, and whether a start was refused since there were as
-/// many as may be.
+/// objects, who is about, and whether a start was refused since there were as many as may be.
 #[derive(Drop)]
 pub struct Shared<R: Wait + Copy + Send, K: MailNames> {
     pub board: Board<RuledMail<R, K>>,
-    sessions: usize,
+    pub(crate) sessions: usize,
     pub(crate) posts: u64,
-    idle: usize,
+    pub(crate) crew: Crew,
     is_limited: bool,
 }
 
@@ -47,15 +50,18 @@ fn startable(work: &Work) -> Option<usize>
 }
 
 impl<R: Wait + Copy + Send, K: MailNames> Shared<R, K> {
-    /// A board at the beginning of a run with so many sessions.
-    pub fn new(board: Board<RuledMail<R, K>>, sessions: usize) -> Shared<R, K>
-        ensures { result.board ≡ board }
+    /// A board at the beginning of a run with so many sessions, and no worker (`Crew::new`).
+    pub fn new(board: Board<RuledMail<R, K>>, sessions: usize, crew: Crew) -> Shared<R, K>
+        ensures board { result.board ≡ board }
+        ensures sessions { result.sessions ≡ sessions }
+        ensures crew { result.crew ≡ crew }
+        ensures limited { result.is_limited ≡ false }
     {
         Shared {
             board,
             sessions,
             posts: 0,
-            idle: 0,
+            crew,
             is_limited: false,
         }
     }
@@ -78,51 +84,38 @@ impl<R: Wait + Copy + Send, K: MailNames> Shared<R, K> {
         self.board.dead_at(o)
     }
 
-    /// A session kills an object.
-    pub fn kill(&mut self, o: ObjId, session: SessionId) -> Result<u64, KillError>
+    /// A session kills an object. A task may go on for it, so one is notified where it is wanted.
+    pub fn kill(&mut self, o: ObjId, session: SessionId) -> (Result<u64, KillError>, Notify)
         requires { o < length K.names.domain.objects }
-        ensures killed { IfOk result (λ place. (place ≡ length self.old.board.journal)
+        ensures killed { IfOk result.0 (λ place. (place ≡ length self.old.board.journal)
             × (self.new.board.journal ≡ self.old.board.journal ++ entry.Kill o (cause.By session) ∷ [])) }
-        ensures refused { IfErr result (IsKillError (kill_refusal self.old.board.journal o)) }
+        ensures refused { IfErr result.0 (IsKillError (kill_refusal self.old.board.journal o)) }
+        ensures notifies { NotifiesWanted self.old.crew self.new.board result.1 self.new.crew }
+        ensures same { self.new ≡ record self.old { board = self.new.board; crew = self.new.crew } }
     {
         self.keeps();
-        self.board.kill(o, session)
+        let killed = self.board.kill(o, session);
+        (killed, self.notify_wanted())
     }
 
-    /// A session's post to an object was accepted: the object has a request more. To be called once for each.
-    pub fn wake(&mut self, o: ObjId)
+    /// A session's post to an object was accepted: the object has a request more, so one is notified where it is
+    /// wanted. To be called once for each.
+    pub fn wake(&mut self, o: ObjId) -> Notify
         requires { o < length K.names.domain.objects }
-        ensures { self.new.board ≡ record self.old.board { woken = with_one o self.old.board.woken } }
+        ensures woken { self.new.board ≡ record self.old.board { woken = with_one o self.old.board.woken } }
+        ensures notifies { NotifiesWanted self.old.crew self.new.board result self.new.crew }
     {
         self.keeps();
         self.board.wake(o);
         self.posts = self.posts.saturating_add(1);
-    }
-
-    /// Whether a worker waits, and there is something that it could do. Then it counts as told, and whoever asked is to
-    /// tell it: so none is told twice before it gets the lock.
-    pub fn is_wanted(&mut self) -> bool
-        ensures { self.new.board ≡ self.old.board }
-    {
-        if self.idle == 0 || !self.board.has_next() {
-            return false;
-        }
-        self.idle -= 1;
-        true
-    }
-
-    /// A session has left. Tells whether it was the last.
-    pub fn leave(&mut self) -> bool
-        ensures { self.new.board ≡ self.old.board }
-    {
-        self.sessions = self.sessions.saturating_sub(1);
-        self.sessions == 0
+        self.notify_wanted()
     }
 
     /// How the run ended, or None while a session has not left or the board is not quiet. The cost is that of
     /// `Board::quiet`.
     pub fn ended(&self) -> Option<ServeEnd>
-        ensures { IsSome result → IsQuiet self.now.board }
+        ensures over { IsSome result ↔ IsOver self.now.sessions self.now.board }
+        ensures end { IfSome result (λ end. end ≡ end_by self.now.is_limited) }
     {
         if self.sessions > 0 || !self.board.quiet() {
             return None;
@@ -134,24 +127,14 @@ impl<R: Wait + Copy + Send, K: MailNames> Shared<R, K> {
         }
     }
 
-    /// A worker begins to wait, up to where it is told.
-    pub fn add_idle(&mut self)
-        ensures { self.new.board ≡ self.old.board }
-    {
-        self.idle = self.idle.saturating_add(1);
-    }
-
-    /// All workers that wait are told.
-    pub fn clear_idle(&mut self)
-        ensures { self.new.board ≡ self.old.board }
-    {
-        self.idle = 0;
-    }
-
     // Starts a request at an object.
     fn start(&mut self, object: usize) -> Job
         requires { object < length K.names.domain.objects }
-        ensures { IsJobIn K.names.domain result }
+        ensures within { IsJobIn K.names.domain result }
+        ensures gives { GivesStart object self.old.board self.new.board result }
+        ensures limit { self.new.is_limited
+            ≡ limited_by (start_refusal self.old.board.most self.old.board.journal object) self.old.is_limited }
+        ensures same { self.new ≡ record self.old { board = self.new.board; is_limited = self.new.is_limited } }
     {
         self.keeps();
         let o = ObjId::new(object);
@@ -172,10 +155,12 @@ impl<R: Wait + Copy + Send, K: MailNames> Shared<R, K> {
     }
 
     /// What a worker takes in hand: a task that can go on, or else what starts at the object that was woken first.
-    /// Where memory was wanted for a start, the object is woken again. The cost is that of `Board::next` and
-    /// `Board::start`.
+    /// It rests only where nothing comes next. Where memory was refused to a start, the object is woken again. The
+    /// cost is that of `Board::next` and `Board::start`.
     pub fn next_job(&mut self) -> Job
-        ensures { IsJobIn K.names.domain result }
+        ensures within { IsJobIn K.names.domain result }
+        ensures gives { GivesNext self.old.board self.new.board self.old.is_limited self.new.is_limited result }
+        ensures same { self.new ≡ record self.old { board = self.new.board; is_limited = self.new.is_limited } }
     {
         self.keeps();
         let Some(work) = self.board.next() else {
@@ -190,10 +175,25 @@ impl<R: Wait + Copy + Send, K: MailNames> Shared<R, K> {
         }
     }
 
-    // Takes back a task for which memory was wanted. That of an object which was killed meanwhile is let go.
-    fn shelve(&mut self, task: Task) -> Job
+    /// What a worker takes in hand after it did something: nothing where it may be one too many and another is at work,
+    /// and else as `next_job`.
+    pub fn job_after(&mut self, is_spare: bool) -> Job
+        ensures within { IsJobIn K.names.domain result }
+        ensures rests { result ≡ Rest → NothingNext self.old.board ⊎ (makes_way is_spare self.old.crew ≡ true) }
+        ensures same { self.new ≡ record self.old { board = self.new.board; is_limited = self.new.is_limited } }
+    {
+        if self.crew.makes_way(is_spare) {
+            return Job::Rest;
+        }
+        self.next_job()
+    }
+
+    // Takes back a task for which memory was refused. That of an object which was killed meanwhile is let go.
+    fn put_back(&mut self, task: Task) -> Job
         requires { IsTaskIn K.names.domain task }
-        ensures { result ≡ Memory }
+        ensures memory { result ≡ Memory }
+        ensures back { IsPutBack task self.old.board self.new.board }
+        ensures same { self.new ≡ record self.old { board = self.new.board } }
     {
         self.keeps();
         let _shelved = self.board.shelve(task);
@@ -204,10 +204,13 @@ impl<R: Wait + Copy + Send, K: MailNames> Shared<R, K> {
     /// it asks for. A task of an object that was killed meanwhile is let go. The cost is that of `Board::contact`.
     pub fn contact(&mut self, task: Task, is_moved: bool) -> Job
         requires { IsTaskIn K.names.domain task }
-        ensures { IsJobIn K.names.domain result }
+        ensures within { IsJobIn K.names.domain result }
+        ensures gives { GivesBack K.names.capacity task self.old.board self.new.board result }
+        ensures moved { is_moved ≡ false → result ≡ Memory }
+        ensures same { self.new ≡ record self.old { board = self.new.board } }
     {
         if !is_moved {
-            return self.shelve(task);
+            return self.put_back(task);
         }
         if task.pending().is_none() {
             return Job::Move(task);
@@ -217,7 +220,7 @@ impl<R: Wait + Copy + Send, K: MailNames> Shared<R, K> {
             Ok(Reply::Posted(task)) => Job::Move(task),
             Ok(Reply::Seen(task)) => Job::Move(task),
             Ok(_) => Job::Again,
-            Err((ContactError::Memory, task)) => self.shelve(task),
+            Err((ContactError::Memory, task)) => self.put_back(task),
             Err(_) => Job::Again,
         }
     }
@@ -226,8 +229,9 @@ impl<R: Wait + Copy + Send, K: MailNames> Shared<R, K> {
     /// that is none of its class. An answer of an object that was killed meanwhile is dropped.
     pub fn answered(&mut self, object: usize, answer: Result<StateId, DeviceFault>)
         requires { object < length K.names.domain.objects }
-        ensures { self.new.board.journal ≡ self.old.board.journal
+        ensures journal { self.new.board.journal ≡ self.old.board.journal
             ++ entries_of_answer K.names.domain self.old.board.journal object answer }
+        ensures same { self.new ≡ record self.old { board = self.new.board } }
     {
         self.keeps();
         let o = ObjId::new(object);
@@ -247,7 +251,7 @@ impl<R: Wait + Copy + Send, K: MailNames> Shared<R, K> {
             board,
             sessions: _,
             posts: _,
-            idle: _,
+            crew: _,
             is_limited: _,
         } = self;
         board
