@@ -49,7 +49,8 @@ Lines with a count of 0 are left out. SENDER is a session, or an object that sen
 
 What to do:
 
-  Limit      run it again with more `--max-starts`, or look for objects that send to one another for ever
+  Limit      run it again with more `--max-starts`, or look for objects that send to one another for ever. Nothing
+             need be left; and where the last start was the last request, it is open whether Quiet or Limit is told
   Memory     run it again where there is more memory, or with a smaller SCRIPT
   stalled    the journal (`--journal`) has a line `wait` of the object; look which object of that `if` or
              `wait` is busy: one that is stalled too, or whose requests are left. Two objects that wait for
