@@ -4,9 +4,11 @@ use crate::acts::number;
 use crate::calls::tell;
 use crate::place::Place;
 use smi_entry::journal::Journal;
-use smi_run_command::{Host, Outcome, tell_outcome};
+use smi_entry::session::SessionId;
+use smi_run_command::{Host, Outcome, Receipt, tell_outcome};
 use smi_shared::ending::ServeEnd;
 use sml_checkable::domain_of;
+use sml_domain::ids::ObjId;
 use std::alloc::Global;
 use std::io;
 use std::io::ErrorKind;
@@ -20,6 +22,22 @@ fn end_of(word: &str) -> io::Result<ServeEnd> {
     }
 }
 
+// So many receipts of kills.
+fn receipts(alloc: Global, count: usize) -> io::Result<Vec<Receipt>> {
+    let mut receipts = Vec::new(alloc);
+    if let Some(session) = SessionId::new(1) {
+        for place in 0..count {
+            receipts.push(Receipt {
+                session,
+                object: ObjId::new(0),
+                place: place as u64,
+                own: true,
+            })?;
+        }
+    }
+    Ok(receipts)
+}
+
 // A run of nothing that ended so, with so many receipts unmet.
 fn outcome_of(alloc: Global, end: &str, unmet: &str) -> io::Result<Outcome> {
     let mut summary = Vec::new(alloc);
@@ -28,7 +46,7 @@ fn outcome_of(alloc: Global, end: &str, unmet: &str) -> io::Result<Outcome> {
         end: end_of(end)?,
         summary,
         journal: Journal::new(alloc),
-        unmet: number(unmet)?,
+        unmet: receipts(alloc, number(unmet)?)?,
     })
 }
 
