@@ -22,7 +22,7 @@ fn end_of(word: &str) -> io::Result<ServeEnd> {
     }
 }
 
-// So many receipts of kills.
+// Receipts of kills, as many as asked for.
 fn receipts(alloc: Global, count: usize) -> io::Result<Vec<Receipt>> {
     let mut receipts = Vec::new(alloc);
     if let Some(session) = SessionId::new(1) {
@@ -38,7 +38,7 @@ fn receipts(alloc: Global, count: usize) -> io::Result<Vec<Receipt>> {
     Ok(receipts)
 }
 
-// A run of nothing that ended so, with so many receipts unmet.
+// A run of nothing that ended so, with as many receipts unmet.
 fn outcome_of(alloc: Global, end: &str, unmet: &str) -> io::Result<Outcome> {
     let mut summary = Vec::new(alloc);
     summary.extend_from_slice(b"(the summary)\n")?;
