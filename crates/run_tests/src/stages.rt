@@ -18,7 +18,6 @@ use sml_domain::domain::Domain;
 use sml_domain::ids::{ActionId, ObjId};
 use std::alloc::Global;
 use std::marker::Brand;
-use std::sync::atomic::{AtomicU64, Ordering};
 use std::sync::{Arc, Wait};
 use std::thread;
 use std::thread::Threads;
@@ -194,24 +193,7 @@ fn does_all<K: MailNames, R: Wait + Copy + Send>(
     (is_done, runtime.leave(rt, session))
 }
 
-// Waits until so many workers have ended: whether they do in time. Otherwise serves too, which wakes the others.
-fn end_in_time<K: MailNames, R: Wait + Copy + Send>(
-    rt: &R,
-    runtime: &Runtime<R, K, Valve>,
-    ended: &AtomicU64,
-    workers: usize,
-) -> bool {
-    for _ in 0..NAPS {
-        if ended.load(Ordering::SeqCst) >= workers as u64 {
-            return true;
-        }
-        nap(rt, NAP);
-    }
-    let _ = runtime.serve(rt);
-    false
-}
-
-// All steps while workers serve: whether all were done, and whether the workers ended in time.
+// All steps while workers serve: whether all were done, and the session, which has left.
 fn does_served<'x, R: Threads + Wait + Copy + Send + Sync, K: MailNames + Send + Sync>(
     rt: &'x R,
     alloc: Global,
@@ -219,19 +201,14 @@ fn does_served<'x, R: Threads + Wait + Copy + Send + Sync, K: MailNames + Send +
     session: Session<K>,
     stage: &'x Stage,
     run: &Staged<'_>,
-) -> (bool, bool, Closed<K>) {
-    let count = AtomicU64::new(0);
-    let ended = &count;
+) -> (bool, Closed<K>) {
     thread::scope(thread::scope_env(), rt, |scope| {
         for _ in 0..run.workers {
             let _ = scope.spawn(move || {
                 let _ = runtime.serve(rt);
-                ended.fetch_add(1, Ordering::SeqCst);
             });
         }
-        let (is_done, left) = does_all(rt, alloc, runtime, session, stage, run);
-        let is_in_time = end_in_time(rt, runtime, ended, run.workers);
-        (is_done, is_in_time, left)
+        does_all(rt, alloc, runtime, session, stage, run)
     })
 }
 
@@ -301,19 +278,24 @@ fn goes_over<K: MailNames + Send + Sync, R: Threads + Wait + Copy + Send + Sync>
         return None;
     };
     let session = sessions.pop()?;
-    let (is_done, is_in_time, left) = does_served(&rt, alloc, &runtime, session, &stage, run);
+    let (is_done, left) = does_served(&rt, alloc, &runtime, session, &stage, run);
     if !is_done {
         return Some("a step failed, or what it waits for did not come in time");
-    }
-    if !is_in_time {
-        return Some("a worker did not end in time after the last session had left");
     }
     let mut closed = Vec::new(alloc);
     closed.push(left).ok()?;
     match runtime.finish(alloc, closed) {
-        Ok(report) if is_right(alloc, domain, &report, run) => Some(RIGHT),
-        Ok(_) => Some("the report is not as it must be"),
+        Ok(report) => Some(told_right(is_right(alloc, domain, &report, run))),
         Err(_) => None,
+    }
+}
+
+// What is told of a report.
+fn told_right(is_right: bool) -> &'static str {
+    if is_right {
+        RIGHT
+    } else {
+        "the report is not as it must be"
     }
 }
 
