@@ -1,7 +1,7 @@
 //! Journals of which some lines are changed.
 
 use crate::domains::Setting;
-use crate::judged::{Said, is_said};
+use crate::judged::{Said, is_said, joined};
 use std::alloc::Global;
 
 /// How a journal is changed. Lines count from 1, and the first one is the header.
@@ -11,6 +11,8 @@ pub enum Change {
     Nothing,
     /// This stands in place of a line.
     Line(usize, &'static [u8]),
+    /// These stand in place of lines.
+    Lines(&'static [(usize, &'static [u8])]),
     /// Two lines are exchanged.
     Exchange(usize, usize),
     /// It ends behind so many lines.
@@ -27,6 +29,20 @@ fn line_of(lines: &[&'static [u8]], number: usize) -> &'static [u8] {
     b""
 }
 
+// What stands in place of the line of a number, where that is one of those that are changed.
+fn line_among(
+    lines: &[&'static [u8]],
+    changes: &[(usize, &'static [u8])],
+    number: usize,
+) -> &'static [u8] {
+    for (n, line) in changes {
+        if *n == number {
+            return *line;
+        }
+    }
+    line_of(lines, number)
+}
+
 // What stands in place of the line of a number.
 fn changed(lines: &[&'static [u8]], change: Change, number: usize) -> &'static [u8] {
     match change {
@@ -38,6 +54,7 @@ fn changed(lines: &[&'static [u8]], change: Change, number: usize) -> &'static [
                 line_of(lines, number)
             }
         }
+        Change::Lines(changes) => line_among(lines, changes, number),
         Change::Exchange(a, b) => {
             if number == a {
                 line_of(lines, b)
@@ -65,6 +82,15 @@ fn text_of(alloc: Global, lines: &[&'static [u8]], change: Change) -> Option<Vec
     Some(text)
 }
 
+/// The first line of a journal of the second format.
+pub const SECOND: &[u8] = b"smi-journal 2\n";
+
+// The text under another first line, as it is long enough to have one.
+fn with_header(alloc: Global, header: &[u8], text: &[u8]) -> Option<Vec<u8>> {
+    let (_, rest) = text.split_at_checked(header.len())?;
+    joined(alloc, header, rest)
+}
+
 /// A row: its name, how a journal is changed, and what is then said of it.
 pub type ChangeRow = (&'static str, Change, Said);
 
@@ -80,6 +106,43 @@ pub fn is_said_changed(
         Some(text) => is_said(alloc, setting, &text, said),
         None => false,
     }
+}
+
+/// Whether the judge says this of the lines of a journal, after a change, under the first line of the second format.
+pub fn is_said_in_second(
+    alloc: Global,
+    setting: Setting,
+    lines: &[&'static [u8]],
+    change: Change,
+    said: Said,
+) -> bool {
+    let Some(text) = text_of(alloc, lines, change) else {
+        return false;
+    };
+    match with_header(alloc, SECOND, &text) {
+        Some(text) => is_said(alloc, setting, &text, said),
+        None => false,
+    }
+}
+
+/// A row: its name, how a journal is changed, and what is then said of it in the first format and in the second.
+pub type FormatRow = (&'static str, Change, Said, Said);
+
+/// The name of the first row of which the judge says something else in one of the formats, or nothing.
+pub fn wrong_format(
+    alloc: Global,
+    setting: Setting,
+    lines: &[&'static [u8]],
+    rows: &[FormatRow],
+) -> &'static str {
+    for (name, change, first, second) in rows {
+        if !is_said_changed(alloc, setting, lines, *change, *first)
+            || !is_said_in_second(alloc, setting, lines, *change, *second)
+        {
+            return *name;
+        }
+    }
+    ""
 }
 
 /// The name of the first row of which the judge says something else, or nothing.

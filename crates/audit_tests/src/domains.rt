@@ -11,6 +11,10 @@ pub enum Setting {
     Pair,
     /// An object that asks a set without members.
     Empty,
+    /// An object that sends to a set without members.
+    Nobody,
+    /// A boss that sends to a lamp and waits for it.
+    Waits,
     /// A control and a supply, as in the help of `step`.
     Control,
     /// The supplies with what switches them on, the counter with its sink, the two that ask one another, and
@@ -25,6 +29,8 @@ pub fn text_of(setting: Setting) -> &'static [u8] {
         Setting::Counter => COUNTER,
         Setting::Pair => PAIR,
         Setting::Empty => EMPTY,
+        Setting::Nobody => NOBODY,
+        Setting::Waits => WAITS,
         Setting::Control => CONTROL,
         Setting::Plant => PLANT,
     }
@@ -92,6 +98,30 @@ const EMPTY: &[u8] = b"class: T
   state: BAD
 object: X is_of_class T
 objectset: E { }
+";
+
+const NOBODY: &[u8] = b"class: T
+  state: S
+    action: GO
+      do GO all_in E
+object: X is_of_class T
+objectset: E { }
+";
+
+const WAITS: &[u8] = b"class: LAMP
+  state: OFF
+    action: LIGHT
+      move_to ON
+  state: ON
+class: BOSS
+  state: IDLE
+    action: GO
+      do LIGHT L
+      wait ( L )
+      move_to DONE
+  state: DONE
+object: L is_of_class LAMP
+object: B is_of_class BOSS
 ";
 
 const CONTROL: &[u8] = b"class: SUPPLY /associated

@@ -1,6 +1,6 @@
 //! A run of forty lines, and what becomes of it where two neighbouring lines are exchanged.
 
-use crate::changed::{Change, is_said_changed};
+use crate::changed::{Change, is_said_changed, is_said_in_second};
 use crate::domains::Setting;
 use crate::judged::Said;
 use smi_audit::Rule;
@@ -96,6 +96,21 @@ const EXCHANGED: &[(usize, usize, Said)] = &[
     (39, 40, Said::Illegal(39, Rule::Meaning)),
 ];
 
+/// In the second format the same is said, but of lines that come between the two posts of the run.
+const IN_SECOND: &[(usize, Said)] = &[
+    (4, Said::Illegal(5, Rule::Split)),
+    (6, Said::Illegal(6, Rule::Split)),
+];
+
+fn said_in_second(line: usize, said: Said) -> Said {
+    for (other, second) in IN_SECOND {
+        if *other == line {
+            return *second;
+        }
+    }
+    said
+}
+
 #[test]
 fn neighbours_exchanged(rt: HostRuntime) {
     for (line, other, said) in EXCHANGED {
@@ -104,5 +119,20 @@ fn neighbours_exchanged(rt: HostRuntime) {
             is_said_changed(rt.alloc(), Setting::Plant, RUN, change, *said),
             "{line}"
         );
+    }
+}
+
+#[test]
+fn neighbours_exchanged_in_the_second_format(rt: HostRuntime) {
+    for (line, other, said) in EXCHANGED {
+        // The first line stays.
+        if *line > 1 {
+            let change = Change::Exchange(*line, *other);
+            let second = said_in_second(*line, *said);
+            assert!(rt;
+                is_said_in_second(rt.alloc(), Setting::Plant, RUN, change, second),
+                "{line}"
+            );
+        }
     }
 }

@@ -1,7 +1,8 @@
 //! What is said to people of lines that may not stand.
 
+use crate::changed::SECOND;
 use crate::domains::{Setting, text_of};
-use crate::explained_rows::{ENDS, Explained, POSTS, READINGS, STARTS};
+use crate::explained_rows::{ENDS, Explained, POSTS, READINGS, SETS, STARTS};
 use crate::judged::joined;
 use smi_audit::Rule;
 use smi_audit::audit::audit;
@@ -18,12 +19,13 @@ type Place = (u64, Rule);
 // What is said of a line of a journal.
 fn told_of(alloc: Global, setting: Setting, text: &[u8], place: Place) -> Option<Vec<u8>> {
     let domain = domain_of(alloc, text_of(setting)).ok()?;
-    let journal = read_journal(alloc, &domain, text).ok()?;
+    let (format, journal) = read_journal(alloc, &domain, text).ok()?;
     let (line, rule) = place;
     let mut told = Vec::new(alloc);
     let mut failed = false;
     explain(
         alloc,
+        format,
         domain,
         journal.entries(),
         line,
@@ -44,18 +46,18 @@ fn first_broken(alloc: Global, setting: Setting, text: &[u8]) -> Option<Place> {
     }
 }
 
-fn is_explained(alloc: Global, row: Explained) -> Option<bool> {
+fn is_explained(alloc: Global, header: &[u8], row: Explained) -> Option<bool> {
     let (setting, lines, said) = row;
-    let text = joined(alloc, b"smi-journal 1\n", lines)?;
+    let text = joined(alloc, header, lines)?;
     let place = first_broken(alloc, setting, &text)?;
     let told = told_of(alloc, setting, &text, place)?;
     Some(told.as_slice() == said.as_bytes())
 }
 
 // What is said of the first row of which something else is said, or nothing.
-fn wrong_text(alloc: Global, rows: &[Explained]) -> &'static str {
+fn wrong_text(alloc: Global, header: &[u8], rows: &[Explained]) -> &'static str {
     for (setting, lines, said) in rows {
-        if is_explained(alloc, (*setting, *lines, *said)) != Some(true) {
+        if is_explained(alloc, header, (*setting, *lines, *said)) != Some(true) {
             return *said;
         }
     }
@@ -65,9 +67,15 @@ fn wrong_text(alloc: Global, rows: &[Explained]) -> &'static str {
 #[test]
 fn explained_lines(rt: HostRuntime) {
     for rows in [STARTS, POSTS, READINGS, ENDS] {
-        let wrong = wrong_text(rt.alloc(), rows);
+        let wrong = wrong_text(rt.alloc(), b"smi-journal 1\n", rows);
         assert!(rt; wrong.is_empty(), "{wrong}");
     }
+}
+
+#[test]
+fn explained_lines_of_the_second_format(rt: HostRuntime) {
+    let wrong = wrong_text(rt.alloc(), SECOND, SETS);
+    assert!(rt; wrong.is_empty(), "{wrong}");
 }
 
 // Lines that no judgement names: the header, those behind the last, and one behind a line that may not stand.

@@ -399,3 +399,61 @@ the object RUN has no device.
 ",
     ),
 ];
+
+/// In the second format: what splits a send, what leaves out that a set has no member, and sets that nothing changes.
+pub const SETS: &[Explained] = &[
+    (
+        Setting::Supplies,
+        b"start RUN @1 0 CONFIGURE
+post RUN HV1 0 SWITCH_ON
+kill HV2 @1
+",
+        "line 4: kill HV2 @1
+nothing stands between the posts of a send: next the action of RUN posts to HV2 SWITCH_ON.
+line 3: post RUN HV1 0 SWITCH_ON
+",
+    ),
+    (
+        Setting::Supplies,
+        b"start HV1 @1 0 SWITCH_ON
+start RUN @1 0 CONFIGURE
+post RUN HV1 refused full SWITCH_ON
+end HV1 ON
+",
+        "line 5: end HV1 ON
+nothing stands between the posts of a send: next the action of RUN posts to HV2 SWITCH_ON.
+line 4: post RUN HV1 refused full SWITCH_ON
+",
+    ),
+    (
+        Setting::Nobody,
+        b"start X @1 0 GO\nend X S\n",
+        "line 3: end X S
+next the action of X finds no member of E.
+line 2: start X @1 0 GO
+",
+    ),
+    (
+        Setting::Supplies,
+        b"start RUN @1 0 CONFIGURE\nempty RUN HV\n",
+        "line 3: empty RUN HV
+next the action of RUN posts to HV1 SWITCH_ON.
+line 2: start RUN @1 0 CONFIGURE
+",
+    ),
+    (
+        Setting::Supplies,
+        b"start RUN @1 0 CONFIGURE\nremove RUN HV1 HV\n",
+        "line 3: remove RUN HV1 HV
+next the action of RUN posts to HV1 SWITCH_ON.
+line 2: start RUN @1 0 CONFIGURE
+",
+    ),
+    (
+        Setting::Supplies,
+        b"insert RUN HV1 HV\n",
+        "line 2: insert RUN HV1 HV
+no action is open at RUN.
+",
+    ),
+];

@@ -11,7 +11,7 @@ const LAMP: &str =
 // `smi_audit::audit`.
 fn judges(alloc: Global) -> Option<bool> {
     let domain = domain_of(alloc, LAMP.as_bytes()).ok()?;
-    let journal = b"smi-journal 1\nstart L @1 0 LIGHT\nend L ON\n";
+    let journal = b"smi-journal 2\nstart L @1 0 LIGHT\nend L ON\n";
     let judgement = audit(alloc, domain, journal).ok()?;
     Some(judgement == Judgement::Legal)
 }

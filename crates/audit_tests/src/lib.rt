@@ -15,6 +15,8 @@ mod explained_rows;
 #[cfg(test)]
 mod first_calls;
 #[cfg(test)]
+mod formats;
+#[cfg(test)]
 mod judged;
 #[cfg(test)]
 mod standard;

@@ -7,7 +7,7 @@ use smi_audit::Rule;
 use std::test::*;
 
 /// Both supplies are switched on, the run is ready, and what asks for it again is skipped.
-const STANDARD: &[&[u8]] = &[
+pub const STANDARD: &[&[u8]] = &[
     b"smi-journal 1\n",
     b"start RUN @1 0 CONFIGURE\n",
     b"post RUN HV1 0 SWITCH_ON\n",
@@ -106,6 +106,11 @@ const SPELLINGS: &[ChangeRow] = &[
     (
         "a header of another format",
         Change::Line(1, b"smi-journal 3\n"),
+        Said::BadHeader,
+    ),
+    (
+        "a header of another format that begins as one",
+        Change::Line(1, b"smi-journal 20\n"),
         Said::BadHeader,
     ),
     (

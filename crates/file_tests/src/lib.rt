@@ -2,6 +2,10 @@
 #![tactic(auto)]
 
 #[cfg(test)]
+mod changed_sets;
+#[cfg(test)]
+mod changes;
+#[cfg(test)]
 mod checked;
 #[cfg(test)]
 mod conditions;

@@ -282,6 +282,69 @@ Y in DEAD
 0.0 wait Y all_in E all_in G Y
 0.1 move_to S",
     ),
+    // A member that is put in again is no further one, and what is taken out stays among those that may come.
+    (
+        "sets that change",
+        b"class: T state: S action: GO insert Y in E remove Y from E insert X in G insert Y in G insert X in G
+class: K state: S object: X is_of_class T object: Y is_of_class K objectset: E {} objectset: G { Y }",
+        b"objects: 2, blocks: 1
+objects 0:X 1:Y X=0 Y=1
+classes 0:T 1:K K=1 T=0
+sets 0:E 1:G E=0 G=1
+states 0:S 1:DEAD DEAD=1 S=0 Dead=1
+actions 0:GO GO=0
+class T with states: 2
+class K with states: 2
+set E of 0 { } may { Y }
+set G of 1 { Y } may { Y X }
+X is T, begins S, dies DEAD
+X takes GO
+X in S, GO does 0
+X in DEAD
+Y is K, begins S, dies DEAD
+Y in S
+Y in DEAD
+0.0 insert Y in E
+0.1 remove Y from E
+0.2 insert X in G
+0.3 insert Y in G
+0.4 insert X in G",
+    ),
+    // What may come stands in the order of the text; a class without objects counts, and what is taken out does not.
+    (
+        "sets that change anywhere",
+        b"class: T state: S action: GO
+if ( all_in E in_state S ) then insert B in E else insert A in E insert B in E endif
+class: K state: S action: STOP remove C from E insert A in E
+object: A is_of_class K object: B is_of_class K object: C is_of_class K objectset: E { }",
+        b"objects: 3, blocks: 4
+objects 0:A 1:B 2:C A=0 B=1 C=2
+classes 0:T 1:K K=1 T=0
+sets 0:E E=0
+states 0:S 1:DEAD DEAD=1 S=0 Dead=1
+actions 0:GO 1:STOP GO=0 STOP=1
+class T with states: 2
+class K with states: 2
+set E of 0 { } may { B A }
+A is K, begins S, dies DEAD
+A takes STOP
+A in S, STOP does 3
+A in DEAD
+B is K, begins S, dies DEAD
+B takes STOP
+B in S, STOP does 3
+B in DEAD
+C is K, begins S, dies DEAD
+C takes STOP
+C in S, STOP does 3
+C in DEAD
+0.0 insert B in E
+1.0 insert A in E
+1.1 insert B in E
+2.0 if all_in E in S then 0 else 1
+3.0 remove C from E
+3.1 insert A in E",
+    ),
     (
         "requests to nobody",
         b"class: T state: S action: GO do NOPE (N = 1) all_in E do GO all_in E object: X is_of_class T objectset: E {}",

@@ -153,6 +153,20 @@ fn add_group(text: &mut Vec<u8>, group: &Group) {
     add(text, b" {");
 }
 
+// Adds what a set may come to have, where that is more than its members.
+fn add_may(text: &mut Vec<u8>, domain: &Domain, set: SetId) {
+    let may = domain.may_have(set);
+    if may.len() == domain.members(set).len() {
+        return;
+    }
+    add(text, b" may {");
+    for object in may {
+        add(text, b" ");
+        add_name(text, domain, &Sort::Object, object.get());
+    }
+    add(text, b" }");
+}
+
 // Adds a set, with the count of its members in the list of all sets, and the members that its number has.
 fn add_set(text: &mut Vec<u8>, domain: &Domain, set: usize) {
     match domain.groups().get(set) {
@@ -160,6 +174,7 @@ fn add_set(text: &mut Vec<u8>, domain: &Domain, set: usize) {
             add_group(text, group);
             add_members(text, domain, SetId::new(set));
             add(text, b" }");
+            add_may(text, domain, SetId::new(set));
         }
         None => add_members(text, domain, SetId::new(set)),
     }
@@ -436,6 +451,14 @@ fn add_instr(text: &mut Vec<u8>, domain: &Domain, instr: &Instr) {
             )
         }
         Instr::Wait(waited) => add_waited(text, domain, waited),
+        Instr::Insert { member, set } => {
+            add_worded(text, domain, b"insert ", &Sort::Object, member.get());
+            add_worded(text, domain, b" in ", &Sort::Set, set.get());
+        }
+        Instr::Remove { member, set } => {
+            add_worded(text, domain, b"remove ", &Sort::Object, member.get());
+            add_worded(text, domain, b" from ", &Sort::Set, set.get());
+        }
     }
 }
 

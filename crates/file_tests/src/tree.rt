@@ -33,6 +33,8 @@ class: BOSS
       do SWITCH (T = 5, M = \"c\", N = T) D
       do SWITCH all_in G
       wait ( D, all_in G )
+      insert D in H
+      remove E from G
       if ( D in_state { ON, OFF } or all_in G not_in_state ON and not any_in G in_state OFF ) then
         if ( D in_state ON ) then
           move_to IDLE

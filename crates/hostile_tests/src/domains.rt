@@ -115,6 +115,28 @@ objectset: G { L, K }
 objectset: E { }
 ";
 
+/// A boss puts a lamp into a set, takes it out, and sends to the set both times.
+pub const CHANGES: &[u8] = b"class: LAMP
+  state: OFF
+    action: LIGHT
+      move_to ON
+  state: ON
+class: BOSS
+  state: IDLE
+    action: GO
+      insert L in G
+      do LIGHT all_in G
+      remove L from G
+      do LIGHT all_in G
+      if ( all_in G in_state ON ) then
+        move_to DONE
+      endif
+  state: DONE
+object: L is_of_class LAMP
+object: B is_of_class BOSS
+objectset: G { }
+";
+
 // A state with both marks, and a condition.
 const MARKED: &[u8] = b"class: RT
   state: A /initial_state /dead_state
@@ -130,13 +152,14 @@ const IN_ONE_LINE: &[u8] = b"class:rt state:a/dead_state/initial_state action:go
     if(not(x in_state{on})or y in_state off and z not_in_state{on,off})then set n=t else endif move_to A";
 
 /// Texts, each with its canonical text, which most of them are.
-pub const TEXTS: [(&[u8], &[u8]); 9] = [
+pub const TEXTS: [(&[u8], &[u8]); 10] = [
     (SUPPLIES, SUPPLIES),
     (COUNTER, COUNTER),
     (FIRST, FIRST),
     (PAIR, PAIR),
     (EMPTY_SET, EMPTY_SET),
     (WAITS, WAITS),
+    (CHANGES, CHANGES),
     (ASKS_ITSELF, ASKS_ITSELF),
     (MARKED, MARKED),
     (IN_ONE_LINE, MARKED),

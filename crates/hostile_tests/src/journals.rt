@@ -1,7 +1,7 @@
 //! Journals, cut at every place and with a byte changed at every place.
 
 use crate::broken::{BYTES, breaks, changed, ends_line, line_at};
-use crate::domains::{COUNTER, PAIR, SUPPLIES, WAITS};
+use crate::domains::{CHANGES, COUNTER, PAIR, SUPPLIES, WAITS};
 use smi_audit::JournalError;
 use smi_audit::audit::audit;
 use smi_audit::judgement::Judgement;
@@ -11,10 +11,11 @@ use std::alloc::Global;
 use std::sync::Arc;
 use std::test::*;
 
+// A header, which is as long in either format.
 const HEADER: &[u8] = b"smi-journal 1\n";
 
-// Legal journals and their domains.
-const JOURNALS: [(&[u8], &[u8]); 4] = [
+// Legal journals of both formats and their domains.
+const JOURNALS: [(&[u8], &[u8]); 6] = [
     (
         SUPPLIES,
         b"smi-journal 1
@@ -65,6 +66,32 @@ post C OUT 0 TAKE (V = 5, W = \"a\")
 end C IDLE
 start OUT C 0 TAKE (V = 5, W = \"a\")
 end OUT READY
+",
+    ),
+    (
+        CHANGES,
+        b"smi-journal 2
+start B @1 0 GO
+insert B L G
+post B L 0 LIGHT
+remove B L G
+empty B G
+seen B
+end B DONE
+",
+    ),
+    (
+        WAITS,
+        b"smi-journal 2
+start B @1 0 GO
+post B L 0 LIGHT
+post B K refused full LIGHT
+wait B
+start L B 0 LIGHT
+end L ON
+seen B K=OFF L=ON
+seen B
+end B DONE
 ",
     ),
 ];

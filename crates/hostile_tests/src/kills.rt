@@ -126,7 +126,7 @@ fn kills_everywhere(rt: HostRuntime) {
 const AFTER_FAULTS: [(Fault, &[u8]); 2] = [
     (
         (6, b"fault HV1\n"),
-        b"smi-journal 1
+        b"smi-journal 2
 start RUN @1 0 CONFIGURE
 post RUN HV1 0 SWITCH_ON
 post RUN HV2 0 SWITCH_ON
@@ -141,7 +141,7 @@ end RUN ERROR
     ),
     (
         (9, b"fault HV2\n"),
-        b"smi-journal 1
+        b"smi-journal 2
 start RUN @1 0 CONFIGURE
 post RUN HV1 0 SWITCH_ON
 post RUN HV2 0 SWITCH_ON

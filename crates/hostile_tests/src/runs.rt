@@ -35,7 +35,7 @@ const CONFIG: Config = Config {
 };
 
 // The journal of the run: nothing was started.
-const JOURNAL: &[u8] = b"smi-journal 1\nkill HV1 @1\n";
+const JOURNAL: &[u8] = b"smi-journal 2\nkill HV1 @1\n";
 
 // Whether this many requests were told, with the numbers from 0.
 fn are_told(told: &[Accepted], count: usize) -> bool {

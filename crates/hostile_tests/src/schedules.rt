@@ -1,7 +1,7 @@
 //! Schedules, cut at every place and with a byte changed at every place.
 
 use crate::broken::{BYTES, breaks, changed, ends_line, line_at};
-use crate::steps::{CONFIGURE_READY, LAMPS, PARAMETERS, Step, Told, WAITING};
+use crate::steps::{CHANGING, CONFIGURE_READY, LAMPS, PARAMETERS, Step, Told, WAITING};
 use smi_core::{Core, run_schedule};
 use sml_checkable::domain_of;
 use sml_domain::domain::Domain;
@@ -10,7 +10,7 @@ use std::sync::Arc;
 use std::test::*;
 
 // The words at the front of lines that steps write.
-const WORDS: [&[u8]; 10] = [
+const WORDS: [&[u8]; 13] = [
     b"accept ",
     b"start ",
     b"post ",
@@ -18,6 +18,9 @@ const WORDS: [&[u8]; 10] = [
     b"seen ",
     b"end ",
     b"kill ",
+    b"insert ",
+    b"remove ",
+    b"empty ",
     b"set ",
     b"still ",
     b"refused ",
@@ -122,7 +125,7 @@ fn is_right(alloc: Global, told: Told) -> Option<bool> {
 
 #[test]
 fn broken_schedules(rt: HostRuntime) {
-    for told in [CONFIGURE_READY, PARAMETERS, WAITING, LAMPS] {
+    for told in [CONFIGURE_READY, PARAMETERS, WAITING, LAMPS, CHANGING] {
         assert!(rt; is_right(rt.alloc(), told) == Some(true));
     }
 }

@@ -1,6 +1,6 @@
 //! Schedules, line by line.
 
-use crate::domains::{COUNTER, PAIR, SUPPLIES, WAITS};
+use crate::domains::{CHANGES, COUNTER, PAIR, SUPPLIES, WAITS};
 
 /// A line of a schedule, and what it writes.
 pub type Step = (&'static [u8], &'static [u8]);
@@ -103,6 +103,21 @@ pub const LAMPS: Told = Told {
         (b"start L\n", b"start L B 0 LIGHT\n"),
         (b"go L\n", b"end L ON\n"),
         (b"go B\n", b"seen B K=ON L=ON\n"),
+        (b"go B\n", b"seen B\n"),
+        (b"go B\n", b"end B DONE\n"),
+    ],
+};
+
+/// A boss sends to a set that has a lamp, and then to the same set without any.
+pub const CHANGING: Told = Told {
+    domain: CHANGES,
+    steps: &[
+        (b"request @1 B GO\n", b"accept @1 B 0 GO\n"),
+        (b"start B\n", b"start B @1 0 GO\n"),
+        (b"go B\n", b"insert B L G\n"),
+        (b"go B\n", b"post B L 0 LIGHT\n"),
+        (b"go B\n", b"remove B L G\n"),
+        (b"go B\n", b"empty B G\n"),
         (b"go B\n", b"seen B\n"),
         (b"go B\n", b"end B DONE\n"),
     ],

@@ -21,6 +21,8 @@ pub enum Made {
     Posted,
     /// Its objects are read.
     Seen,
+    /// Its set is changed.
+    Changed,
     /// It waits, and the board keeps it.
     Waiting,
     /// It ends.
@@ -49,6 +51,10 @@ fn leave(place: &mut Option<Task>, reply: Reply) -> Made
         Reply::Seen(task) => {
             put(place, task);
             Made::Seen
+        }
+        Reply::Changed(task) => {
+            put(place, task);
+            Made::Changed
         }
         Reply::Waiting => Made::Waiting,
         Reply::Ended => Made::Ended,
@@ -159,12 +165,13 @@ fn makes(board: &mut Board<PlainMail>, o: ObjId, place: &mut Option<Task>, made:
     }
 }
 
-// Whether the task in a place makes these moves and no others before it is gone.
+// Whether the task in a place makes these moves, and stays there then or is gone.
 fn makes_all(
     board: &mut Board<PlainMail>,
     o: ObjId,
     place: &mut Option<Task>,
     moves: &[Made],
+    stays: bool,
 ) -> bool
     requires within { o < length board.old.domain.objects }
     requires task { IfSome place.old (IsTaskOf board.old.domain o) }
@@ -175,18 +182,18 @@ fn makes_all(
             return false;
         }
     }
-    place.is_none()
+    place.is_some() == stays
 }
 
-// Whether a task makes these moves and no others before it is gone.
-fn follows(board: &mut Board<PlainMail>, task: Task, moves: &[Made]) -> bool
+// Whether a task makes these moves, and goes on then or is gone.
+fn follows(board: &mut Board<PlainMail>, task: Task, moves: &[Made], stays: bool) -> bool
     requires domain { task.domain ≡ board.old.domain }
     requires within { task.turn.object < length board.old.domain.objects }
     ensures { board.new.domain ≡ board.old.domain }
 {
     let o = task.turn().object;
     let mut place = Some(task);
-    let all = makes_all(board, o, &mut place, moves);
+    let all = makes_all(board, o, &mut place, moves, stays);
     drop(place);
     all
 }
@@ -200,15 +207,31 @@ pub fn start(board: &mut Board<PlainMail>, o: ObjId) -> Result<Started, StartErr
     board.start(o)
 }
 
-/// Whether an object starts its next request, and its task makes these moves.
-pub fn acts(board: &mut Board<PlainMail>, o: ObjId, moves: &[Made]) -> bool
+// Whether an object starts its next request, and its task makes these moves, and goes on then or is gone.
+fn starts_to_act(board: &mut Board<PlainMail>, o: ObjId, moves: &[Made], stays: bool) -> bool
     requires { o < length board.old.domain.objects }
     ensures { board.new.domain ≡ board.old.domain }
 {
     match start(board, o) {
-        Ok(Started::Run(task)) => follows(board, task, moves),
+        Ok(Started::Run(task)) => follows(board, task, moves, stays),
         _ => false,
     }
+}
+
+/// Whether an object starts its next request, and its task makes these moves and no others before it is gone.
+pub fn acts(board: &mut Board<PlainMail>, o: ObjId, moves: &[Made]) -> bool
+    requires { o < length board.old.domain.objects }
+    ensures { board.new.domain ≡ board.old.domain }
+{
+    starts_to_act(board, o, moves, false)
+}
+
+/// Whether an object starts its next request, and its task makes these moves. It is let go then.
+pub fn acts_and_stays(board: &mut Board<PlainMail>, o: ObjId, moves: &[Made]) -> bool
+    requires { o < length board.old.domain.objects }
+    ensures { board.new.domain ≡ board.old.domain }
+{
+    starts_to_act(board, o, moves, true)
 }
 
 /// Whether the task of an object goes on, and makes these moves.
@@ -217,7 +240,7 @@ pub fn resumes(board: &mut Board<PlainMail>, o: ObjId, moves: &[Made]) -> bool
 {
     match board.next() {
         Some(Work::Resume(task)) => {
-            task.turn().object.get() == o.get() && follows(board, task, moves)
+            task.turn().object.get() == o.get() && follows(board, task, moves, false)
         }
         Some(Work::Start(_)) => false,
         None => false,

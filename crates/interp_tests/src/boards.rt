@@ -8,7 +8,7 @@ ghost use Rattle.smi_board.specs.Refusals.{is_operator};
 
 use crate::acts::{Made, acts, offers, rests, resumes, start};
 use crate::lines::{Asked, Line, are_lines, is_letter};
-use crate::walk::{Plain, are_values, values_of};
+use crate::walk::{Plain, are_objects, are_values, values_of};
 use smi_board::board::Board;
 use smi_board::errors::{AnswerError, KillError, RequestRefusal, StartError};
 use smi_board::starting::Started;
@@ -20,7 +20,7 @@ use smi_interp::task::Task;
 use smi_mail::plain::{MAX_CAPACITY, PlainMail};
 use sml_checkable::domain_of;
 use sml_domain::domain::Domain;
-use sml_domain::ids::{ActionId, ObjId, StateId};
+use sml_domain::ids::{ActionId, ObjId, SetId, StateId};
 use std::alloc::Global;
 use std::sync::Arc;
 
@@ -64,6 +64,8 @@ pub enum Call {
     Quiet(bool),
     /// The object's state, its parameters, and the place of its kill.
     Look(usize, &'static [Plain], Option<u64>),
+    /// A set has these members, in this order.
+    Has(usize, &'static [usize]),
 }
 
 /// A board of a domain, with the capacity of its mail and how many starts it makes at most: what is
@@ -241,6 +243,7 @@ fn answers(
         Call::Comes(told) => board.has_next() == told,
         Call::Quiet(told) => board.quiet() == told,
         Call::Look(state, params, dead_at) => is_like(board, o, state, params, dead_at),
+        Call::Has(set, members) => are_objects(board.members(SetId::new(set)), members),
     }
 }
 

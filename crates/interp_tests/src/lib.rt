@@ -22,6 +22,8 @@ mod memory;
 #[cfg(test)]
 mod sends;
 #[cfg(test)]
+mod sets;
+#[cfg(test)]
 mod strangers;
 #[cfg(test)]
 mod supplies;

@@ -38,6 +38,8 @@ pub enum Line {
     Kill(usize, u8),
     /// An object is killed by a fault of its device.
     Fault(usize),
+    /// An object finds no member in a set to which it would send.
+    Empty(usize, usize),
 }
 
 fn is_session(sender: &Sender, session: u8) -> bool {
@@ -164,6 +166,13 @@ fn is_fault(entry: &Entry, o: usize) -> bool {
     }
 }
 
+fn is_empty(entry: &Entry, o: usize, number: usize) -> bool {
+    match entry {
+        Entry::NoMember { object, set } => object.get() == o && set.get() == number,
+        _ => false,
+    }
+}
+
 fn is_line(entry: &Entry, line: Line) -> bool {
     match line {
         Line::Start(o, asked, number) => is_start(entry, o, asked, number),
@@ -177,6 +186,7 @@ fn is_line(entry: &Entry, line: Line) -> bool {
         Line::Skip(o) => is_end(entry, o, ActionEnd::Skipped),
         Line::Kill(o, session) => is_kill(entry, o, session),
         Line::Fault(o) => is_fault(entry, o),
+        Line::Empty(o, set) => is_empty(entry, o, set),
     }
 }
 

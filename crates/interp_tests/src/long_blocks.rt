@@ -3,8 +3,8 @@
 use crate::beginnings::task_of;
 use crate::boards::envelope_of;
 use crate::lines::Asked;
+use crate::walk::{is_sent, is_told};
 use smi_interp::contact::Contact;
-use smi_interp::expanding::{objects_for, posts_count};
 use smi_interp::task::Task;
 use sml_checkable::domain_of;
 use sml_domain::ids::{ObjId, StateId};
@@ -67,17 +67,8 @@ fn moves_on(alloc: Global, task: &mut Task) -> bool {
     };
     match &contact {
         Contact::Local { .. } => true,
-        Contact::Send(wanted) if posts_count(task.domain(), wanted) == 0 => {
-            task.sent(&[]);
-            true
-        }
-        Contact::Read(names) => match objects_for(alloc, task.domain(), names) {
-            Ok(objects) if objects.len() == 0 => {
-                task.tell(&[]);
-                true
-            }
-            _ => false,
-        },
+        Contact::Send(_) => is_sent(alloc, task, &[], &[]),
+        Contact::Read(_) => is_told(alloc, task, &[], &[]),
         _ => false,
     }
 }

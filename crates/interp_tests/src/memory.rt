@@ -21,6 +21,7 @@ class: K
 object: OUT is_of_class SINK
 object: X is_of_class K
 ",
+    changes: &[],
     object: 1,
     params: &[Plain::Int(3)],
     state: 1,

@@ -3,7 +3,7 @@
 use crate::acts::Made::{Ended, Posted, Seen, Set, Shelved, Waiting};
 use crate::boards::{Call, Opened, Run};
 use crate::lines::{Asked, Line};
-use crate::texts::{COUNTER, ECHO, MANY, PAIR, SUPPLIES, TWICE, VALVE};
+use crate::texts::{COUNTER, ECHO, MANY, NOBODY, PAIR, SUPPLIES, TWICE, VALVE};
 use crate::walk::Plain;
 use smi_board::errors::{AnswerError, RequestRefusal, StartError};
 use smi_entry::entry::Verdict::{Accepted, Dead, Full};
@@ -437,5 +437,31 @@ pub const TO_TEN: Run = Run {
         Line::Post(10, (9, Accepted(0), 0, NONE)),
         Line::End(10, 2),
         Line::Take(9, 10, 0, 0, NONE),
+    ],
+};
+
+/// A request to the members of a set that has none stands in the journal, and the task goes on.
+pub const TO_NOBODY: Run = Run {
+    text: NOBODY,
+    capacity: 1,
+    most: 100,
+    calls: &[
+        (1, Call::Has(0, &[])),
+        (1, Call::Has(1, &[0])),
+        (1, Call::Has(2, &[])),
+        (1, Call::Request(SECOND, Ok(0))),
+        (1, Call::Act(&[Posted, Posted, Shelved])),
+        (1, Call::Resume(&[Posted, Seen, Ended])),
+        (1, Call::Look(3, NONE, None)),
+        (1, Call::Has(0, &[])),
+        (1, Call::Has(1, &[0])),
+    ],
+    journal: &[
+        Line::Start(1, SECOND, 0),
+        Line::Empty(1, 0),
+        Line::Post(1, (0, Accepted(0), 0, NONE)),
+        Line::Empty(1, 0),
+        Line::Seen(1, &[]),
+        Line::End(1, 3),
     ],
 };

@@ -3,11 +3,11 @@ ghost use Rattle.std.specs.Prelude.{◌≡◌, ◌<◌, IfSome, IsSome, length};
 ghost use Rattle.std.specs.Arc.{arc_value};
 ghost use Rattle.smi_board.specs.Refusals.{is_operator};
 
-use crate::acts::{Made, acts, contact, hand_back, sets_next, start};
+use crate::acts::{Made, acts, acts_and_stays, contact, hand_back, sets_next, start};
 use crate::beginnings::task_of;
 use crate::boards::{Run, board_of, envelope_of, fitting};
 use crate::lines::Asked;
-use crate::texts::{COUNTER, SUPPLIES};
+use crate::texts::{COUNTER, NOBODY, SUPPLIES};
 use smi_board::board::Board;
 use smi_board::errors::ContactError;
 use smi_board::starting::Started;
@@ -23,6 +23,12 @@ use std::sync::Arc;
 const SHOW: Asked = Asked {
     session: 1,
     action: 2,
+    given: &[],
+};
+
+const GO: Asked = Asked {
+    session: 1,
+    action: 1,
     given: &[],
 };
 
@@ -106,15 +112,58 @@ fn asking_by_hand(
     }
 }
 
-/// What becomes of the first task of a request before a second one is handed in: the moves that it makes,
-/// and whether its object then starts the next request.
-pub type SecondTask = (&'static [Made], bool);
+/// What becomes of the first task of a request before a second one is handed in.
+#[derive(Clone, Copy)]
+pub enum First {
+    /// It makes these moves, and is in the board's hands then, or ended.
+    IsGone(&'static [Made]),
+    /// It makes these moves, and is let go then: it is out for ever.
+    IsLost(&'static [Made]),
+    /// It makes these moves and is ended then, and its object starts the next request.
+    IsOver(&'static [Made]),
+}
 
-/// The first task is kept; its action is ended; its action is ended, and the next one is open.
+/// A request, of the second object of a domain, of which there are two tasks.
+#[derive(Clone, Copy)]
+pub struct SecondTask {
+    text: &'static [u8],
+    asked: Asked,
+    first: First,
+}
+
+/// Second tasks that made no move: the first one is kept, or the journal tells of what it did, or its action is ended.
 pub const SECOND_TASKS: &[SecondTask] = &[
-    (&[Made::Shelved], false),
-    (&[Made::Posted, Made::Ended], false),
-    (&[Made::Posted, Made::Ended], true),
+    SecondTask {
+        text: COUNTER,
+        asked: SHOW,
+        first: First::IsGone(&[Made::Shelved]),
+    },
+    SecondTask {
+        text: COUNTER,
+        asked: SHOW,
+        first: First::IsLost(&[Made::Posted]),
+    },
+    SecondTask {
+        text: COUNTER,
+        asked: SHOW,
+        first: First::IsGone(&[Made::Posted, Made::Ended]),
+    },
+    SecondTask {
+        text: COUNTER,
+        asked: SHOW,
+        first: First::IsOver(&[Made::Posted, Made::Ended]),
+    },
+    // Of a set without members nothing was posted, and the journal tells of it.
+    SecondTask {
+        text: NOBODY,
+        asked: GO,
+        first: First::IsLost(&[Made::Posted]),
+    },
+    SecondTask {
+        text: NOBODY,
+        asked: GO,
+        first: First::IsLost(&[Made::Posted, Made::Posted, Made::Posted]),
+    },
 ];
 
 // Whether an object starts its next request, whose task makes no move.
@@ -131,18 +180,26 @@ fn starts(board: &mut Board<PlainMail>, o: ObjId) -> bool
     }
 }
 
+// Whether the first task of a request that an object is to start does so.
+fn goes_first(board: &mut Board<PlainMail>, o: ObjId, first: First) -> bool
+    requires { o < length board.old.domain.objects }
+    ensures { board.new.domain ≡ board.old.domain }
+{
+    match first {
+        First::IsGone(moves) => acts(board, o, moves),
+        First::IsLost(moves) => acts_and_stays(board, o, moves),
+        First::IsOver(moves) => acts(board, o, moves) && starts(board, o),
+    }
+}
+
 // Whether a second task of a request that an object is to start is refused behind the first.
-fn is_refused_behind(board: &mut Board<PlainMail>, o: ObjId, second: Task, row: SecondTask) -> bool
+fn is_refused_behind(board: &mut Board<PlainMail>, o: ObjId, second: Task, first: First) -> bool
     requires object { o < length board.old.domain.objects }
     requires domain { second.domain ≡ board.old.domain }
     requires within { second.turn.object < length board.old.domain.objects }
     requires waits { IsSome second.pending }
 {
-    let (moves, goes_on) = row;
-    if !acts(board, o, moves) {
-        return false;
-    }
-    if goes_on && !starts(board, o) {
+    if !goes_first(board, o, first) {
         return false;
     }
     is_refused(board, second, ContactError::Stranger)
@@ -159,8 +216,8 @@ fn second_is_refused(
     requires within { o < length board.old.domain.objects }
     requires domain { board.old.domain ≡ arc_value domain.now }
 {
-    match asking_by_hand(alloc, domain, board, o, SHOW) {
-        Some(second) => is_refused_behind(board, o, second, row),
+    match asking_by_hand(alloc, domain, board, o, row.asked) {
+        Some(second) => is_refused_behind(board, o, second, row.first),
         None => false,
     }
 }
@@ -219,14 +276,14 @@ fn refuses_second(
 {
     let o = ObjId::new(1);
     domain.has(o)
-        && asks(alloc, domain, board, o, SHOW)
-        && asks(alloc, domain, board, o, SHOW)
+        && asks(alloc, domain, board, o, row.asked)
+        && asks(alloc, domain, board, o, row.asked)
         && second_is_refused(alloc, domain, board, o, row)
 }
 
 /// Whether a second task of the first of two equal requests is refused, once the first one did its moves.
 pub fn refuses_second_task(alloc: Global, row: SecondTask) -> bool {
-    let Ok(domain) = domain_of(alloc, COUNTER) else {
+    let Ok(domain) = domain_of(alloc, row.text) else {
         return false;
     };
     let Some(board) = fresh_of(alloc, &domain) else {

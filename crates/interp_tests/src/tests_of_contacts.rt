@@ -3,7 +3,7 @@
 use crate::boards::{Run, is_kept};
 use crate::sends::{
     CAPACITY_ONE, FIRST_STATE_IS_DEAD, FOR_EACH_OTHER, HANDED_BACK, KILLED_RUN, KILLED_SUPPLY,
-    READY, SETS, TO_ITSELF, TO_TEN, TWO_WAITS, WORKED,
+    READY, SETS, TO_ITSELF, TO_NOBODY, TO_TEN, TWO_WAITS, WORKED,
 };
 use crate::strangers::{SECOND_TASKS, refuses_killed, refuses_second_task};
 use std::test::*;
@@ -12,7 +12,7 @@ const CONFIGURED: &[Run] = &[CAPACITY_ONE, KILLED_SUPPLY, KILLED_RUN, HANDED_BAC
 
 const WAITING: &[Run] = &[SETS, FOR_EACH_OTHER, TWO_WAITS, FIRST_STATE_IS_DEAD];
 
-const SENDING: &[Run] = &[TO_ITSELF, TO_TEN];
+const SENDING: &[Run] = &[TO_ITSELF, TO_TEN, TO_NOBODY];
 
 // The calls of the standard run, on the mail of one thread, give its journal.
 #[test]

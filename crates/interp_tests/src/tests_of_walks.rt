@@ -14,6 +14,7 @@ const SWITCH_ON: &[Wanted] = &[(0, 0, &[]), (1, 0, &[])];
 fn configured(steps: &'static [Step]) -> Walk {
     Walk {
         text: SUPPLIES,
+        changes: &[],
         object: 2,
         params: &[],
         state: 2,
@@ -51,6 +52,7 @@ const SUPPLIED: &[&[Step]] = &[
 const COUNTED: &[Walk] = &[
     Walk {
         text: COUNTER,
+        changes: &[],
         object: 1,
         params: &[Plain::Int(3), Plain::Str(b"x")],
         state: 1,
@@ -69,6 +71,7 @@ const COUNTED: &[Walk] = &[
     },
     Walk {
         text: COUNTER,
+        changes: &[],
         object: 1,
         params: &[Plain::Int(-4), Plain::Str(b"x")],
         state: 1,
@@ -93,6 +96,7 @@ const ON: usize = 1;
 fn nested(steps: &'static [Step], left: &'static [Plain]) -> Walk {
     Walk {
         text: NESTED,
+        changes: &[],
         object: 3,
         params: &[Plain::Int(0), Plain::Int(0)],
         state: 2,
@@ -163,6 +167,7 @@ const DEEP: &[(&[Step], &[Plain])] = &[
 const NOBODY: &[Walk] = &[
     Walk {
         text: EMPTY,
+        changes: &[],
         object: 0,
         params: &[],
         state: 0,
@@ -173,6 +178,7 @@ const NOBODY: &[Walk] = &[
     },
     Walk {
         text: LISTS,
+        changes: &[],
         object: 2,
         params: &[Plain::Int(9)],
         state: 0,
@@ -195,6 +201,76 @@ const NOBODY: &[Walk] = &[
                 TWO,
             ),
             Step::Sends(&[], &[]),
+            Step::Sends(&[], &[]),
+            Step::Ends(None),
+        ],
+        left: &[Plain::Int(8)],
+    },
+];
+
+// Sets that others have changed.
+const CHANGED: &[Walk] = &[
+    // One supply is left, and then none.
+    Walk {
+        text: SUPPLIES,
+        changes: &[(false, 0, 0)],
+        object: 2,
+        params: &[],
+        state: 2,
+        action: 2,
+        given: &[],
+        steps: &[
+            Step::Sends(&[(1, 0, &[])], &[Verdict::Accepted(0)]),
+            Step::Reads(&[1], &[1]),
+            Step::Ends(Some(3)),
+        ],
+        left: &[],
+    },
+    Walk {
+        text: SUPPLIES,
+        changes: &[(false, 1, 0), (false, 0, 0)],
+        object: 2,
+        params: &[],
+        state: 2,
+        action: 2,
+        given: &[],
+        steps: &[
+            Step::Sends(&[], &[]),
+            Step::Reads(&[], &[]),
+            Step::Ends(Some(3)),
+        ],
+        left: &[],
+    },
+    // Somebody is in a set that was declared without members, and the other set is in another order. No class declares
+    // the last action, which is asked of nobody.
+    Walk {
+        text: LISTS,
+        changes: &[(true, 0, 1), (false, 1, 0), (true, 1, 0)],
+        object: 2,
+        params: &[Plain::Int(9)],
+        state: 0,
+        action: 1,
+        given: &[],
+        steps: &[
+            Step::Sends(
+                &[
+                    (0, 0, &[Plain::Int(1), Plain::Str(b"x")]),
+                    (1, 0, &[Plain::Str(b"x"), Plain::Int(2)]),
+                ],
+                TWO,
+            ),
+            Step::Sets(0, Plain::Int(8)),
+            Step::Sends(
+                &[
+                    (0, 0, &[Plain::Int(8), Plain::Str(b"y")]),
+                    (1, 0, &[Plain::Str(b"y"), Plain::Int(8)]),
+                ],
+                TWO,
+            ),
+            Step::Sends(
+                &[(0, 0, &[Plain::Int(1), Plain::Str(b"z")])],
+                &[Verdict::Full],
+            ),
             Step::Sends(&[], &[]),
             Step::Ends(None),
         ],
@@ -232,4 +308,9 @@ fn nests_three_deep(rt: HostRuntime) {
 #[test]
 fn asks_nobody_and_two_classes(rt: HostRuntime) {
     assert!(rt; are_walked(rt.alloc(), NOBODY));
+}
+
+#[test]
+fn goes_by_the_members_that_sets_have(rt: HostRuntime) {
+    assert!(rt; are_walked(rt.alloc(), CHANGED));
 }

@@ -109,6 +109,28 @@ objectset: BOTH { R, L }
 objectset: NONE { }
 ";
 
+/// Requests to those in two sets, the first of which has no members, and a condition over it.
+pub const NOBODY: &[u8] = b"class: LAMP
+  state: OFF
+    action: LIGHT
+      move_to ON
+  state: ON
+class: BOSS
+  state: IDLE
+    action: GO
+      do LIGHT all_in E
+      do LIGHT all_in G
+      do LIGHT all_in E
+      if ( all_in E in_state ON ) then
+        move_to DONE
+      endif
+  state: DONE
+object: L is_of_class LAMP
+object: B is_of_class BOSS
+objectset: E { }
+objectset: G { L }
+";
+
 /// A switch without a device, and a lamp with one.
 pub const SWITCH: &[u8] = b"class: SWITCH
   state: OFF /initial_state

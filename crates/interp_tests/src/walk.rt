@@ -1,14 +1,18 @@
 //! Walks of a task: its contacts in order, and how each is answered.
-ghost use Rattle.std.specs.Prelude.{◌≡◌, IfSome};
-ghost use Rattle.smi_interp.specs.Expanded.{objects_by_names};
+ghost use Rattle.std.specs.Prelude.{◌≡◌, IfSome, IsSomeAnd, IsTrue, length};
+ghost use Rattle.smi_entry.specs.Sets.{AreOf};
+ghost use Rattle.smi_interp.specs.Expanded.{objects_by_names, posts_in};
+ghost use Rattle.smi_interp.specs.Task.{WantsStates, WantsVerdicts};
 
 use crate::beginnings::task_of;
 use crate::boards::envelope_of;
 use crate::lines::Asked;
+use crate::sets::{Change, are_members, members_of};
 use smi_entry::args::Reading;
 use smi_entry::entry::Verdict;
+use smi_entry::members::Members;
 use smi_interp::contact::{Contact, Names, Post, Wanted as Asks};
-use smi_interp::expanding::{objects_for, posts_count, posts_for};
+use smi_interp::expanding::{objects_for, posts_for};
 use smi_interp::task::Task;
 use smi_interp::turn::{Move, TurnRecord};
 use sml_checkable::domain_of;
@@ -41,11 +45,12 @@ pub enum Step {
     Ends(Option<usize>),
 }
 
-/// A task from its beginning to its end: its object and the parameters of this, the state in which it
-/// begins, its action and arguments, its steps, and the parameters that it leaves.
+/// A task from its beginning to its end: how others have changed sets before, its object and the parameters of this,
+/// the state in which it begins, its action and arguments, its steps, and the parameters that it leaves.
 #[derive(Clone, Copy)]
 pub struct Walk {
     pub text: &'static [u8],
+    pub changes: &'static [Change],
     pub object: usize,
     pub params: &'static [Plain],
     pub state: usize,
@@ -103,7 +108,8 @@ fn are_posts(posts: &[Post], wanted: &[Wanted]) -> bool {
             .all(|(post, wanted)| is_post(post, *wanted))
 }
 
-fn are_objects(objects: &[ObjId], numbers: &[usize]) -> bool {
+/// Whether objects are these, in this order.
+pub fn are_objects(objects: &[ObjId], numbers: &[usize]) -> bool {
     objects.len() == numbers.len()
         && objects
             .iter()
@@ -132,73 +138,140 @@ fn is_end(wanted: Option<usize>, state: Option<StateId>) -> bool {
 }
 
 // The posts of a `do`, asked for a second time where memory was refused.
-fn posts_at_last(alloc: Global, domain: &Domain, wanted: &Asks) -> Option<Vec<Post>> {
-    match posts_for(alloc, domain, wanted) {
+fn posts_at_last(
+    alloc: Global,
+    domain: &Domain,
+    members: &Members,
+    wanted: &Asks,
+) -> Option<Vec<Post>>
+    ensures { IfSome result (λ posts. posts.items ≡ posts_in domain.now members.now wanted.now) }
+{
+    match posts_for(alloc, domain, members, wanted) {
         Ok(posts) => Some(posts),
-        Err(_) => posts_for(alloc, domain, wanted).ok(),
+        Err(_) => posts_for(alloc, domain, members, wanted).ok(),
     }
 }
 
 // The objects of a condition, so too.
-fn objects_at_last(alloc: Global, domain: &Domain, names: &Names) -> Option<Vec<ObjId>>
-    ensures { IfSome result (λ objects. objects.items ≡ objects_by_names domain.now names.now) }
+fn objects_at_last(
+    alloc: Global,
+    domain: &Domain,
+    members: &Members,
+    names: &Names,
+) -> Option<Vec<ObjId>>
+    requires { AreOf domain.now members.now }
+    ensures { IfSome result (λ objects. objects.items ≡ objects_by_names domain.now members.now names.now) }
 {
-    match objects_for(alloc, domain, names) {
+    match objects_for(alloc, domain, members, names) {
         Ok(objects) => Some(objects),
-        Err(_) => objects_for(alloc, domain, names).ok(),
+        Err(_) => objects_for(alloc, domain, members, names).ok(),
     }
 }
 
-fn wants_posts(alloc: Global, domain: &Domain, asks: &Asks, wanted: &[Wanted]) -> bool {
-    match posts_at_last(alloc, domain, asks) {
+fn wants_posts(
+    alloc: Global,
+    domain: &Domain,
+    members: &Members,
+    asks: &Asks,
+    wanted: &[Wanted],
+) -> bool {
+    match posts_at_last(alloc, domain, members, asks) {
         Some(posts) => are_posts(&posts, wanted),
         None => false,
     }
 }
 
-fn names_objects(alloc: Global, domain: &Domain, names: &Names, numbers: &[usize]) -> bool {
-    match objects_at_last(alloc, domain, names) {
+fn names_objects(
+    alloc: Global,
+    domain: &Domain,
+    members: &Members,
+    names: &Names,
+    numbers: &[usize],
+) -> bool
+    requires { AreOf domain.now members.now }
+{
+    match objects_at_last(alloc, domain, members, names) {
         Some(objects) => are_objects(&objects, numbers),
         None => false,
     }
 }
 
-// Whether a contact is that of a step.
-fn is_contact(alloc: Global, domain: &Domain, contact: &Contact, step: Step) -> bool {
+// Whether a contact is that of a step, where sets have these members.
+fn is_contact(
+    alloc: Global,
+    domain: &Domain,
+    members: &Members,
+    contact: &Contact,
+    step: Step,
+) -> bool
+    requires { AreOf domain.now members.now }
+{
     match (contact, step) {
         (Contact::Local { param, value }, Step::Sets(number, plain)) => {
             param.get() == number && is_value(value, plain)
         }
-        (Contact::Send(asks), Step::Sends(wanted, _)) => wants_posts(alloc, domain, asks, wanted),
+        (Contact::Send(asks), Step::Sends(wanted, _)) => {
+            wants_posts(alloc, domain, members, asks, wanted)
+        }
         (Contact::Read(names), Step::Reads(numbers, _)) => {
-            names_objects(alloc, domain, names, numbers)
+            names_objects(alloc, domain, members, names, numbers)
         }
         (Contact::End(state), Step::Ends(wanted)) => is_end(wanted, *state),
         _ => false,
     }
 }
 
+// The same, where sets were changed so.
+fn is_contact_after(
+    alloc: Global,
+    domain: &Domain,
+    changes: &[Change],
+    contact: &Contact,
+    step: Step,
+) -> bool {
+    match members_of(alloc, domain, changes) {
+        Some(members) => is_contact(alloc, domain, &members, contact, step),
+        None => false,
+    }
+}
+
 // Whether the task asks for what the step does.
-fn asks(alloc: Global, task: &mut Task, step: Step) -> bool {
+fn asks(alloc: Global, task: &mut Task, changes: &[Change], step: Step) -> bool {
     match task.advance() {
-        Ok(contact) => is_contact(alloc, task.domain(), &contact, step),
+        Ok(contact) => is_contact_after(alloc, task.domain(), changes, &contact, step),
         Err(_) => false,
     }
 }
 
-fn asks_twice(alloc: Global, task: &mut Task, step: Step) -> bool {
-    asks(alloc, task, step) && asks(alloc, task, step)
+fn asks_twice(alloc: Global, task: &mut Task, changes: &[Change], step: Step) -> bool {
+    asks(alloc, task, changes, step) && asks(alloc, task, changes, step)
 }
 
-// Whether the task waits for so many verdicts, and is told these.
-fn is_sent(task: &mut Task, verdicts: &[Verdict]) -> bool {
+// Whether the task waits for so many verdicts, where sets have these members.
+fn wants_verdicts(alloc: Global, task: &Task, members: &Members, count: usize) -> bool
+    ensures { IsTrue result → IsSomeAnd task.now.pending (WantsVerdicts task.now.domain members.now count) }
+{
     match task.pending() {
-        Some(Contact::Send(wanted)) if posts_count(task.domain(), wanted) == verdicts.len() => {
-            task.sent(verdicts);
-            true
+        Some(Contact::Send(wanted)) => {
+            match posts_at_last(alloc, task.domain(), members, wanted) {
+                Some(posts) => posts.len() == count,
+                None => false,
+            }
         }
         _ => false,
     }
+}
+
+/// Whether the task waits for so many verdicts, and is told these, where sets were changed so.
+pub fn is_sent(alloc: Global, task: &mut Task, changes: &[Change], verdicts: &[Verdict]) -> bool {
+    let Some(members) = members_of(alloc, task.domain(), changes) else {
+        return false;
+    };
+    if !wants_verdicts(alloc, task, &members, verdicts.len()) {
+        return false;
+    }
+    task.sent(verdicts, members);
+    true
 }
 
 fn states_of(alloc: Global, numbers: &[usize]) -> Option<Vec<StateId>> {
@@ -209,48 +282,66 @@ fn states_of(alloc: Global, numbers: &[usize]) -> Option<Vec<StateId>> {
     Some(states)
 }
 
-// Whether the task waits for so many states, and is told these.
-fn is_told(alloc: Global, task: &mut Task, states: &[StateId]) -> bool {
+// Whether the task waits for so many states, where sets have these members.
+fn wants_states(alloc: Global, task: &Task, members: &Members, count: usize) -> bool
+    requires { AreOf task.now.domain members.now }
+    ensures { IsTrue result → IsSomeAnd task.now.pending (WantsStates task.now.domain members.now count) }
+{
     match task.pending() {
-        Some(Contact::Read(names)) => match objects_at_last(alloc, task.domain(), names) {
-            Some(objects) if objects.len() == states.len() => {
-                task.tell(states);
-                true
+        Some(Contact::Read(names)) => {
+            match objects_at_last(alloc, task.domain(), members, names) {
+                Some(objects) => objects.len() == count,
+                None => false,
             }
-            _ => false,
-        },
+        }
         _ => false,
     }
 }
 
-fn is_told_numbers(alloc: Global, task: &mut Task, numbers: &[usize]) -> bool {
+/// Whether the task waits for so many states, and is told these, where sets were changed so.
+pub fn is_told(alloc: Global, task: &mut Task, changes: &[Change], states: &[StateId]) -> bool {
+    let Some(members) = members_of(alloc, task.domain(), changes) else {
+        return false;
+    };
+    if !wants_states(alloc, task, &members, states.len()) {
+        return false;
+    }
+    task.tell(states, members);
+    true
+}
+
+fn is_told_numbers(alloc: Global, task: &mut Task, changes: &[Change], numbers: &[usize]) -> bool {
     match states_of(alloc, numbers) {
-        Some(states) => is_told(alloc, task, &states),
+        Some(states) => is_told(alloc, task, changes, &states),
         None => false,
     }
 }
 
-fn waits_for(alloc: Global, task: &Task, step: Step) -> bool {
+fn waits_for(alloc: Global, task: &Task, changes: &[Change], step: Step) -> bool {
     match task.pending() {
-        Some(contact) => is_contact(alloc, task.domain(), contact, step),
+        Some(contact) => is_contact_after(alloc, task.domain(), changes, contact, step),
         None => false,
     }
 }
 
 // Whether the task makes the step. What waits for an answer, and the end, are asked for twice; behind an
 // answer it waits for nothing, nor behind a set, and for ever behind the end.
-fn makes(alloc: Global, task: &mut Task, step: Step) -> bool {
+fn makes(alloc: Global, task: &mut Task, changes: &[Change], step: Step) -> bool {
     match step {
-        Step::Sets(_, _) => asks(alloc, task, step) && task.pending().is_none(),
+        Step::Sets(_, _) => asks(alloc, task, changes, step) && task.pending().is_none(),
         Step::Sends(_, verdicts) => {
-            asks_twice(alloc, task, step) && is_sent(task, verdicts) && task.pending().is_none()
-        }
-        Step::Reads(_, states) => {
-            asks_twice(alloc, task, step)
-                && is_told_numbers(alloc, task, states)
+            asks_twice(alloc, task, changes, step)
+                && is_sent(alloc, task, changes, verdicts)
                 && task.pending().is_none()
         }
-        Step::Ends(_) => asks_twice(alloc, task, step) && waits_for(alloc, task, step),
+        Step::Reads(_, states) => {
+            asks_twice(alloc, task, changes, step)
+                && is_told_numbers(alloc, task, changes, states)
+                && task.pending().is_none()
+        }
+        Step::Ends(_) => {
+            asks_twice(alloc, task, changes, step) && waits_for(alloc, task, changes, step)
+        }
     }
 }
 
@@ -258,8 +349,8 @@ fn are_verdicts(verdicts: &[Verdict], told: &[Verdict]) -> bool {
     verdicts.len() == told.len() && verdicts.iter().zip(told.iter()).all(|(x, y)| *x == *y)
 }
 
-// Whether a move that was recorded is that of a step.
-fn is_made(alloc: Global, domain: &Domain, made: &Move, step: Step) -> bool {
+// Whether a move that was recorded is that of a step, where sets were changed so.
+fn is_made(alloc: Global, domain: &Domain, changes: &[Change], made: &Move, step: Step) -> bool {
     match (made, step) {
         (Move::Set { param, value }, Step::Sets(number, plain)) => {
             param.get() == number && is_value(value, plain)
@@ -268,11 +359,16 @@ fn is_made(alloc: Global, domain: &Domain, made: &Move, step: Step) -> bool {
             Move::Sent {
                 wanted: asks,
                 verdicts,
+                members,
             },
             Step::Sends(wanted, told),
-        ) => wants_posts(alloc, domain, asks, wanted) && are_verdicts(verdicts, told),
-        (Move::Saw { readings }, Step::Reads(objects, states)) => {
-            are_readings(readings, objects, states)
+        ) => {
+            are_members(alloc, domain, members, changes)
+                && wants_posts(alloc, domain, members, asks, wanted)
+                && are_verdicts(verdicts, told)
+        }
+        (Move::Saw { readings, members }, Step::Reads(objects, states)) => {
+            are_members(alloc, domain, members, changes) && are_readings(readings, objects, states)
         }
         _ => false,
     }
@@ -285,11 +381,13 @@ fn is_recorded(alloc: Global, domain: &Domain, turn: &TurnRecord, walk: &Walk) -
         && turn.letter.action.get() == walk.action
         && are_values(&turn.params, walk.params)
         && are_values(turn.letter.args.values(), walk.given)
-        && turn
-            .moves
-            .iter()
-            .zip(walk.steps.iter())
-            .all(|(made, step)| is_made(alloc, domain, made, *step))
+        && turn.moves.iter().zip(walk.steps.iter()).all(|(made, step)| is_made(
+            alloc,
+            domain,
+            walk.changes,
+            made,
+            *step,
+        ))
 }
 
 // A task in the hands of another worker.
@@ -325,7 +423,7 @@ fn is_made_by(alloc: Global, task: Task, walk: &Walk) -> bool {
     let mut task = task;
     let mut made = true;
     for step in walk.steps {
-        made = made && makes(alloc, &mut task, *step);
+        made = made && makes(alloc, &mut task, walk.changes, *step);
         task = handed(task);
     }
     is_left(alloc, task, walk) && made
@@ -349,17 +447,17 @@ fn begun_at_last(alloc: Global, walk: &Walk) -> Option<Task> {
 }
 
 // Whether the task makes the step, at the second time at the latest.
-fn makes_at_last(alloc: Global, task: &mut Task, step: Step) -> bool {
+fn makes_at_last(alloc: Global, task: &mut Task, changes: &[Change], step: Step) -> bool {
     if !matches!(step, Step::Sets(_, _)) {
         // What waits for an answer is asked for again below.
-        let _ = asks(alloc, task, step);
+        let _ = asks(alloc, task, changes, step);
     }
-    makes(alloc, task, step) || makes(alloc, task, step)
+    makes(alloc, task, changes, step) || makes(alloc, task, changes, step)
 }
 
-fn makes_all_at_last(alloc: Global, task: &mut Task, steps: &[Step]) -> bool {
-    for step in steps {
-        if !makes_at_last(alloc, task, *step) {
+fn makes_all_at_last(alloc: Global, task: &mut Task, walk: &Walk) -> bool {
+    for step in walk.steps {
+        if !makes_at_last(alloc, task, walk.changes, *step) {
             return false;
         }
     }
@@ -371,7 +469,7 @@ pub fn is_walked_at_last(alloc: Global, walk: &Walk) -> bool {
     match begun_at_last(alloc, walk) {
         Some(task) => {
             let mut task = task;
-            let made = makes_all_at_last(alloc, &mut task, walk.steps);
+            let made = makes_all_at_last(alloc, &mut task, walk);
             is_left(alloc, task, walk) && made
         }
         None => false,

@@ -1,6 +1,7 @@
 //! Entries that are added to a ledger. Each answers false where it is none of the domain's, where it may
 //! not be added there, and where memory is refused.
 ghost use Rattle.std.specs.Prelude.{◌≡◌, ◌<◌, IfSome, length};
+ghost use Rattle.smi_entry.specs.Sets as says;
 
 use crate::completing::{Plain, value_of};
 use crate::facts::sender_of;
@@ -8,9 +9,10 @@ use crate::runs::{By, Line};
 use smi_entry::args::{Args, Reading, Readings};
 use smi_entry::entry::{ActionEnd, Cause, Sender, Verdict};
 use smi_entry::envelope::Envelope;
+use smi_entry::members::Members;
 use smi_entry::session::SessionId;
 use smi_ledger::ledger::Ledger;
-use sml_domain::ids::{ActionId, ObjId, StateId};
+use sml_domain::ids::{ActionId, ObjId, SetId, StateId};
 use std::alloc::Global;
 
 /// The arguments that a row writes.
@@ -70,6 +72,15 @@ fn starts(
     }
 }
 
+// Arguments, with the members that sets have now.
+fn args_now(alloc: Global, ledger: &Ledger, given: &[Plain]) -> Option<(Args, Members)>
+    ensures { IfSome result (λ r. r.1 ≡ says.sets_after ledger.now.domain ledger.now.journal) }
+{
+    let args = args_of(alloc, given)?;
+    let sets = ledger.sets().share().ok()?;
+    Some((args, sets))
+}
+
 // A post to a target, with its action and its arguments.
 fn posts(
     alloc: Global,
@@ -85,9 +96,9 @@ fn posts(
     if ledger.hold(1).is_err() || ledger.hold_answers(o, 1).is_err() {
         return false;
     }
-    match args_of(alloc, given) {
-        Some(args) => {
-            ledger.add_post(o, target, verdict, ActionId::new(action), args);
+    match args_now(alloc, ledger, given) {
+        Some((args, sets)) => {
+            ledger.add_post(o, target, verdict, ActionId::new(action), args, sets);
             true
         }
         None => false,
@@ -102,13 +113,19 @@ fn waits(ledger: &mut Ledger, o: ObjId) -> bool {
     true
 }
 
-// The readings, for two owners.
-fn shared_readings(alloc: Global, rows: &[(usize, usize)]) -> Option<(Readings, Readings)>
-    ensures { IfSome result (λ r. r.1 ≡ r.0) }
+// The readings, for two owners, with the members that sets have now.
+fn readings_now(
+    alloc: Global,
+    ledger: &Ledger,
+    rows: &[(usize, usize)],
+) -> Option<(Readings, Readings, Members)>
+    ensures same { IfSome result (λ r. r.1 ≡ r.0) }
+    ensures sets { IfSome result (λ r. r.2 ≡ says.sets_after ledger.now.domain ledger.now.journal) }
 {
     let readings = readings_of(alloc, rows)?;
     let kept = readings.share().ok()?;
-    Some((readings, kept))
+    let sets = ledger.sets().share().ok()?;
+    Some((readings, kept, sets))
 }
 
 fn sees(alloc: Global, ledger: &mut Ledger, o: ObjId, rows: &[(usize, usize)]) -> bool {
@@ -118,12 +135,60 @@ fn sees(alloc: Global, ledger: &mut Ledger, o: ObjId, rows: &[(usize, usize)]) -
     if ledger.hold(1).is_err() || ledger.hold_answers(o, 1).is_err() {
         return false;
     }
-    match shared_readings(alloc, rows) {
-        Some((readings, kept)) => {
-            ledger.add_seen(o, readings, kept);
+    match readings_now(alloc, ledger, rows) {
+        Some((readings, kept, sets)) => {
+            ledger.add_seen(o, readings, kept, sets);
             true
         }
         None => false,
+    }
+}
+
+// An object puts a member into a set, or takes it out.
+fn changes(
+    alloc: Global,
+    ledger: &mut Ledger,
+    o: ObjId,
+    add: bool,
+    change: (ObjId, SetId),
+) -> bool {
+    let (member, set) = change;
+    if !ledger.domain().has(o) || !ledger.domain().has(member) {
+        return false;
+    }
+    if ledger.hold(1).is_err() || ledger.hold_answers(o, 1).is_err() {
+        return false;
+    }
+    match ledger
+        .sets()
+        .with_change(alloc, ledger.domain(), add, member, set)
+    {
+        Ok(sets) if add => {
+            ledger.add_insert(o, member, set, sets);
+            true
+        }
+        Ok(sets) => {
+            ledger.add_remove(o, member, set, sets);
+            true
+        }
+        Err(_) => false,
+    }
+}
+
+// A set has no member to which an object could post.
+fn finds_none(ledger: &mut Ledger, o: ObjId, set: SetId) -> bool {
+    if !ledger.domain().has(o) {
+        return false;
+    }
+    if ledger.hold(1).is_err() || ledger.hold_answers(o, 1).is_err() {
+        return false;
+    }
+    match ledger.sets().share() {
+        Ok(sets) => {
+            ledger.add_none(o, set, sets);
+            true
+        }
+        Err(_) => false,
     }
 }
 
@@ -174,6 +239,21 @@ pub fn adds(alloc: Global, ledger: &mut Ledger, line: Line) -> bool {
         Line::Skip(o) => ends(ledger, ObjId::new(o), ActionEnd::Skipped),
         Line::Kill(o, session) => kills_by(ledger, ObjId::new(o), session),
         Line::Fault(o) => kills(ledger, ObjId::new(o), Cause::Fault),
+        Line::Insert(o, member, set) => changes(
+            alloc,
+            ledger,
+            ObjId::new(o),
+            true,
+            (ObjId::new(member), SetId::new(set)),
+        ),
+        Line::Remove(o, member, set) => changes(
+            alloc,
+            ledger,
+            ObjId::new(o),
+            false,
+            (ObjId::new(member), SetId::new(set)),
+        ),
+        Line::Empty(o, set) => finds_none(ledger, ObjId::new(o), SetId::new(set)),
     }
 }
 

@@ -3,11 +3,13 @@ ghost use Rattle.std.specs.Prelude.{◌<◌, length, IfSome};
 ghost use Rattle.smi_ledger.specs.Tables.{IsKnown};
 
 use crate::runs::By;
-use smi_entry::entry::Sender;
+use crate::sets::are;
+use smi_entry::entry::{Answer, Sender};
+use smi_entry::members::Members;
 use smi_entry::session::SessionId;
 use smi_ledger::ledger::Ledger;
 use sml_domain::domain::Domain;
-use sml_domain::ids::{ObjId, StateId};
+use sml_domain::ids::{ObjId, SetId, StateId};
 
 /// What may be so. All go by number.
 #[derive(Clone, Copy)]
@@ -34,6 +36,10 @@ pub enum Fact {
     IsClear(usize, usize),
     /// For the first object the second is not.
     IsBusy(usize, usize),
+    /// The set has these members, in this order.
+    Has(usize, &'static [usize]),
+    /// When the open action of the object was answered at the place, the set had these members, in this order.
+    Had(usize, usize, usize, &'static [usize]),
 }
 
 /// A sender of a domain, or none where it has none of the number.
@@ -59,6 +65,27 @@ fn has_started(ledger: &Ledger, by: By, o: ObjId, count: usize) -> bool {
     }
 }
 
+// The members that sets had at an answer, where it holds them.
+fn sets_at(answer: &Answer) -> Option<&Members> {
+    match answer {
+        Answer::Told(_, sets) => Some(sets),
+        Answer::Read(_, sets) => Some(sets),
+        Answer::Nobody(sets) => Some(sets),
+        Answer::Changed => None,
+    }
+}
+
+// Whether a set had these members at an answer.
+fn had(ledger: &Ledger, answer: Option<&Answer>, set: usize, members: &[usize]) -> bool {
+    let Some(answer) = answer else {
+        return false;
+    };
+    match sets_at(answer) {
+        Some(sets) => are(sets.of(ledger.domain(), SetId::new(set)), members),
+        None => false,
+    }
+}
+
 // Whether this is so of an object alone, which the domain has.
 fn is_so_at(ledger: &Ledger, fact: Fact, o: ObjId) -> bool
     requires { o < length ledger.now.domain.objects }
@@ -70,6 +97,9 @@ fn is_so_at(ledger: &Ledger, fact: Fact, o: ObjId) -> bool
         Fact::Waits(_) => ledger.waits(o),
         Fact::Killed(_, place) => ledger.killed(o) == Some(place),
         Fact::IsAlive(_) => ledger.killed(o).is_none(),
+        Fact::Had(_, place, set, members) => {
+            had(ledger, ledger.answers(o).get(place), set, members)
+        }
         _ => false,
     }
 }
@@ -101,6 +131,8 @@ fn objects_of(fact: Fact) -> (usize, Option<usize>) {
         Fact::Starts(_) => (0, None),
         Fact::IsClear(a, o) => (a, Some(o)),
         Fact::IsBusy(a, o) => (a, Some(o)),
+        Fact::Has(_, _) => (0, None),
+        Fact::Had(o, _, _, _) => (o, None),
     }
 }
 
@@ -113,6 +145,7 @@ pub fn is_so(ledger: &Ledger, fact: Fact) -> bool {
     }
     match (fact, second.map(ObjId::new)) {
         (Fact::Starts(count), _) => ledger.starts() == count,
+        (Fact::Has(set, members), _) => are(ledger.members(SetId::new(set)), members),
         (Fact::Started(by, _, count), _) => has_started(ledger, by, o, count),
         (_, None) => is_so_at(ledger, fact, o),
         (_, Some(target)) => {

@@ -2,7 +2,7 @@
 
 use crate::adding::adds_all;
 use crate::completing::{COUNTER, Plain};
-use crate::runs::{ARGUMENTS, By, KILLED_SUPPLY, KILLS, Line, Run, STANDARD, SUPPLIES};
+use crate::runs::{ARGUMENTS, By, CHANGES, KILLED_SUPPLY, KILLS, Line, Run, STANDARD, SUPPLIES};
 use crate::tests_of_runs::ledger_of;
 use smi_entry::entry::Entry;
 use smi_journal::journal_text::write_journal;
@@ -11,7 +11,7 @@ use sml_domain::domain::Domain;
 use std::alloc::Global;
 
 /// The text of a journal.
-pub const STANDARD_TEXT: &[u8] = b"smi-journal 1
+pub const STANDARD_TEXT: &[u8] = b"smi-journal 2
 start RUN @1 0 CONFIGURE
 post RUN HV1 0 SWITCH_ON
 post RUN HV2 0 SWITCH_ON
@@ -27,7 +27,7 @@ end RUN skipped
 ";
 
 /// The text of a journal.
-pub const KILLS_TEXT: &[u8] = b"smi-journal 1
+pub const KILLS_TEXT: &[u8] = b"smi-journal 2
 start RUN @1 0 CONFIGURE
 start HV1 @2 0 SWITCH_ON
 kill HV2 @1
@@ -44,7 +44,7 @@ kill RUN @8
 ";
 
 /// The text of a journal.
-pub const KILLED_SUPPLY_TEXT: &[u8] = b"smi-journal 1
+pub const KILLED_SUPPLY_TEXT: &[u8] = b"smi-journal 2
 start RUN @1 0 CONFIGURE
 post RUN HV1 0 SWITCH_ON
 post RUN HV2 0 SWITCH_ON
@@ -57,12 +57,32 @@ end RUN ERROR
 ";
 
 /// The text of a journal.
-pub const ARGUMENTS_TEXT: &[u8] = b"smi-journal 1
+pub const ARGUMENTS_TEXT: &[u8] = b"smi-journal 2
 start C @1 0 PUT (T = 5, M = \"a\")
 post C OUT 0 TAKE (V = 5, W = \"a\")
 end C IDLE
 start OUT C 0 TAKE (V = 5, W = \"a\")
 end OUT READY
+";
+
+/// The text of a journal.
+pub const CHANGES_TEXT: &[u8] = b"smi-journal 2
+start X @1 0 GO
+post X A 0 LIGHT
+empty X E
+insert X A E
+insert X X G
+insert X A G
+remove X A G
+insert X A G
+remove X X E
+wait X
+seen X A=OFF
+remove X A E
+kill X @1
+start A X 0 LIGHT
+insert A B E
+end A ON
 ";
 
 // A request with the least int and the empty string, and the greatest number that a request can have.
@@ -83,7 +103,7 @@ const ENDS_OF_RANGES: Run = Run {
 };
 
 /// The text of a journal.
-pub const ENDS_OF_RANGES_TEXT: &[u8] = b"smi-journal 1
+pub const ENDS_OF_RANGES_TEXT: &[u8] = b"smi-journal 2
 start C @8 18446744073709551615 PUT (T = -9223372036854775808, M = \"\")
 seen C
 kill C @1
@@ -125,8 +145,9 @@ const TEXTS: &[(Run, &[u8])] = &[
     (KILLS, KILLS_TEXT),
     (KILLED_SUPPLY, KILLED_SUPPLY_TEXT),
     (ARGUMENTS, ARGUMENTS_TEXT),
+    (CHANGES, CHANGES_TEXT),
     (ENDS_OF_RANGES, ENDS_OF_RANGES_TEXT),
-    (NO_ENTRIES, b"smi-journal 1\n"),
+    (NO_ENTRIES, b"smi-journal 2\n"),
 ];
 
 #[test]

@@ -5,6 +5,7 @@ use crate::journal_texts::{
     ARGUMENTS_TEXT, ENDS_OF_RANGES_TEXT, KILLED_SUPPLY_TEXT, KILLS_TEXT, STANDARD_TEXT,
 };
 use crate::runs::SUPPLIES;
+use smi_entry::journal::Format;
 use smi_journal::journal_text::write_journal;
 use smi_journal::read::{JournalError, read_journal};
 use sml_checkable::domain_of;
@@ -13,13 +14,46 @@ use std::alloc::{AllocError, Global};
 use std::io::{Error, Write};
 use std::sync::Arc;
 
-// Whether bytes are read as a journal that is written as these bytes.
-fn is_read_back(alloc: Global, domain: &Domain, bytes: &[u8]) -> bool {
-    let Ok(journal) = read_journal(alloc, domain, bytes) else {
+// The place of the digit in the first line.
+const DIGIT: usize = 12;
+
+// The bytes with the first line of a format.
+fn with_format(alloc: Global, bytes: &[u8], format: Format) -> Option<Vec<u8>> {
+    let mut text = Vec::from_slice(alloc, bytes).ok()?;
+    let digit = match format {
+        Format::One => b'1',
+        Format::Two => b'2',
+    };
+    *text.get_mut(DIGIT)? = digit;
+    Some(text)
+}
+
+// Whether bytes are read as a journal of the format that is written as these.
+fn is_read_as(
+    alloc: Global,
+    domain: &Domain,
+    bytes: &[u8],
+    format: Format,
+    written: &[u8],
+) -> bool {
+    let Ok((found, journal)) = read_journal(alloc, domain, bytes) else {
         return false;
     };
     let mut text = Vec::new(alloc);
-    write_journal(domain, journal.entries(), &mut text).is_ok() && text.as_slice() == bytes
+    write_journal(domain, journal.entries(), &mut text).is_ok()
+        && found == format
+        && text.as_slice() == written
+}
+
+// Whether a text is read in a format, and written in the second one.
+fn is_read_back(alloc: Global, domain: &Domain, bytes: &[u8], format: Format) -> bool {
+    let Some(text) = with_format(alloc, bytes, format) else {
+        return false;
+    };
+    match with_format(alloc, bytes, Format::Two) {
+        Some(written) => is_read_as(alloc, domain, &text, format, &written),
+        None => false,
+    }
 }
 
 // Whether bytes are refused so.
@@ -30,9 +64,13 @@ fn is_refused(alloc: Global, domain: &Domain, bytes: &[u8], expected: JournalErr
     }
 }
 
-fn is_read_in(alloc: Global, domain: &Option<Arc<Domain>>, bytes: &[u8]) -> bool {
+// Whether a text is read in both formats.
+fn is_read_in_both(alloc: Global, domain: &Option<Arc<Domain>>, bytes: &[u8]) -> bool {
     match domain {
-        Some(domain) => is_read_back(alloc, domain, bytes),
+        Some(domain) => {
+            is_read_back(alloc, domain, bytes, Format::One)
+                && is_read_back(alloc, domain, bytes, Format::Two)
+        }
         None => false,
     }
 }
@@ -72,15 +110,19 @@ const TEXTS: &[(&[u8], &[u8])] = &[
 fn journals_are_read(rt: HostRuntime) {
     for (domain, text) in TEXTS {
         let domain = domain_of(rt.alloc(), *domain).ok();
-        assert!(rt; is_read_in(rt.alloc(), &domain, *text));
+        assert!(rt; is_read_in_both(rt.alloc(), &domain, *text));
     }
 }
 
 const NO_HEADERS: &[&[u8]] = &[
     b"",
     b"smi-journal 1",
-    b"smi-journal 2\n",
+    b"smi-journal 2",
+    b"smi-journal 0\n",
+    b"smi-journal 3\n",
+    b"smi-journal 12\n",
     b"smi-journal 1 \n",
+    b"smi-journal 2 \n",
     b"smi-journal 1\r\n",
     b"\nsmi-journal 1\n",
     b"wait RUN\n",
@@ -125,19 +167,38 @@ const BAD_LINES: &[&[u8]] = &[
     b"kill RUN @10\n",
     b"kill RUN Fault\n",
     b"halt RUN\n",
+    b"insert RUN HV1\n",
+    b"insert RUN HV1 HV HV\n",
+    b"insert RUN HV HV1\n",
+    b"insert RUN HV1 in HV\n",
+    b"insert XX HV1 HV\n",
+    b"insert RUN HV1 HV",
+    b"remove RUN XX HV\n",
+    b"remove RUN HV1 XX\n",
+    b"remove RUN HV1 HV1\n",
+    b"remove RUN  HV1 HV\n",
+    b"empty RUN\n",
+    b"empty RUN HV1\n",
+    b"empty RUN HV HV\n",
+    b"empty XX HV\n",
 ];
 
-// A text whose first line is good, and whose third is this.
-fn behind_a_wait(alloc: Global, line: &[u8]) -> Option<Vec<u8>> {
-    let mut text = Vec::from_slice(alloc, b"smi-journal 1\nwait RUN\n").ok()?;
+// A text of a format whose second line is good, and whose third is this.
+fn behind_a_wait(alloc: Global, format: Format, line: &[u8]) -> Option<Vec<u8>> {
+    let mut text = with_format(alloc, b"smi-journal 1\nwait RUN\n", format)?;
     for b in line {
         text.push(*b).ok()?;
     }
     Some(text)
 }
 
-fn is_bad_behind_a_wait(alloc: Global, domain: &Option<Arc<Domain>>, line: &[u8]) -> bool {
-    match behind_a_wait(alloc, line) {
+fn is_bad_behind_a_wait(
+    alloc: Global,
+    domain: &Option<Arc<Domain>>,
+    format: Format,
+    line: &[u8],
+) -> bool {
+    match behind_a_wait(alloc, format, line) {
         Some(text) => is_refused_in(alloc, domain, &text, JournalError::BadLine(3)),
         None => false,
     }
@@ -147,7 +208,38 @@ fn is_bad_behind_a_wait(alloc: Global, domain: &Option<Arc<Domain>>, line: &[u8]
 fn bad_lines_by_their_numbers(rt: HostRuntime) {
     let domain = domain_of(rt.alloc(), SUPPLIES).ok();
     for line in BAD_LINES {
-        assert!(rt; is_bad_behind_a_wait(rt.alloc(), &domain, *line));
+        assert!(rt; is_bad_behind_a_wait(rt.alloc(), &domain, Format::One, *line));
+        assert!(rt; is_bad_behind_a_wait(rt.alloc(), &domain, Format::Two, *line));
+    }
+}
+
+// These are lines of the second format alone.
+const LINES_OF_SETS: &[&[u8]] = &[
+    b"insert RUN HV1 HV\n",
+    b"insert RUN RUN HV\n",
+    b"remove HV2 HV1 HV\n",
+    b"empty RUN HV\n",
+];
+
+// Whether a line is read in the second format, and bad in the first one.
+fn is_of_sets(alloc: Global, domain: &Option<Arc<Domain>>, line: &[u8]) -> bool {
+    let Some(domain_there) = domain else {
+        return false;
+    };
+    match behind_a_wait(alloc, Format::Two, line) {
+        Some(text) => {
+            is_read_back(alloc, domain_there, &text, Format::Two)
+                && is_bad_behind_a_wait(alloc, domain, Format::One, line)
+        }
+        None => false,
+    }
+}
+
+#[test]
+fn lines_of_sets_are_of_the_second_format(rt: HostRuntime) {
+    let domain = domain_of(rt.alloc(), SUPPLIES).ok();
+    for line in LINES_OF_SETS {
+        assert!(rt; is_of_sets(rt.alloc(), &domain, *line));
     }
 }
 
@@ -209,7 +301,7 @@ fn is_front_written(
     let Some(domain) = domain else {
         return false;
     };
-    let Ok(journal) = read_journal(alloc, domain, bytes) else {
+    let Ok((_, journal)) = read_journal(alloc, domain, bytes) else {
         return false;
     };
     let mut writer = OneByte {

@@ -24,6 +24,8 @@ mod memory;
 #[cfg(test)]
 mod runs;
 #[cfg(test)]
+mod sets;
+#[cfg(test)]
 mod tests_of_mails;
 #[cfg(test)]
 mod tests_of_runs;

@@ -6,7 +6,7 @@ use smi_entry::entry::{Answer, Entry, Sender};
 use smi_entry::letter::Letter;
 use smi_entry::session::SessionId;
 use smi_ledger::ledger::Ledger;
-use sml_domain::ids::ObjId;
+use sml_domain::ids::{ObjId, SetId};
 use sml_domain::value::same_values;
 
 // Whether a letter is what an entry starts.
@@ -43,8 +43,11 @@ fn is_opened_at(opened: Option<&Letter>, entries: &[Entry], place: Option<usize>
 // Whether an answer is what an entry tells.
 fn is_told_by(answer: &Answer, entry: &Entry) -> bool {
     match (answer, entry) {
-        (Answer::Told(told), Entry::Post { verdict, .. }) => told == verdict,
-        (Answer::Read(read), Entry::Seen { readings, .. }) => read.list() == readings.list(),
+        (Answer::Told(told, _), Entry::Post { verdict, .. }) => told == verdict,
+        (Answer::Read(read, _), Entry::Seen { readings, .. }) => read.list() == readings.list(),
+        (Answer::Nobody(_), Entry::NoMember { .. }) => true,
+        (Answer::Changed, Entry::Insert { .. }) => true,
+        (Answer::Changed, Entry::Remove { .. }) => true,
         _ => false,
     }
 }
@@ -54,6 +57,9 @@ fn tells(entry: &Entry, o: ObjId) -> bool {
     match entry {
         Entry::Post { sender, .. } => *sender == o,
         Entry::Seen { object, .. } => *object == o,
+        Entry::NoMember { object, .. } => *object == o,
+        Entry::Insert { object, .. } => *object == o,
+        Entry::Remove { object, .. } => *object == o,
         _ => false,
     }
 }
@@ -131,6 +137,18 @@ fn is_as_walked_with_each(ledger: &Ledger, o: ObjId) -> bool
     true
 }
 
+// Whether an object is a member of each set where the journal says so.
+fn is_in_as_walked(ledger: &Ledger, o: ObjId) -> bool {
+    for place in 0..ledger.domain().groups().len() {
+        let set = SetId::new(place);
+        let walked = walks::is_member(ledger.domain(), ledger.journal(), set, o);
+        if ledger.members(set).contains(&o) != walked {
+            return false;
+        }
+    }
+    true
+}
+
 /// Whether each look-up answers what a walk over the journal finds.
 pub fn is_as_walked(ledger: &Ledger) -> bool {
     let objects = ledger.domain().objects();
@@ -139,6 +157,7 @@ pub fn is_as_walked(ledger: &Ledger) -> bool {
         if !is_as_walked_at(ledger, o)
             || !counts_sessions(ledger, o)
             || !is_as_walked_with_each(ledger, o)
+            || !is_in_as_walked(ledger, o)
         {
             return false;
         }

@@ -22,6 +22,7 @@ const SINK: &[u8] = b"class: SINK
   state: READY
     action: TAKE (int V, string W)
 object: OUT is_of_class SINK
+objectset: G { }
 ";
 
 const GIVEN: &[Plain] = &[Plain::Int(5), Plain::Str(b"a")];
@@ -32,16 +33,22 @@ const LINES: &[Line] = &[
     Line::Post(0, 0, Verdict::Accepted(0), 0, GIVEN),
     Line::Wait(0),
     Line::Seen(0, &[(0, 0)]),
+    Line::Empty(0, 0),
+    Line::Insert(0, 0, 0),
+    Line::Remove(0, 0, 0),
     Line::End(0, 0),
     Line::Kill(0, 1),
 ];
 
 // The text of these entries.
-const TEXT: &[u8] = b"smi-journal 1
+const TEXT: &[u8] = b"smi-journal 2
 start OUT @1 0 TAKE (V = 5, W = \"a\")
 post OUT OUT 0 TAKE (V = 5, W = \"a\")
 wait OUT
 seen OUT OUT=READY
+empty OUT G
+insert OUT OUT G
+remove OUT OUT G
 end OUT READY
 kill OUT @1
 ";
@@ -82,8 +89,8 @@ fn adds_all_at_last(alloc: Global, ledger: &mut Ledger) -> bool {
 // The journal of the text, asked for a second time where memory was refused.
 fn journal_at_last(alloc: Global, domain: &Domain) -> Option<Journal> {
     match read_journal(alloc, domain, TEXT) {
-        Ok(journal) => Some(journal),
-        Err(JournalError::Memory) => read_journal(alloc, domain, TEXT).ok(),
+        Ok((_, journal)) => Some(journal),
+        Err(JournalError::Memory) => Some(read_journal(alloc, domain, TEXT).ok()?.1),
         Err(_) => None,
     }
 }

@@ -2,6 +2,7 @@
 
 use crate::completing::{COUNTER, Plain};
 use crate::facts::Fact;
+use crate::sets::{A, B, E, G, LAMPS, X};
 use smi_entry::entry::Verdict;
 
 /// Two supplies, and what switches them on.
@@ -79,6 +80,12 @@ pub enum Line {
     Kill(usize, u8),
     /// An object is killed by a fault of its device.
     Fault(usize),
+    /// An object puts a member into a set.
+    Insert(usize, usize, usize),
+    /// An object takes a member out of a set.
+    Remove(usize, usize, usize),
+    /// An object finds no member in a set to which it would send.
+    Empty(usize, usize),
 }
 
 /// A journal of a domain, and what is so after so many of its entries.
@@ -256,5 +263,60 @@ pub const ARGUMENTS: Run = Run {
         (3, Fact::IsBusy(C, OUT)),
         (5, Fact::IsClear(C, OUT)),
         (5, Fact::InState(OUT, READY_SINK)),
+    ],
+};
+
+const LIGHT: usize = 0;
+
+const GO: usize = 1;
+
+/// Members are put into sets and taken out, and who did it is killed.
+pub const CHANGES: Run = Run {
+    text: LAMPS,
+    lines: &[
+        Line::Start(X, By::Session(1), 0, GO, NONE),
+        Line::Post(X, A, Verdict::Accepted(0), LIGHT, NONE),
+        Line::Empty(X, E),
+        Line::Insert(X, A, E),
+        Line::Insert(X, X, G),
+        Line::Insert(X, A, G),
+        Line::Remove(X, A, G),
+        Line::Insert(X, A, G),
+        Line::Remove(X, X, E),
+        Line::Wait(X),
+        Line::Seen(X, &[(A, OFF)]),
+        Line::Remove(X, A, E),
+        Line::Kill(X, 1),
+        Line::Start(A, By::Object(X), 0, LIGHT, NONE),
+        Line::Insert(A, B, E),
+        Line::End(A, ON),
+    ],
+    facts: &[
+        (0, Fact::Has(G, &[A, B])),
+        (0, Fact::Has(E, &[])),
+        (3, Fact::Answers(X, 2)),
+        (3, Fact::Had(X, 1, E, &[])),
+        (4, Fact::Has(E, &[A])),
+        (4, Fact::Has(G, &[A, B])),
+        (4, Fact::Answers(X, 3)),
+        (4, Fact::Had(X, 1, E, &[])),
+        (5, Fact::Has(G, &[A, B, X])),
+        (6, Fact::Has(G, &[A, B, X])),
+        (6, Fact::Answers(X, 5)),
+        (7, Fact::Has(G, &[B, X])),
+        (8, Fact::Has(G, &[B, X, A])),
+        (9, Fact::Has(E, &[A])),
+        (9, Fact::Answers(X, 8)),
+        (10, Fact::Waits(X)),
+        (11, Fact::Had(X, 8, G, &[B, X, A])),
+        (11, Fact::Had(X, 0, G, &[A, B])),
+        (12, Fact::Has(E, &[])),
+        (12, Fact::Had(X, 8, E, &[A])),
+        (13, Fact::Answers(X, 0)),
+        (13, Fact::Has(G, &[B, X, A])),
+        (15, Fact::Has(E, &[B])),
+        (15, Fact::Answers(A, 1)),
+        (16, Fact::Has(E, &[B])),
+        (16, Fact::Has(G, &[B, X, A])),
     ],
 };

@@ -3,7 +3,7 @@
 use crate::adding::adds;
 use crate::facts::{Fact, is_so};
 use crate::look_ups::is_as_walked;
-use crate::runs::{ARGUMENTS, KILLED_SUPPLY, KILLS, Run, STANDARD};
+use crate::runs::{ARGUMENTS, CHANGES, KILLED_SUPPLY, KILLS, Run, STANDARD};
 use smi_ledger::ledger::Ledger;
 use sml_checkable::domain_of;
 use std::alloc::Global;
@@ -52,7 +52,7 @@ fn is_kept(alloc: Global, run: Run) -> bool {
     }
 }
 
-const RUNS: &[Run] = &[STANDARD, KILLS, KILLED_SUPPLY, ARGUMENTS];
+const RUNS: &[Run] = &[STANDARD, KILLS, KILLED_SUPPLY, ARGUMENTS, CHANGES];
 
 #[test]
 fn ledgers_say_what_journals_say(rt: HostRuntime) {

@@ -3,7 +3,7 @@ ghost use Rattle.std.specs.Prelude.{◌<◌, length};
 
 use smi_entry::entry::{ActionEnd, Entry, Sender, Verdict};
 use sml_domain::domain::Domain;
-use sml_domain::ids::{ObjId, StateId};
+use sml_domain::ids::{ObjId, SetId, StateId};
 
 // The object that an entry is of.
 fn object_of(entry: &Entry) -> ObjId {
@@ -14,6 +14,9 @@ fn object_of(entry: &Entry) -> ObjId {
         Entry::Seen { object, .. } => *object,
         Entry::End { object, .. } => *object,
         Entry::Kill { object, .. } => *object,
+        Entry::Insert { object, .. } => *object,
+        Entry::Remove { object, .. } => *object,
+        Entry::NoMember { object, .. } => *object,
     }
 }
 
@@ -125,6 +128,27 @@ pub fn starts(entries: &[Entry]) -> usize {
         }
     }
     count
+}
+
+/// Whether an object is a member of a set.
+pub fn is_member(domain: &Domain, entries: &[Entry], set: SetId, o: ObjId) -> bool {
+    let mut is_member = domain.members(set).contains(&o);
+    for entry in entries {
+        match entry {
+            Entry::Insert {
+                member,
+                set: into,
+                ..
+            } if *member == o && *into == set => is_member = true,
+            Entry::Remove {
+                member,
+                set: from,
+                ..
+            } if *member == o && *from == set => is_member = false,
+            _ => {}
+        }
+    }
+    is_member
 }
 
 /// Whether an object is clear for another.

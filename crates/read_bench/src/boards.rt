@@ -118,6 +118,7 @@ fn go_on(board: &mut Board<PlainMail>, task: Task) -> Option<Option<Task>>
     match board.contact(task) {
         Ok(Reply::Posted(task)) => Some(Some(task)),
         Ok(Reply::Seen(task)) => Some(Some(task)),
+        Ok(Reply::Changed(task)) => Some(Some(task)),
         Ok(Reply::Waiting) => Some(None),
         Ok(Reply::Ended) => Some(None),
         Err((_, task)) => {

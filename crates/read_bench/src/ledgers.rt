@@ -9,7 +9,7 @@ use smi_entry::args::Args;
 use smi_entry::entry::{ActionEnd, Entry, Sender, Verdict};
 use smi_entry::envelope::Envelope;
 use smi_ledger::ledger::Ledger;
-use sml_domain::ids::{ActionId, ObjId};
+use sml_domain::ids::{ActionId, ObjId, SetId};
 use std::alloc::{AllocError, Global};
 use std::io;
 use std::time::{Clock, Duration, Instant};
@@ -39,9 +39,10 @@ enum LookUp {
     Posted,
     Starts,
     IsClear,
+    Members,
 }
 
-const LOOK_UPS: [(LookUp, &str); 10] = [
+const LOOK_UPS: [(LookUp, &str); 11] = [
     (LookUp::State, "state"),
     (LookUp::Opened, "opened"),
     (LookUp::IsOpen, "is_open"),
@@ -52,6 +53,7 @@ const LOOK_UPS: [(LookUp, &str); 10] = [
     (LookUp::Posted, "posted"),
     (LookUp::Starts, "starts"),
     (LookUp::IsClear, "is_clear"),
+    (LookUp::Members, "members"),
 ];
 
 // A ledger with its objects, beside a plain list of as many entries, and what the entries of a round are made of.
@@ -90,7 +92,7 @@ const LINES: Lines = Lines {
     first: "class: K state: S action: GO\n",
     line: "object: X_# is_of_class K\n",
     times: OBJECTS,
-    last: "",
+    last: "objectset: G { }\n",
 };
 
 fn new_ledger(alloc: Global) -> Result<Ledger> {
@@ -130,7 +132,10 @@ fn add_post(ledger: &mut Ledger, o: ObjId, args: Args) -> bool {
     if ledger.hold(1).is_err() || ledger.hold_answers(o, 1).is_err() {
         return false;
     }
-    ledger.add_post(o, o, Verdict::Accepted(0), ActionId::new(0), args);
+    let Ok(sets) = ledger.sets().share() else {
+        return false;
+    };
+    ledger.add_post(o, o, Verdict::Accepted(0), ActionId::new(0), args, sets);
     true
 }
 
@@ -284,6 +289,7 @@ fn looked_up(ledger: &Ledger, look_up: LookUp, o: ObjId) -> usize
         LookUp::Posted => ledger.posted(o, o),
         LookUp::Starts => ledger.starts(),
         LookUp::IsClear => usize::from(ledger.is_clear(o, o)),
+        LookUp::Members => ledger.members(SetId::new(0)).len(),
     }
 }
 

@@ -1,4 +1,4 @@
-//! How long it takes to post a request to a mailbox and to take it, with one thread and with more.
+//! How long it takes to post a request to a mailbox and to take it, on one thread.
 ghost use Rattle.std.specs.Prelude.{◌≡◌, ◌<◌, IfSome, length, true};
 ghost use Rattle.std.specs.Arc.{arc_value};
 ghost use Rattle.smi_entry.specs.Fits.{letter_fits};
@@ -18,7 +18,6 @@ use sml_domain::ids::{ActionId, ObjId};
 use std::alloc::Global;
 use std::marker::Brand;
 use std::sync::{Arc, Wait};
-use std::thread;
 use std::thread::Threads;
 use std::time::{Clock, Duration, Instant};
 
@@ -140,54 +139,6 @@ fn plain_one_by_one<R: Clock + Print>(rt: &R, alloc: Global, domain: &Arc<Domain
     Ok(())
 }
 
-// Each session posts in a thread of its own, and one thread takes.
-fn at_once<R: Clock + Print + Threads + Wait + Copy + Send + Sync, K: MailNames + Send + Sync>(
-    rt: &R,
-    alloc: Global,
-    domain: &Domain,
-    mail: &mut RuledMail<R, K>,
-    ends: &mut Vec<OperatorEnd<K>>,
-) -> Result<()>
-    requires domain { domain.now ≡ K.names.domain }
-    requires object { 0 < length domain.now.objects }
-{
-    let sessions = ends.len() as u64;
-    let count = REQUESTS / sessions.max(1);
-    let began = Instant::now(rt)?;
-    let ((), taken) = thread::join(
-        rt,
-        ||
-            requires { (domain.now ≡ K.names.domain) × (0 < length domain.now.objects) }
-        { post_in_threads(rt, alloc, domain, ends, count) },
-        || -> u64
-            requires { 0 < length K.names.domain.objects }
-        { take_all(rt, mail, count.wrapping_mul(sessions)) },
-    );
-    let each = tenths_each(began.elapsed(rt)?, taken);
-    println!(rt;
-        "{} threads, a request           {each} ns",
-        sessions.wrapping_add(1)
-    )?;
-    Ok(())
-}
-
-// The threads of the sessions.
-fn post_in_threads<R: Threads + Wait + Sync, K: MailNames + Send + Sync>(
-    rt: &R,
-    alloc: Global,
-    domain: &Domain,
-    ends: &mut Vec<OperatorEnd<K>>,
-    count: u64,
-)
-    requires domain { domain.now ≡ K.names.domain }
-    requires object { 0 < length domain.now.objects }
-{
-    let poster = |_: usize, end: &mut OperatorEnd<K>|
-        requires { (domain.now ≡ K.names.domain) × (0 < length domain.now.objects) }
-    { drop(post_all(rt, alloc, domain, end, count)) };
-    thread::for_each_mut(rt, ends, 8, &poster);
-}
-
 // Times mailboxes that threads share.
 fn time_boxes<K: MailNames + Send + Sync, R: Clock + Print + Threads + Wait + Copy + Send + Sync>(
     rt: &R,
@@ -202,16 +153,14 @@ fn time_boxes<K: MailNames + Send + Sync, R: Clock + Print + Threads + Wait + Co
     let Ok((mut mail, mut ends)) = ruled::<K, R>(alloc, boxes) else {
         bail!("out of memory");
     };
-    if ends.len() == 1 {
-        if let Some(end) = ends.get_mut(0) {
-            one_by_one(rt, alloc, domain, &mut mail, end)?;
-        }
+    match ends.get_mut(0) {
+        Some(end) => one_by_one(rt, alloc, domain, &mut mail, end),
+        None => Ok(()),
     }
-    at_once(rt, alloc, domain, &mut mail, &mut ends)
 }
 
-/// Prints how long it takes to post a request to a mailbox and to take it: with one thread, beside the mail of one
-/// thread, and with one and with three threads that post while another takes.
+/// Prints how long it takes to post a request to a mailbox that threads share and to take it, on one thread, beside the
+/// mail of one thread.
 pub fn report<R: Clock + Print + AllocGlobal + Threads + Wait + Copy + Send + Sync + Drop>(
     rt: &R,
 ) -> Result<()> {
@@ -221,11 +170,8 @@ pub fn report<R: Clock + Print + AllocGlobal + Threads + Wait + Copy + Send + Sy
         bail!("no object");
     }
     plain_one_by_one(rt, alloc, &domain)?;
-    for sessions in [1, 3] {
-        match Mailboxes::new(*rt, alloc, Arc::try_clone(&domain)?, CAPACITY, sessions) {
-            Ok(boxes) => time_boxes::<Brand, _>(rt, alloc, &domain, boxes)?,
-            Err(_) => bail!("out of memory"),
-        }
+    match Mailboxes::new(*rt, alloc, Arc::try_clone(&domain)?, CAPACITY, 1) {
+        Ok(boxes) => time_boxes::<Brand, _>(rt, alloc, &domain, boxes),
+        Err(_) => bail!("out of memory"),
     }
-    Ok(())
 }

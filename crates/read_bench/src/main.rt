@@ -37,7 +37,7 @@ usage: read_bench time ROUNDS         over made texts: one of 1 MiB, and sixteen
        read_bench ledgers             over ledgers with a thousand and with a million entries
        read_bench moves               over tasks of small and of long actions
        read_bench boards              over boards with a thousand and with a million entries
-       read_bench mailboxes           over mailboxes, with one thread and with more
+       read_bench mailboxes           over mailboxes, on one thread
        read_bench runs FILE           over runs in threads of the domain of FILE
 
 The least time of so many rounds is printed, with the speed in MB/s (a million bytes a second, of the

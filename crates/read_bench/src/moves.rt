@@ -1,7 +1,9 @@
 //! How long a task takes for a move, of actions in small and of long blocks.
-ghost use Rattle.std.specs.Prelude.{◌≡◌, IfOk, IsTrue, is_some};
+ghost use Rattle.std.specs.Prelude.{◌≡◌, IfOk, IfSome, IsSomeAnd, IsTrue, is_some};
 ghost use Rattle.std.specs.Arc.{arc_value};
 ghost use Rattle.sml_domain.specs.Lookups.{block_at};
+ghost use Rattle.smi_entry.specs.Sets.{AreOf};
+ghost use Rattle.smi_interp.specs.Task.{WantsStates, WantsVerdicts};
 
 use crate::envelopes::envelope_of;
 use crate::tenths::Tenths;
@@ -10,8 +12,10 @@ use anyhow::{Result, bail};
 use smi_entry::args::Args;
 use smi_entry::entry::Verdict;
 use smi_entry::envelope::Envelope;
+use smi_entry::laws::laws_of_members;
+use smi_entry::members::Members;
 use smi_interp::contact::Contact;
-use smi_interp::expanding::{objects_for, posts_count};
+use smi_interp::expanding::{objects_for, posts_for};
 use smi_interp::task::{Ready, Task};
 use sml_domain::domain::Domain;
 use sml_domain::ids::{ActionId, ObjId, StateId};
@@ -244,37 +248,99 @@ fn task_of(alloc: Global, domain: &Arc<Domain>, action: ActionId) -> Result<Task
     Ok(ready.begin(state, envelope))
 }
 
+// The declared members of sets, which none of these actions changes.
+fn declared(alloc: Global, domain: &Domain) -> Result<Members>
+    ensures { IfOk result (AreOf domain.now) }
+{
+    laws_of_members();
+    let _sound = domain.objects();
+    let members = Members::declared(alloc, domain)?;
+    Ok(members)
+}
+
+// How many verdicts a task waits for, where sets have these members, if it waits for some.
+fn verdicts_wanted(alloc: Global, task: &Task, members: &Members) -> Result<Option<usize>>
+    ensures { IfOk result (λ found. IfSome found (λ n.
+        IsSomeAnd task.now.pending (WantsVerdicts task.now.domain members.now n))) }
+{
+    match task.pending() {
+        Some(Contact::Send(wanted)) => {
+            let posts = posts_for(alloc, task.domain(), members, wanted)?;
+            Ok(Some(posts.len()))
+        }
+        _ => Ok(None),
+    }
+}
+
+// How many states a task waits for, where sets have these members, if it waits for some.
+fn states_wanted(alloc: Global, task: &Task, members: &Members) -> Result<Option<usize>>
+    requires { AreOf task.now.domain members.now }
+    ensures { IfOk result (λ found. IfSome found (λ n.
+        IsSomeAnd task.now.pending (WantsStates task.now.domain members.now n))) }
+{
+    match task.pending() {
+        Some(Contact::Read(names)) => {
+            let objects = objects_for(alloc, task.domain(), members, names)?;
+            Ok(Some(objects.len()))
+        }
+        _ => Ok(None),
+    }
+}
+
+// Answers the posts that a task waits for, where sets have these members, if it waits for some.
+fn is_sent(alloc: Global, task: &mut Task, members: &Members) -> Result<bool>
+    requires { AreOf task.old.domain members.now }
+    ensures { task.new.domain ≡ task.old.domain }
+{
+    let Some(count) = verdicts_wanted(alloc, task, members)? else {
+        return Ok(false);
+    };
+    match VERDICTS.get(..count) {
+        Some(verdicts) => {
+            task.sent(verdicts, members.share()?);
+            Ok(true)
+        }
+        None => bail!("there are too many posts"),
+    }
+}
+
+// Answers the states that a task waits for, where sets have these members, if it waits for some.
+fn is_told(alloc: Global, task: &mut Task, members: &Members, states: &[StateId]) -> Result<bool>
+    requires { AreOf task.old.domain members.now }
+    ensures { task.new.domain ≡ task.old.domain }
+{
+    let Some(count) = states_wanted(alloc, task, members)? else {
+        return Ok(false);
+    };
+    match states.get(..count) {
+        Some(states) => {
+            task.tell(states, members.share()?);
+            Ok(true)
+        }
+        None => bail!("there are too many objects"),
+    }
+}
+
 // One move of a task, with its answer. Answers whether the task goes on.
-fn goes_on(alloc: Global, task: &mut Task, states: &[StateId]) -> Result<bool> {
+fn goes_on(alloc: Global, task: &mut Task, members: &Members, states: &[StateId]) -> Result<bool>
+    requires { AreOf task.old.domain members.now }
+    ensures { task.new.domain ≡ task.old.domain }
+{
     drop(task.advance()?);
     match task.pending() {
         None => Ok(true),
-        Some(Contact::Send(wanted)) => match VERDICTS.get(..posts_count(task.domain(), wanted)) {
-            Some(verdicts) => {
-                task.sent(verdicts);
-                Ok(true)
-            }
-            None => bail!("there are too many posts"),
-        },
-        Some(Contact::Read(names)) => {
-            let objects = objects_for(alloc, task.domain(), names)?;
-            match states.get(..objects.len()) {
-                Some(states) => {
-                    task.tell(states);
-                    Ok(true)
-                }
-                None => bail!("there are too many objects"),
-            }
-        }
+        Some(Contact::Send(_)) => is_sent(alloc, task, members),
+        Some(Contact::Read(_)) => is_told(alloc, task, members, states),
         Some(_) => Ok(false),
     }
 }
 
 // Runs a task to its end, and counts its moves.
 fn walk(alloc: Global, task: &mut Task) -> Result<usize> {
+    let members = declared(alloc, task.domain())?;
     let states = [StateId::new(0); 64];
     for moves in 0..MOST_MOVES {
-        if !goes_on(alloc, task, &states)? {
+        if !goes_on(alloc, task, &members, &states)? {
             return Ok(moves);
         }
     }

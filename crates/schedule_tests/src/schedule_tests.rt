@@ -1,7 +1,7 @@
 //! Schedules and lists of steps in a core, and what it is left with.
 
 use crate::domain_of::{core_of, domain_of};
-use crate::texts::{COUNTER, PARAMETERS, SUPPLIES};
+use crate::texts::{COUNTER, NOBODY, PARAMETERS, SENT_TO_NOBODY, SUPPLIES};
 use crate::transcript::whole_of;
 use smi_core::{Answer, Core, CoreError, Step, StepError, read_step, run, run_schedule};
 use sml_domain::value::Value;
@@ -98,6 +98,46 @@ fn are_answered(alloc: Global, steps: &[Step]) -> Option<bool> {
 fn parameters_and_lists_of_steps(rt: HostRuntime) {
     assert!(rt; forgets_what_was_cut(rt.alloc()) == Some(true));
     assert!(rt; answers_in_order(rt.alloc()) == Some(true));
+}
+
+// Whether a set of the core's domain has this object alone, or none.
+fn has_members(core: &Core, set: &Name, object: Option<&Name>) -> bool {
+    let Some(set) = core.domain().set(set) else {
+        return false;
+    };
+    match (core.members(set), object) {
+        ([], None) => true,
+        ([member], Some(object)) => core.domain().object(object) == Some(*member),
+        _ => false,
+    }
+}
+
+// Whether what is sent to a set without members is written so, and members are told.
+fn sends_to_nobody(alloc: Global) -> Option<bool> {
+    let mut core = core_of(alloc, NOBODY)?;
+    let sends = sends_by(alloc, &mut core);
+    drop(core);
+    sends
+}
+
+// The same, in a core.
+fn sends_by(alloc: Global, core: &mut Core) -> Option<bool> {
+    let told = whole_of(alloc, SENT_TO_NOBODY).ok()?;
+    let output = written(alloc, core, told.schedule.as_str());
+    let is_told = match &output {
+        Some(output) => output.as_slice() == told.output.as_bytes(),
+        None => false,
+    };
+    drop(output);
+    let lamp = Name::from_word(b"L");
+    let are_members = has_members(core, &Name::from_word(b"E"), None)
+        && has_members(core, &Name::from_word(b"G"), Some(&lamp));
+    Some(is_told && are_members)
+}
+
+#[test]
+fn members_of_sets(rt: HostRuntime) {
+    assert!(rt; sends_to_nobody(rt.alloc()) == Some(true));
 }
 
 // A capacity, how many starts there may be, and whether there is a core with these numbers.

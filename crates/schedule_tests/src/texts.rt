@@ -41,6 +41,44 @@ object: OUT is_of_class SINK
 object: C is_of_class COUNTER
 ";
 
+/// Requests to those in two sets, the first of which has no members, and a condition over it.
+pub const NOBODY: &str = "\
+class: LAMP
+  state: OFF
+    action: LIGHT
+      move_to ON
+  state: ON
+class: BOSS
+  state: IDLE
+    action: GO
+      do LIGHT all_in E
+      do LIGHT all_in G
+      if ( all_in E in_state ON ) then
+        move_to DONE
+      endif
+  state: DONE
+object: L is_of_class LAMP
+object: B is_of_class BOSS
+objectset: E { }
+objectset: G { L }
+";
+
+/// A boss sends to nobody, and then to a lamp.
+pub const SENT_TO_NOBODY: &str = "\
+request @1 B GO
+    accept @1 B 0 GO
+start B
+    start B @1 0 GO
+go B
+    empty B E
+go B
+    post B L 0 LIGHT
+go B
+    seen B
+go B
+    end B DONE
+";
+
 /// The run is configured, and waits for both of its supplies.
 pub const CONFIGURE_READY: &str = "\
 request @1 RUN CONFIGURE

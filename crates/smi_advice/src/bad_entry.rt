@@ -5,6 +5,7 @@ use crate::entry_lines::fault_in_entry;
 use crate::entry_reader::{line_of, text_from};
 use crate::entry_sentence::tell_entry_fault;
 use crate::source_line::{SourceLine, tell_back, tell_front};
+use smi_entry::journal::Format;
 use sml_domain::domain::Domain;
 use sml_text::writing::Sink;
 
@@ -27,16 +28,25 @@ pub fn explain_bad_entry<W: Sink>(
         text: line_of(text, number),
     };
     let is_ended = line.text.len() < text_from(text, number).len();
-    if let Some(fault) = fault_of(domain, line.text, is_ended) {
+    if let Some(fault) = fault_of(domain, format_of(text), line.text, is_ended) {
         tell_front(writer, failed, &line, fault.at);
         tell_entry_fault(writer, failed, domain, line.text, &fault);
         tell_back(writer, failed, &line, fault.at);
     }
 }
 
+// The format of the text of a journal: the second one, where its first line does not name the first.
+fn format_of(text: &[u8]) -> Format {
+    if line_of(text, 1) == b"smi-journal 1".as_slice() {
+        Format::One
+    } else {
+        Format::Two
+    }
+}
+
 // The first fault of a line, which a line feed ends or does not.
-fn fault_of(domain: &Domain, line: &[u8], is_ended: bool) -> Option<EntryFault> {
-    match fault_in_entry(domain, line) {
+fn fault_of(domain: &Domain, format: Format, line: &[u8], is_ended: bool) -> Option<EntryFault> {
+    match fault_in_entry(domain, format, line) {
         None if !is_ended => Some(EntryFault {
             at: line.len(),
             cause: EntryCause::NoFeed,

@@ -8,8 +8,11 @@ use crate::source_line::{SourceLine, tell_back, tell_front};
 use crate::verb::verb_at;
 use sml_text::writing::{Sink, tell};
 
-// The first line of journals.
-const HEADER: &[u8] = b"smi-journal 1";
+// The first line of journals, in either format.
+const HEADERS: [&[u8]; 2] = [b"smi-journal 1", b"smi-journal 2"];
+
+// How long it is.
+const HEADER_LENGTH: usize = 13;
 
 // What a text seems to be that is no journal, or how it differs from one.
 #[derive(Clone, Copy)]
@@ -35,6 +38,7 @@ fn seems_by_word(text: &[u8]) -> Seems {
     match name.as_bytes() {
         b"CLASS" | b"OBJECT" | b"OBJECTSET" => Seems::Domain,
         b"POST" | b"WAIT" | b"SEEN" | b"END" => Seems::Entries,
+        b"INSERT" | b"REMOVE" | b"EMPTY" => Seems::Entries,
         _ if verb_at(text, token.at).is_some() => seems_by_line(line_of(from(text, token.at), 1)),
         _ => Seems::Other,
     }
@@ -56,8 +60,9 @@ fn guess(text: &[u8]) -> Seems {
     if text.is_empty() {
         return Seems::Empty;
     }
-    let behind = from(text, HEADER.len());
-    let begins = part(text, 0, HEADER.len()) == HEADER;
+    let behind = from(text, HEADER_LENGTH);
+    let front = part(text, 0, HEADER_LENGTH);
+    let begins = HEADERS.iter().any(|header| front == *header);
     match (text, behind) {
         ([0xEF, 0xBB, 0xBF, ..], _) => Seems::Marked,
         (_, [b'\r', ..]) if begins => Seems::Returned,
@@ -69,27 +74,35 @@ fn guess(text: &[u8]) -> Seems {
 // How many bytes stand before the place of what is wrong.
 fn place_of(seems: Seems) -> usize {
     match seems {
-        Seems::Returned | Seems::Unended => HEADER.len(),
+        Seems::Returned | Seems::Unended => HEADER_LENGTH,
         _ => 0,
     }
 }
 
-// The sentence.
+// The sentence, or its beginning.
 fn sentence(seems: Seems) -> &'static [u8] {
     match seems {
-        Seems::Empty => b"the journal is empty: its first line has to be `smi-journal 1`",
+        Seems::Empty => {
+            b"the journal is empty: its first line has to be `smi-journal 1` or `smi-journal 2`"
+        }
         Seems::Marked => b"the text begins with a byte order mark: save it without",
         Seems::Returned => {
             b"the line ends with a carriage return: those of a journal end with a line feed alone"
         }
         Seems::Unended => b"a line feed has to end the line",
-        Seems::Domain => {
-            b"the first line has to be `smi-journal 1`; this looks like a domain: is the order FILE JOURNAL?"
+        Seems::Domain | Seems::Schedule | Seems::Entries | Seems::Other => {
+            b"the first line has to be `smi-journal 1` or `smi-journal 2`"
         }
-        Seems::Schedule =>
-            b"the first line has to be `smi-journal 1`; this looks like a schedule or a script",
-        Seems::Entries => b"the first line has to be `smi-journal 1`: it is missing",
-        Seems::Other => b"the first line has to be `smi-journal 1`",
+    }
+}
+
+// The end of the sentence.
+fn end_of_sentence(seems: Seems) -> &'static [u8] {
+    match seems {
+        Seems::Domain => b"; this looks like a domain: is the order FILE JOURNAL?",
+        Seems::Schedule => b"; this looks like a schedule or a script",
+        Seems::Entries => b": it is missing",
+        _ => b"",
     }
 }
 
@@ -107,5 +120,6 @@ pub fn explain_bad_header<W: Sink>(file: &str, text: &[u8], writer: &mut W, fail
     };
     tell_front(writer, failed, &line, place_of(seems));
     tell(writer, failed, sentence(seems));
+    tell(writer, failed, end_of_sentence(seems));
     tell_back(writer, failed, &line, place_of(seems));
 }

@@ -96,6 +96,31 @@ pub(crate) fn tell_no_state<W: Sink>(
     tell_meant(writer, failed, &nearest);
 }
 
+/// Writes that no set has a name, and which may have been meant.
+pub(crate) fn tell_no_set<W: Sink>(
+    writer: &mut W,
+    failed: &mut bool,
+    domain: &Domain,
+    name: &Name,
+) {
+    if domain.object(name).is_some() {
+        tell_name(writer, failed, name);
+        tell(
+            writer,
+            failed,
+            b" is an object, and a set has to stand there",
+        );
+        return;
+    }
+    tell(writer, failed, b"no set has the name ");
+    tell_name(writer, failed, name);
+    let mut nearest = Nearest::new(name);
+    for group in domain.groups() {
+        nearest.offer(&group.name);
+    }
+    tell_meant(writer, failed, &nearest);
+}
+
 // Offers the actions of a class.
 fn offer_actions(nearest: &mut Nearest, domain: &Domain, class: &Class) {
     for signature in class.signatures.rows() {

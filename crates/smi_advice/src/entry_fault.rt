@@ -19,6 +19,7 @@ pub(crate) enum Wanted {
     End,
     /// A session, or `fault`.
     Cause,
+    Set,
 }
 
 /// Why a line is no entry's.
@@ -31,6 +32,10 @@ pub(crate) enum EntryCause {
     NoWord,
     /// The first word does not stand in lower case.
     UpperWord,
+    /// The first word begins entries of the second format alone, and the journal is of the first.
+    LaterWord,
+    /// The word that the language has before a set.
+    NoPreposition,
     /// A blank too many, or one at the end.
     Blank,
     Expected(Wanted),
@@ -39,6 +44,7 @@ pub(crate) enum EntryCause {
     UnknownObject,
     UnknownAction,
     UnknownState,
+    UnknownSet,
     /// A digit behind a session, or another session.
     NoSession,
     /// The action is declared by no state of the object's class, so that nothing may stand behind it.

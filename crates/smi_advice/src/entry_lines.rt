@@ -3,23 +3,29 @@
 use crate::entry_fault::{EntryCause, EntryFault, Wanted};
 use crate::entry_reader::{EntryReader, Word, is_number};
 use crate::pieces::{from, part};
+use smi_entry::journal::Format;
 use sml_domain::domain::Domain;
 
-/// The first fault of a line, or None where it is an entry's.
-pub(crate) fn fault_in_entry(domain: &Domain, line: &[u8]) -> Option<EntryFault> {
+/// The first fault of a line of a journal in a format, or None where it is an entry's.
+pub(crate) fn fault_in_entry(domain: &Domain, format: Format, line: &[u8]) -> Option<EntryFault> {
     let mut reader = EntryReader::new(line);
     match line {
         [] => reader.fail(0, EntryCause::Empty),
         [.., b'\r'] => reader.fail(line.len().saturating_sub(1), EntryCause::Returned),
         _ => {
-            let _ = read_entry(&mut reader, domain, line.len());
+            let _ = read_entry(&mut reader, domain, format, line.len());
         }
     }
     reader.fault()
 }
 
 // Reads an entry, in a line of this length.
-fn read_entry(reader: &mut EntryReader, domain: &Domain, length: usize) -> Option<()> {
+fn read_entry(
+    reader: &mut EntryReader,
+    domain: &Domain,
+    format: Format,
+    length: usize,
+) -> Option<()> {
     let word = reader.first();
     match word.bytes {
         b"start" => read_start(reader, domain),
@@ -31,6 +37,7 @@ fn read_entry(reader: &mut EntryReader, domain: &Domain, length: usize) -> Optio
         b"seen" => read_seen(reader, domain, length),
         b"end" => read_end(reader, domain),
         b"kill" => read_kill(reader, domain),
+        b"insert" | b"remove" | b"empty" => read_of_sets(reader, domain, format, &word),
         _ => {
             reader.fail(word.at, wrong_word(word.bytes));
             None
@@ -38,10 +45,33 @@ fn read_entry(reader: &mut EntryReader, domain: &Domain, length: usize) -> Optio
     }
 }
 
+// Reads what stands behind the word of an entry that only the second format has.
+fn read_of_sets(
+    reader: &mut EntryReader,
+    domain: &Domain,
+    format: Format,
+    word: &Word,
+) -> Option<()> {
+    if format == Format::One {
+        reader.fail(word.at, EntryCause::LaterWord);
+        return None;
+    }
+    reader.object(domain)?;
+    if word.bytes != b"empty".as_slice() {
+        reader.object(domain)?;
+    }
+    reader.set(domain)?;
+    reader.end()
+}
+
+/// The words that begin entries.
+pub(crate) const ENTRY_WORDS: [&[u8]; 9] = [
+    b"start", b"post", b"wait", b"seen", b"end", b"kill", b"insert", b"remove", b"empty",
+];
+
 // Why a word begins no entry.
 fn wrong_word(bytes: &[u8]) -> EntryCause {
-    let words: [&[u8]; 6] = [b"start", b"post", b"wait", b"seen", b"end", b"kill"];
-    if words.iter().any(|word| is_in_other_case(bytes, word)) {
+    if ENTRY_WORDS.iter().any(|word| is_in_other_case(bytes, word)) {
         EntryCause::UpperWord
     } else {
         EntryCause::NoWord

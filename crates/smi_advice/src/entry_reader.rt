@@ -141,6 +141,21 @@ impl<'a> EntryReader<'a> {
         self.object_in(domain, &word, Wanted::Object)
     }
 
+    // Reads the name of a set.
+    pub(crate) fn set(&mut self, domain: &Domain) -> Option<()> {
+        let word = self.word(Wanted::Set)?;
+        if let b"in" | b"from" = word.bytes {
+            self.fail(word.at, EntryCause::NoPreposition);
+            return None;
+        }
+        let name = self.name(&word, Wanted::Set)?;
+        if domain.set(&name).is_none() {
+            self.fail(word.at, EntryCause::UnknownSet);
+            return None;
+        }
+        Some(())
+    }
+
     // Looks a state up.
     pub(crate) fn state_in(&mut self, domain: &Domain, word: &Word, wanted: Wanted) -> Option<()> {
         let name = self.name(word, wanted)?;

@@ -1,8 +1,11 @@
 //! What is said of the first fault of a line of a journal.
 
 use crate::arguments::{kind_word, tell_call};
-use crate::declared::{tell_no_action, tell_no_object, tell_no_state, tell_undeclared};
+use crate::declared::{
+    tell_no_action, tell_no_object, tell_no_set, tell_no_state, tell_undeclared,
+};
 use crate::entry_fault::{EntryCause, EntryFault, Wanted};
+use crate::entry_lines::ENTRY_WORDS;
 use crate::pieces::name_at;
 use crate::verb::offer_word;
 use crate::words::{tell_marked, tell_name};
@@ -15,8 +18,8 @@ use sml_text::writing::{Sink, tell};
 const RETURNED: &[u8] =
     b"the line ends with a carriage return: those of a journal end with a line feed alone";
 
-// The words that begin entries.
-const WORDS: [&[u8]; 6] = [b"start", b"post", b"wait", b"seen", b"end", b"kill"];
+const LATER: &[u8] =
+    b"the lines `insert`, `remove` and `empty` are of journals that begin with `smi-journal 2`";
 
 /// Writes the sentence of a fault, without its end.
 pub(crate) fn tell_entry_fault<W: Sink>(
@@ -36,6 +39,12 @@ pub(crate) fn tell_entry_fault<W: Sink>(
             failed,
             b"the first word of an entry stands in lower case",
         ),
+        EntryCause::LaterWord => tell(writer, failed, LATER),
+        EntryCause::NoPreposition => tell(
+            writer,
+            failed,
+            b"the name of a set expected: entries have no `in` and no `from`",
+        ),
         EntryCause::Blank => tell(
             writer,
             failed,
@@ -49,6 +58,7 @@ pub(crate) fn tell_entry_fault<W: Sink>(
         | EntryCause::UnknownObject
         | EntryCause::UnknownAction
         | EntryCause::UnknownState
+        | EntryCause::UnknownSet
         | EntryCause::Undeclared(_) => tell_of_name(writer, failed, domain, line, fault),
     }
 }
@@ -58,13 +68,13 @@ fn tell_no_word<W: Sink>(writer: &mut W, failed: &mut bool, line: &[u8], at: usi
     tell(
         writer,
         failed,
-        b"an entry begins with start, post, wait, seen, end or kill",
+        b"an entry begins with start, post, wait, seen, end, kill, insert, remove or empty",
     );
     let Some(name) = name_at(line, at) else {
         return;
     };
     let mut nearest = Nearest::new(&name);
-    for word in &WORDS {
+    for word in &ENTRY_WORDS {
         offer_word(&mut nearest, word);
     }
     if let Some(found) = nearest.found() {
@@ -96,6 +106,7 @@ fn tell_wanted<W: Sink>(writer: &mut W, failed: &mut bool, wanted: Wanted) {
         Wanted::Reading => b"a reading `OBJECT=STATE`",
         Wanted::End => b"the name of a state, or `skipped`,",
         Wanted::Cause => b"a session `@1` to `@8`, or `fault`,",
+        Wanted::Set => b"the name of a set",
     };
     tell(writer, failed, words);
     tell(writer, failed, b" expected");
@@ -145,6 +156,7 @@ fn tell_of_name<W: Sink>(
         EntryCause::UnknownObject => tell_no_object(writer, failed, domain, &name),
         EntryCause::UnknownAction => tell_no_action(writer, failed, domain, &name),
         EntryCause::UnknownState => tell_no_state(writer, failed, domain, &name),
+        EntryCause::UnknownSet => tell_no_set(writer, failed, domain, &name),
         EntryCause::Undeclared(o) => tell_undeclared(writer, failed, domain, o, &name),
         _ => {
             tell(writer, failed, b"names stand in upper case: ");

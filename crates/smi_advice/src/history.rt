@@ -158,6 +158,7 @@ impl History {
                 self.kill(*object, Kill { line, cause });
             }
             Entry::Post { .. } | Entry::Wait { .. } | Entry::Seen { .. } => {}
+            Entry::Insert { .. } | Entry::Remove { .. } | Entry::NoMember { .. } => {}
         }
     }
 

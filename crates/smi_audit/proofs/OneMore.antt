@@ -4,54 +4,70 @@ use Rattle.std.specs.Prelude.{Option}
 use Rattle.std.proofs.lemmas.List.{drop_more, take_more, take-append-drop}
 use Rattle.sml_domain.specs.Domain.{Domain}
 use Rattle.smi_entry.specs.declared.entry.Entry.{Entry}
+use Rattle.smi_entry.specs.declared.journal.Format.{Format}
 use Rattle.smi_meaning.specs.Legal.{IsLegalAt, IsLegal}
 use Rattle.smi_meaning.proofs.Journals.{legal_more}
 use Rattle.smi_rules.specs.declared.rule.Rule.{Rule}
 use Rattle.smi_rules.specs.Rules.{Breaks}
 use Rattle.smi_rules.specs.Judged.{IsBrokenAt}
 use Rattle.smi_audit.specs.declared.judge.Judge.{Judge}
-use Rattle.smi_audit.specs.Judges.{IsKept, Adds, Judges}
+use Rattle.smi_audit.specs.Judges.{AddsLegal, IsKept, Judges}
 
 -- the entries before one, the one, and those behind
-split_at : (xs : List Entry) (i : ℕ) (e : Entry) → i < length xs → e ≡ get_or xs i e → xs ≡ take i xs ++ e ∷ drop (i + 1) xs
+split_at : (xs : List Entry) (i : ℕ) (e : Entry) → i < length xs → e ≡ get_or xs i e
+    → xs ≡ take i xs ++ e ∷ drop (i + 1) xs
 split_at xs i e lt is =
-    sym (take-append-drop i xs) ∙ ap (λ l. take i xs ++ l) (drop_more xs i e lt ∙ ap (λ x. x ∷ drop (i + 1) xs) (sym is))
+    sym (take-append-drop i xs) ∙ ap (λ l. take i xs ++ l)
+    (drop_more xs i e lt ∙ ap (λ x. x ∷ drop (i + 1) xs) (sym is))
 
-breaks_as : (j k : Judge) (e : Entry) (x : Option Rule) (r : Rule) → x ≡ Some r → Judges j k e x → Breaks j.ledger.domain j.ledger.journal e r
+breaks_as : (j k : Judge) (e : Entry) (x : Option Rule) (r : Rule) → x ≡ Some r → Judges j k e x
+    → Breaks j.format j.ledger.domain j.ledger.journal e r
 breaks_as j k e x r is h = subst (Judges j k e) is h
 
-pub broken_at : (d : Domain) (entries : List Entry) (j k : Judge) (i : ℕ) (e : Entry) (x : Option Rule) (r : Rule) → i < length entries → e ≡ get_or entries i e → j.ledger.domain ≡ d → j.ledger.journal ≡ take i entries
-    → IsLegal d j.ledger.journal → Judges j k e x → x ≡ Some r → IsBrokenAt d entries (i + 2) r
-broken_at d entries j k i e x r lt is domain journal legal h some =
+pub broken_at : (format : Format) (d : Domain) (entries : List Entry) (j k : Judge) (i : ℕ) (e : Entry)
+    (x : Option Rule) (r : Rule) → i < length entries → e ≡ get_or entries i e → j.format ≡ format
+    → j.ledger.domain ≡ d → j.ledger.journal ≡ take i entries
+    → IsLegal format d j.ledger.journal → Judges j k e x → x ≡ Some r → IsBrokenAt format d entries (i + 2) r
+broken_at format d entries j k i e x r lt is same domain journal legal h some =
     let long : length (take i entries) ≡ i = omega (arith, length-take i entries) in
+    let b : Breaks format d j.ledger.journal e r =
+    subst (λ f. Breaks f d j.ledger.journal e r) same
+    (subst (λ y. Breaks j.format y j.ledger.journal e r) domain (breaks_as j k e x r some h)) in
     record {
       past = take i entries;
       entry = e;
       rest = drop (i + 1) entries;
       split = split_at entries i e lt is;
-      legal = subst (IsLegal d) journal legal;
-      breaks = subst (λ l. Breaks d l e r) journal (subst (λ y. Breaks y j.ledger.journal e r) domain (breaks_as j k e x r some h));
+      legal = subst (IsLegal format d) journal legal;
+      breaks = subst (λ l. Breaks format d l e r) journal b;
       number = ap (λ n. n + 2) (sym long);
     }
 
 -- what is kept from one entry to the next
-pub record GoesOn (d : Domain) (entries : List Entry) (k : Judge) (i : ℕ) : Type 0 where
+pub record GoesOn (format : Format) (d : Domain) (entries : List Entry) (k : Judge) (i : ℕ) : Type 0 where
   pub kept : IsKept k
+  pub format_is : k.format ≡ format
   pub domain : k.ledger.domain ≡ d
   pub journal : k.ledger.journal ≡ take (i + 1) entries
-  pub legal : IsLegal d k.ledger.journal
+  pub legal : IsLegal format d k.ledger.journal
 
-adds_as : (j k : Judge) (e : Entry) (x : Option Rule) → x ≡ None → Judges j k e x → Adds j k e
+adds_as : (j k : Judge) (e : Entry) (x : Option Rule) → x ≡ None → Judges j k e x → AddsLegal j k e
 adds_as j k e x is h = subst (Judges j k e) is h
 
-pub goes_on : (d : Domain) (entries : List Entry) (j k : Judge) (i : ℕ) (e : Entry) (x : Option Rule) → i < length entries → e ≡ get_or entries i e → j.ledger.domain ≡ d → j.ledger.journal ≡ take i entries
-    → IsLegal d j.ledger.journal → Judges j k e x → x ≡ None → GoesOn d entries k i
-goes_on d entries j k i e x lt is domain journal legal h none =
+pub goes_on : (format : Format) (d : Domain) (entries : List Entry) (j k : Judge) (i : ℕ) (e : Entry)
+    (x : Option Rule) → i < length entries → e ≡ get_or entries i e → j.format ≡ format → j.ledger.domain ≡ d
+    → j.ledger.journal ≡ take i entries
+    → IsLegal format d j.ledger.journal → Judges j k e x → x ≡ None → GoesOn format d entries k i
+goes_on format d entries j k i e x lt is same domain journal legal h none =
     let a = adds_as j k e x none h in
-    let at : IsLegalAt d j.ledger.journal e = subst (λ y. IsLegalAt y j.ledger.journal e) domain a.legal in
+    let at : IsLegalAt format d j.ledger.journal e =
+    subst (λ f. IsLegalAt f d j.ledger.journal e) same
+    (subst (λ y. IsLegalAt j.format y j.ledger.journal e) domain a.legal) in
     record {
-      kept = a.kept;
-      domain = a.domain ∙ domain;
-      journal = a.journal ∙ ap (λ l. l ++ e ∷ []) journal ∙ ap (λ y. take i entries ++ y ∷ []) is ∙ sym (take_more entries i e lt);
-      legal = subst (IsLegal d) (sym a.journal) (legal_more d j.ledger.journal e legal at);
+      kept = a.added.kept;
+      format_is = a.added.format ∙ same;
+      domain = a.added.domain ∙ domain;
+      journal = a.added.journal ∙ ap (λ l. l ++ e ∷ []) journal ∙ ap (λ y. take i entries ++ y ∷ []) is
+          ∙ sym (take_more entries i e lt);
+      legal = subst (IsLegal format d) (sym a.added.journal) (legal_more format d j.ledger.journal e legal at);
     }

@@ -1,5 +1,6 @@
 pub mod Views
 pub mod Tracks
 pub mod Judges
+pub mod Splitting
 pub mod Audit
 pub mod Pasts

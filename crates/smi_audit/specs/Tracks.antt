@@ -4,17 +4,20 @@ use Rattle.std.specs.List.{slice_index_or, filter_map}
 use Rattle.sml_domain.specs.declared.value.Value.{Value}
 use Rattle.sml_domain.specs.Domain.{Domain, Param}
 use Rattle.sml_domain.specs.Lookups.{block_at}
+use Rattle.sml_domain.specs.Program.{Asked}
 use Rattle.sml_domain.specs.Truth.{Reading}
 use Rattle.smi_entry.specs.declared.entry.Sender.TheVariants.{Object}
 use Rattle.smi_entry.specs.declared.entry.Verdict.{Verdict}
 use Rattle.smi_entry.specs.declared.entry.Verdict.TheVariants.{Accepted, Full, Dead}
 use Rattle.smi_entry.specs.declared.entry.Entry.{Entry}
+use Rattle.smi_entry.specs.declared.journal.Format.{Format}
 use Rattle.smi_entry.specs.declared.letter.Letter.{Letter}
 use Rattle.smi_entry.specs.Requests.{Request}
+use Rattle.smi_entry.specs.Sets.{Sets, AreOf}
 use Rattle.smi_entry.specs.Words.{Item, Saw, posts_between}
 use Rattle.smi_meaning.specs.Params.{first_value, running_at, ParamsAfter}
-use Rattle.smi_meaning.specs.Shown.{ToRead}
-use Rattle.smi_follower.specs.Following.{FollowerView, MayShow, Asks, EndsIn, MayEnd, with_item, followed}
+use Rattle.smi_follower.specs.Expecting.{ReadsNext as ReadsNamed}
+use Rattle.smi_follower.specs.Following.{FollowerView, MayShow, MayTell, EndsIn, MayEnd, with_item, followed}
 use Rattle.smi_follower.specs.Laws.{IsFollowed}
 use Rattle.smi_audit.specs.declared.calls.Call.{Call}
 use Rattle.smi_audit.specs.Views.{TrackView}
@@ -28,18 +31,18 @@ abbrev pub request_by : ℕ → Call → Request
 request_by o c = record { sender = Object o; action = c.action; args = c.args }
 
 -- what is followed of an object is what runs there, if anything does
-abbrev pub IsFollowing : Domain → List Entry → ℕ → Option FollowerView → Type 0
-IsFollowing d J o None = running_at d o J ≡ None
-IsFollowing d J o (Some f) = IsFollowed d J o f
+abbrev pub IsFollowing : Format → Domain → List Entry → ℕ → Option FollowerView → Type 0
+IsFollowing format d J o None = running_at format d o J ≡ None
+IsFollowing format d J o (Some f) = IsFollowed format d J o f
 
 -- a track says of an object what the journal says
-pub record IsTracked (d : Domain) (J : List Entry) (o : ℕ) (t : TrackView) : Type 0 where
-  pub params : ParamsAfter d o J t.params
-  pub follows : IsFollowing d J o t.follower
+pub record IsTracked (format : Format) (d : Domain) (J : List Entry) (o : ℕ) (t : TrackView) : Type 0 where
+  pub params : ParamsAfter format d o J t.params
+  pub follows : IsFollowing format d J o t.follower
   pub calls : (b : ℕ) → b < length d.objects → map (request_by o) (calls_to t.calls b) ≡ posts_between o b J
   pub targets : length t.calls ≡ length d.objects
 
--- the track of an object with these parameters, among so many, before its first entry
+-- the track of an object with these parameters, one of this many, before its first entry
 abbrev pub first_track : List Param → ℕ → TrackView
 first_track params objects = record {
   params = filter_map first_value params;
@@ -56,19 +59,24 @@ abbrev pub track_at : List TrackView → ℕ → TrackView
 track_at tracks o = slice_index_or tracks o no_track
 
 -- each object has a track, which says what the journal says
-pub record AreTracked (d : Domain) (J : List Entry) (tracks : List TrackView) : Type 0 where
+pub record AreTracked (format : Format) (d : Domain) (J : List Entry) (tracks : List TrackView) : Type 0 where
   pub count : length tracks ≡ length d.objects
-  pub each : (o : ℕ) → o < length d.objects → IsTracked d J o (track_at tracks o)
+  pub each : (o : ℕ) → o < length d.objects → IsTracked format d J o (track_at tracks o)
 
--- the object of a reading is one of so many
+-- the object of a reading is one of those below this number
 abbrev pub IsReadingOf : ℕ → Reading → Type 0
 IsReadingOf n r = r.object < n
 
 -- ---- what becomes of a track
 
 -- the follower of an action, where the state declares it
-abbrev pub begins_in : Domain → ℕ → ℕ → Letter → List Value → Option FollowerView
-begins_in d o s l own = if is_some (block_at d o s l.action) then Some (followed d o s l own) else None
+abbrev pub begins_in : Format → Domain → ℕ → ℕ → Letter → List Value → Option FollowerView
+begins_in format d o s l own = if is_some (block_at d o s l.action) then Some (followed format d o s l own) else None
+
+-- what is followed may be told that sets have these members
+abbrev pub MayBeTold : Sets → Option FollowerView → Type 0
+MayBeTold sets None = Unit {0}
+MayBeTold sets (Some f) = AreOf f.domain sets × MayTell f.format f.domain sets
 
 -- what was asked, after one more post
 abbrev pub calls_with : List (List Call) → ℕ → Verdict → Call → List (List Call)
@@ -93,16 +101,16 @@ abbrev pub Shows : TrackView → TrackView → Item → List (List Call) → Boo
 Shows was now item calls true = GoesOn was now item calls
 Shows was now item calls false = CannotShow was.follower item
 
--- what is followed reads these objects next
-pub record ReadsNext (was : Option FollowerView) (objects : List ℕ) : Type 0 where
-  pub follower : FollowerView
-  pub is : was ≡ Some follower
-  pub asks : Asks follower (ToRead objects)
+-- what is followed reads those next whom these names stand for by then
+abbrev pub ReadsNext : Option FollowerView → List Asked → Type 0
+ReadsNext None names = ⊥
+ReadsNext (Some f) names = ReadsNamed f names
 
 -- what is followed reads nothing next
 abbrev pub CannotRead : Option FollowerView → Type 0
 CannotRead None = Unit {0}
-CannotRead (Some f) = (readings : List Reading) → ¬ MayShow f (Saw readings)
+CannotRead (Some f) = (sets : Sets) (readings : List Reading) → MayTell f.format f.domain sets
+    → ¬ MayShow f (Saw (record { sets = sets; readings = readings }))
 
 -- what is followed cannot end now
 abbrev pub CannotEnd : Option FollowerView → Type 0

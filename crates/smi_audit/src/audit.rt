@@ -1,25 +1,31 @@
 //! Judging the text of a journal.
 ghost use Rattle.std.specs.Prelude.{◌≡◌, ◌<◌, ◌+◌, ◌^◌, All, Err, IfErr, IfOk, length};
 ghost use Rattle.std.specs.Arc.{arc_value};
-ghost use Rattle.smi_journal.specs.HasText.{HasText};
+ghost use Rattle.smi_journal.specs.HasText.{HasTextIn};
 ghost use Rattle.smi_journal.specs.ReadJournal.{IsRefused, NoHeader};
 ghost use Rattle.smi_audit.specs.Audit.{IsJudged, Judges};
 
 use crate::judgement::Judgement;
 use crate::past::{Past, PastError};
 use smi_entry::entry::Entry;
+use smi_entry::journal::Format;
 use smi_journal::read::{JournalError, read_journal};
 use sml_domain::domain::Domain;
 use std::alloc::{AllocError, Global};
 use std::sync::Arc;
 
-// Judges entries that have a text.
-fn judged(alloc: Global, domain: Arc<Domain>, entries: &[Entry]) -> Result<Judgement, AllocError>
-    requires texts { All (HasText (arc_value domain)) entries.now }
+// Judges entries that have a text in a format.
+fn judged(
+    alloc: Global,
+    format: Format,
+    domain: Arc<Domain>,
+    entries: &[Entry],
+) -> Result<Judgement, AllocError>
+    requires texts { All (HasTextIn format (arc_value domain)) entries.now }
     requires few { length entries.now + 2 < 2 ^ 64 }
-    ensures { IfOk result (IsJudged (arc_value domain) entries.now) }
+    ensures { IfOk result (IsJudged format (arc_value domain) entries.now) }
 {
-    match Past::of(alloc, domain, entries) {
+    match Past::of(alloc, format, domain, entries) {
         Ok(_) => Ok(Judgement::Legal),
         Err(PastError::Illegal { line, rule }) => Ok(Judgement::Illegal { line, rule }),
         Err(PastError::Memory) => Err(AllocError),
@@ -28,21 +34,22 @@ fn judged(alloc: Global, domain: Arc<Domain>, entries: &[Entry]) -> Result<Judge
 
 /// Judges the text of a journal of a domain: whether each entry may follow those before it, or else which
 /// is the first that may not, and the first rule that it breaks. (docs/FORMATS.md, "What a journal is
-/// judged by".) The whole text is read before anything is judged.
+/// judged by".) The first line names the format, and the rules are those of that format. The whole text is read
+/// before anything is judged.
 ///
 /// The time grows with the length of the text and with what the journal's actions do, and the memory
 /// with the length of the text. The square of the count of objects is spent once.
 ///
 /// # Errors
 ///
-/// Those of `read_journal`. `Memory`, for want of memory, may come also while the journal is judged.
+/// Those of `read_journal`. `Memory`, which says out of memory, may come also while the journal is judged.
 ///
 /// # Example
 ///
 /// `audit_tests` has it as `first_calls::judges`; L is a lamp that is off:
 ///
 /// ```
-/// let journal = b"smi-journal 1\nstart L @1 0 LIGHT\nend L ON\n";
+/// let journal = b"smi-journal 2\nstart L @1 0 LIGHT\nend L ON\n";
 /// let judgement = audit(alloc, domain, journal)?;   // Judgement::Legal
 /// ```
 pub fn audit(alloc: Global, domain: Arc<Domain>, bytes: &[u8]) -> Result<Judgement, JournalError>
@@ -51,12 +58,12 @@ pub fn audit(alloc: Global, domain: Arc<Domain>, bytes: &[u8]) -> Result<Judgeme
     // This is found without memory.
     ensures header { NoHeader bytes.now → result ≡ Err JournalError.BadHeader }
 {
-    let journal = match read_journal(alloc, &domain, bytes) {
-        Ok(journal) => journal,
+    let (format, journal) = match read_journal(alloc, &domain, bytes) {
+        Ok(read) => read,
         Err(e) => return Err(e),
     };
     let _length = bytes.len();
-    match judged(alloc, domain, journal.entries()) {
+    match judged(alloc, format, domain, journal.entries()) {
         Ok(judgement) => Ok(judgement),
         Err(_) => Err(JournalError::Memory),
     }

@@ -1,4 +1,4 @@
-//! Entries that are added to a ledger, each with the growths that it takes.
+//! Entries that are added to a ledger, each with the room that it takes.
 ghost use Rattle.std.specs.Prelude.{◌≡◌, ◌<◌, ◌++◌, ◌∷◌, [], IfOk, None, OnOk, length, true};
 ghost use Rattle.smi_entry.specs.declared.entry.Entry.TheVariants as entry;
 ghost use Rattle.smi_entry.specs.Words as says;
@@ -8,8 +8,8 @@ use smi_entry::args::{Args, Readings};
 use smi_entry::entry::{Cause, Sender, Verdict};
 use smi_entry::letter::Letter;
 use smi_ledger::ledger::Ledger;
-use sml_domain::ids::{ActionId, ObjId};
-use std::alloc::AllocError;
+use sml_domain::ids::{ActionId, ObjId, SetId};
+use std::alloc::{AllocError, Global};
 
 // A letter with a share of these arguments.
 pub(crate) fn letter(
@@ -68,9 +68,10 @@ pub(crate) fn add_post(
     ensures domain { OnOk result (ledger.new.domain ≡ ledger.old.domain) }
 {
     let args = args.share()?;
+    let sets = ledger.sets().share()?;
     ledger.hold(1)?;
     ledger.hold_answers(o, 1)?;
-    ledger.add_post(o, target, *verdict, action, args);
+    ledger.add_post(o, target, *verdict, action, args, sets);
     Ok(())
 }
 
@@ -93,9 +94,67 @@ pub(crate) fn add_seen(ledger: &mut Ledger, o: ObjId, readings: &Readings) -> Re
 {
     let entered = readings.share()?;
     let kept = readings.share()?;
+    let sets = ledger.sets().share()?;
     ledger.hold(1)?;
     ledger.hold_answers(o, 1)?;
-    ledger.add_seen(o, entered, kept);
+    ledger.add_seen(o, entered, kept, sets);
+    Ok(())
+}
+
+// Adds that a set had no member to send to.
+pub(crate) fn add_none(ledger: &mut Ledger, o: ObjId, set: SetId) -> Result<(), AllocError>
+    requires { o < length ledger.old.domain.objects }
+    ensures journal { OnOk result (ledger.new.journal ≡ ledger.old.journal ++ entry.NoMember o set ∷ []) }
+    ensures domain { OnOk result (ledger.new.domain ≡ ledger.old.domain) }
+{
+    let sets = ledger.sets().share()?;
+    ledger.hold(1)?;
+    ledger.hold_answers(o, 1)?;
+    ledger.add_none(o, set, sets);
+    Ok(())
+}
+
+// Adds that an object is put into a set.
+pub(crate) fn add_insert(
+    ledger: &mut Ledger,
+    alloc: Global,
+    o: ObjId,
+    member: ObjId,
+    set: SetId,
+) -> Result<(), AllocError>
+    requires within { o < length ledger.old.domain.objects }
+    requires member { member < length ledger.old.domain.objects }
+    ensures journal { OnOk result (ledger.new.journal ≡ ledger.old.journal ++ entry.Insert o member set ∷ []) }
+    ensures domain { OnOk result (ledger.new.domain ≡ ledger.old.domain) }
+{
+    let sets = ledger
+        .sets()
+        .with_change(alloc, ledger.domain(), true, member, set)?;
+    ledger.hold(1)?;
+    ledger.hold_answers(o, 1)?;
+    ledger.add_insert(o, member, set, sets);
+    Ok(())
+}
+
+// Adds that an object is taken out of a set.
+pub(crate) fn add_remove(
+    ledger: &mut Ledger,
+    alloc: Global,
+    o: ObjId,
+    member: ObjId,
+    set: SetId,
+) -> Result<(), AllocError>
+    requires within { o < length ledger.old.domain.objects }
+    requires member { member < length ledger.old.domain.objects }
+    ensures journal { OnOk result (ledger.new.journal ≡ ledger.old.journal ++ entry.Remove o member set ∷ []) }
+    ensures domain { OnOk result (ledger.new.domain ≡ ledger.old.domain) }
+{
+    let sets = ledger
+        .sets()
+        .with_change(alloc, ledger.domain(), false, member, set)?;
+    ledger.hold(1)?;
+    ledger.hold_answers(o, 1)?;
+    ledger.add_remove(o, member, set, sets);
     Ok(())
 }
 

@@ -4,6 +4,7 @@ ghost use Rattle.std.specs.Arc.{arc_value};
 ghost use Rattle.std.specs.List.{list_all};
 ghost use Rattle.sml_domain.specs.Truth as truth;
 ghost use Rattle.smi_entry.specs.declared.entry.Sender.TheVariants.{Object};
+ghost use Rattle.smi_entry.specs.declared.journal.Format.{Format};
 ghost use Rattle.smi_entry.specs.Words as says;
 ghost use Rattle.smi_meaning.specs.EntryLaws.{are_clear};
 ghost use Rattle.smi_meaning.specs.Legal.{is_clear_for};
@@ -14,6 +15,9 @@ ghost use Rattle.smi_audit.specs.Tracks.{AreTracked, IsReadingOf};
 use crate::track::Track;
 use smi_entry::args::{Args, Reading};
 use smi_entry::entry::Verdict;
+use smi_entry::journal::Format;
+use smi_entry::laws::laws_of_members;
+use smi_entry::members::Members;
 use smi_ledger::ledger::Ledger;
 use sml_domain::domain::Domain;
 use sml_domain::ids::{ActionId, ObjId};
@@ -21,18 +25,21 @@ use sml_domain::value::same_values;
 use std::alloc::{AllocError, Global};
 use std::sync::Arc;
 
-/// The journal so far with its books, and a track of each object.
+/// The journal so far with its books, a track of each object, and the format in which it is judged.
 #[derive(Drop)]
 pub(crate) struct Judge {
+    pub(crate) format: Format,
     pub(crate) domain: Arc<Domain>,
     pub(crate) ledger: Ledger,
     pub(crate) tracks: Vec<Track>,
+    // The declared members of sets.
+    pub(crate) declared: Members,
     pub(crate) alloc: Global,
 }
 
 // The track of each object of a domain, before its first entry.
 fn first_tracks(alloc: Global, domain: &Domain) -> Result<Vec<Track>, AllocError>
-    ensures { IfOk result (λ tracks. AreTracked domain.now [] tracks.items) }
+    ensures { IfOk result (λ tracks. (format : Format) → AreTracked format domain.now [] tracks.items) }
 {
     let objects = domain.objects();
     let mut tracks = Vec::new(alloc);
@@ -86,17 +93,26 @@ pub(crate) fn are_states(ledger: &Ledger, readings: &[Reading]) -> bool
 
 impl Judge {
     // The judge of a journal of which nothing was read.
-    pub(crate) fn new(alloc: Global, domain: Arc<Domain>) -> Result<Judge, AllocError>
+    pub(crate) fn new(
+        alloc: Global,
+        format: Format,
+        domain: Arc<Domain>,
+    ) -> Result<Judge, AllocError>
         ensures kept { IfOk result IsKept }
+        ensures format { IfOk result (λ j. j.format ≡ format) }
         ensures journal { IfOk result (λ j. j.ledger.journal ≡ []) }
         ensures domain { IfOk result (λ j. j.ledger.domain ≡ arc_value domain) }
     {
         let tracks = first_tracks(alloc, &domain)?;
         let ledger = Ledger::new(alloc, Arc::try_clone(&domain)?)?;
+        laws_of_members();
+        let declared = ledger.sets().share()?;
         Ok(Judge {
+            format,
             domain,
             ledger,
             tracks,
+            declared,
             alloc,
         })
     }

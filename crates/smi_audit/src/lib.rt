@@ -8,6 +8,7 @@ mod judge;
 pub mod judgement;
 mod judging;
 pub mod past;
+mod splitting;
 mod track;
 mod tracks;
 

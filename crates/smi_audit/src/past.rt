@@ -8,6 +8,7 @@ ghost use Rattle.smi_audit.specs.Pasts.{IsNone, Shows};
 
 use crate::judge::Judge;
 use smi_entry::entry::Entry;
+use smi_entry::journal::Format;
 use smi_follower::follower::Expected;
 use smi_ledger::ledger::Ledger;
 use smi_rules::rule::Rule;
@@ -36,30 +37,37 @@ pub struct Past {
 impl Model for Past {
     ghost use Rattle.std.specs.Coded.{codes};
     ghost use Rattle.sml_domain.specs.Codes.{formula_code};
-    ghost use Rattle.smi_ledger.specs.Views.{LedgerView};
     ghost use Rattle.smi_audit.specs.Judges.{IsKept};
+    ghost use Rattle.smi_audit.specs.Views.{PastView};
 
-    ghost Value = { LedgerView };
+    ghost Value = { PastView };
 
     ghost coded = { Prim.hlevel (codes, formula_code) };
 
-    ghost view = { λ p. p.judge.ledger };
+    ghost view = { λ p. record { format = p.judge.format; ledger = p.judge.ledger } };
 
     ghost invariant = { λ p. IsKept p.judge };
 }
 
 impl Past {
-    /// Enters entries, one after another. The time grows with their count and with what their actions do, and
-    /// the memory with their count. The square of the count of objects is spent once.
-    pub fn of(alloc: Global, domain: Arc<Domain>, entries: &[Entry]) -> Result<Past, PastError>
+    /// Enters entries, one after another, as a journal of a format has them. The time grows with their count and
+    /// with what their actions do, and the memory with their count. The square of the count of objects is spent
+    /// once.
+    pub fn of(
+        alloc: Global,
+        format: Format,
+        domain: Arc<Domain>,
+        entries: &[Entry],
+    ) -> Result<Past, PastError>
         requires texts { All (HasText (arc_value domain)) entries.now }
         requires few { length entries.now + 2 < 2 ^ 64 }
-        ensures legal { IfOk result (λ p. IsLegal (arc_value domain) entries.now) }
-        ensures journal { IfOk result (λ p. p.journal ≡ entries.now) }
-        ensures domain { IfOk result (λ p. p.domain ≡ arc_value domain) }
-        ensures none { IfErr result (IsNone (arc_value domain) entries.now) }
+        ensures legal { IfOk result (λ p. IsLegal format (arc_value domain) entries.now) }
+        ensures format { IfOk result (λ p. p.format ≡ format) }
+        ensures journal { IfOk result (λ p. p.ledger.journal ≡ entries.now) }
+        ensures domain { IfOk result (λ p. p.ledger.domain ≡ arc_value domain) }
+        ensures none { IfErr result (IsNone format (arc_value domain) entries.now) }
     {
-        let Ok(mut judge) = Judge::new(alloc, domain) else {
+        let Ok(mut judge) = Judge::new(alloc, format, domain) else {
             return Err(PastError::Memory);
         };
         for (i, entry) in entries.iter().enumerate() {
@@ -81,16 +89,17 @@ impl Past {
 
     /// The entries with their books. The cost is constant.
     pub fn ledger(&self) -> &Ledger
-        ensures { result.now ≡ self.now }
+        ensures { result.now ≡ self.now.ledger }
     {
         &self.judge.ledger
     }
 
     /// What the action that runs at an object shows next, or None where none runs there. The cost is constant.
     pub fn next(&self, o: ObjId) -> Option<Expected<'_>>
-        requires { o < length self.now.domain.objects }
-        ensures some { IfSome result (Shows self.now.domain self.now.journal o) }
-        ensures none { IfNone result (running_at self.now.domain o self.now.journal ≡ None) }
+        requires { o < length self.now.ledger.domain.objects }
+        ensures some { IfSome result (Shows self.now.format self.now.ledger.domain self.now.ledger.journal o) }
+        ensures none { IfNone result
+            (running_at self.now.format self.now.ledger.domain o self.now.ledger.journal ≡ None) }
     {
         self.judge.tracks[o.get()].next()
     }

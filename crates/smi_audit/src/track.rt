@@ -2,19 +2,25 @@
 ghost use Rattle.std.specs.Prelude.{◌≡◌, ◌<◌, ℕ, [], IfOk, IfSome, IfNone, None, OnOk, length, map, option_map, replicate, slice_get};
 ghost use Rattle.std.specs.Arc.{arc_value};
 ghost use Rattle.std.specs.List.{filter_map};
-ghost use Rattle.smi_entry.specs.Words.{Saw, Sent};
+ghost use Rattle.smi_entry.specs.Sets.{AreOf, unchanged};
+ghost use Rattle.smi_entry.specs.Words.{HadNone, Saw, Sent, Turned};
 ghost use Rattle.smi_meaning.specs.Params.{first_value};
 ghost use Rattle.smi_audit.specs.Pasts.{TrackShows};
+ghost use Rattle.smi_audit.specs.Splitting.{IsNextPost, post_expected};
 ghost use Rattle.smi_audit.specs.Tracks as says;
 
 use crate::calls::{Call, Calls};
 use smi_entry::args::{Args, Reading};
 use smi_entry::entry::Verdict;
+use smi_entry::journal::Format;
 use smi_entry::letter::Letter;
+use smi_entry::members::Members;
 use smi_follower::follower::{Expected, Follower};
+use smi_follower::laws::laws_of_following;
+use smi_interp::contact::{Names, Post};
 use smi_interp::task::Ready;
 use sml_domain::domain::Domain;
-use sml_domain::ids::{ActionId, ObjId, StateId};
+use sml_domain::ids::{ActionId, ObjId, SetId, StateId};
 use sml_domain::param::Param;
 use sml_domain::value::Value;
 use std::alloc::{AllocError, Global};
@@ -59,7 +65,7 @@ fn first_values(alloc: Global, params: &[Param]) -> Result<Vec<Value>, AllocErro
     Ok(values)
 }
 
-// Nothing was asked of so many objects.
+// Nothing was asked of any object, of which there are this many.
 fn no_calls(alloc: Global, objects: usize) -> Result<Vec<Calls>, AllocError>
     ensures { IfOk result (λ calls. calls.items ≡ replicate objects []) }
 {
@@ -91,8 +97,18 @@ fn note(
     }
 }
 
+// The post that is expected, where it is one of a send that is begun.
+fn post_of<'a>(expected: &Expected<'a>) -> Option<&'a Post>
+    ensures { option_map (λ p. p.now) result ≡ post_expected expected.now }
+{
+    match expected {
+        Expected::Post(post) => Some(post),
+        _ => None,
+    }
+}
+
 impl Track {
-    // The track of an object with these parameters, among so many, before its first entry.
+    // The track of an object with these parameters, one of this many, before its first entry.
     pub(crate) fn new(alloc: Global, params: &[Param], objects: usize) -> Result<Track, AllocError>
         ensures { IfOk result (λ t. t ≡ says.first_track params.now objects) }
     {
@@ -111,9 +127,9 @@ impl Track {
         self.calls[target.get()].get(number)
     }
 
-    // The objects that what runs reads next.
-    pub(crate) fn reads(&self) -> Option<&[ObjId]>
-        ensures some { IfSome result (λ objects. says.ReadsNext self.now.follower objects.now) }
+    // Those whom what runs reads next, by their names.
+    pub(crate) fn reads(&self) -> Option<&Names>
+        ensures some { IfSome result (λ names. says.ReadsNext self.now.follower names.now) }
         ensures none { IfNone result (says.CannotRead self.now.follower) }
     {
         match &self.follower {
@@ -133,17 +149,32 @@ impl Track {
         }
     }
 
+    // The next post of a send that is begun, where what runs is within one.
+    pub(crate) fn next_post(&self) -> Option<&Post>
+        ensures { IsNextPost self.now.follower (option_map (λ p. p.now) result) }
+    {
+        laws_of_following();
+        match self.next() {
+            Some(expected) => post_of(&expected),
+            None => None,
+        }
+    }
+
     // Follows the action of a letter, where the state declares it.
     pub(crate) fn start(
         &mut self,
         alloc: Global,
+        format: Format,
+        declared: &Members,
         domain: &Arc<Domain>,
         o: ObjId,
         state: StateId,
         letter: Letter,
     ) -> Result<(), AllocError>
+        requires declared { declared.now ≡ unchanged (arc_value domain.now) }
+        requires are { AreOf (arc_value domain.now) declared.now }
         ensures { OnOk result (self.new ≡ record self.old {
-          follower = says.begins_in (arc_value domain.now) o state letter self.old.params;
+          follower = says.begins_in format (arc_value domain.now) o state letter self.old.params;
         }) }
     {
         if !domain.declares(o, state, letter.action) {
@@ -151,27 +182,32 @@ impl Track {
             return Ok(());
         }
         let ready = Ready::new(alloc, Arc::try_clone(domain)?, o, &self.params)?;
-        let follower = Follower::begin(alloc, ready, state, letter)?;
+        let declared = declared.share()?;
+        let follower = Follower::begin(format, declared, ready, state, letter)?;
         self.follower = Some(follower);
         Ok(())
     }
 
-    // Goes on with a post, where what runs may make it next.
+    // Goes on with a post, where sets have these members and what runs may make it next.
     pub(crate) fn post(
         &mut self,
+        alloc: Global,
+        members: &Members,
         target: ObjId,
         verdict: &Verdict,
         action: ActionId,
         args: &Args,
     ) -> Result<bool, AllocError>
-        requires { target < length self.old.calls }
-        ensures { IfOk result (says.Shows self.old self.new (Sent target verdict.now action args.now)
+        requires told { says.MayBeTold members.now self.old.follower }
+        requires target { target < length self.old.calls }
+        ensures { IfOk result (says.Shows self.old self.new (Sent members.now target verdict.now action args.now)
             (says.calls_with self.old.calls target verdict.now (record { action = action; args = args.now }))) }
     {
         let Some(follower) = self.follower.take() else {
             return Ok(false);
         };
-        let Some(next) = follower.post(target, action, args.values(), *verdict)? else {
+        let Some(next) = follower.post(alloc, members, target, action, args.values(), *verdict)?
+        else {
             return Ok(false);
         };
         self.follower = Some(next);
@@ -179,14 +215,56 @@ impl Track {
         Ok(true)
     }
 
-    // Goes on with what was read, where what runs may read it next.
-    pub(crate) fn see(&mut self, readings: &[Reading]) -> Result<bool, AllocError>
-        ensures { IfOk result (says.Shows self.old self.new (Saw readings.now) self.old.calls) }
+    // Goes on with a set that has no member to send to, where sets have these members and what runs may send to it
+    // next.
+    pub(crate) fn none(
+        &mut self,
+        alloc: Global,
+        members: &Members,
+        set: SetId,
+    ) -> Result<bool, AllocError>
+        requires { says.MayBeTold members.now self.old.follower }
+        ensures { IfOk result (says.Shows self.old self.new (HadNone members.now set) self.old.calls) }
     {
         let Some(follower) = self.follower.take() else {
             return Ok(false);
         };
-        let Some(next) = follower.seen(readings)? else {
+        let Some(next) = follower.none(alloc, members, set)? else {
+            return Ok(false);
+        };
+        self.follower = Some(next);
+        Ok(true)
+    }
+
+    // Goes on with a change of a set, where what runs may make it next.
+    pub(crate) fn turn(&mut self, add: bool, member: ObjId, set: SetId) -> Result<bool, AllocError>
+        ensures { IfOk result (says.Shows self.old self.new (Turned add member set) self.old.calls) }
+    {
+        let Some(follower) = self.follower.take() else {
+            return Ok(false);
+        };
+        let Some(next) = follower.changed(add, member, set)? else {
+            return Ok(false);
+        };
+        self.follower = Some(next);
+        Ok(true)
+    }
+
+    // Goes on with what was read, where sets have these members and what runs may read it next.
+    pub(crate) fn see(
+        &mut self,
+        alloc: Global,
+        members: &Members,
+        readings: &[Reading],
+    ) -> Result<bool, AllocError>
+        requires { says.MayBeTold members.now self.old.follower }
+        ensures { IfOk result (says.Shows self.old self.new
+            (Saw (record { sets = members.now; readings = readings.now })) self.old.calls) }
+    {
+        let Some(follower) = self.follower.take() else {
+            return Ok(false);
+        };
+        let Some(next) = follower.seen(alloc, members, readings)? else {
             return Ok(false);
         };
         self.follower = Some(next);

@@ -1,48 +1,68 @@
 //! The tracks of all objects, each at its object's place.
-ghost use Rattle.std.specs.Prelude.{◌≡◌, ◌<◌, IfNone, IfOk, IfSome, None, OnOk, length, slice_set};
+ghost use Rattle.std.specs.Prelude.{◌≡◌, ◌<◌, IfNone, IfOk, IfSome, None, OnOk, length, option_map, slice_set};
 ghost use Rattle.std.specs.Arc.{arc_value};
-ghost use Rattle.smi_entry.specs.Words.{Saw, Sent};
+ghost use Rattle.smi_entry.specs.Sets.{AreOf, unchanged};
+ghost use Rattle.smi_entry.specs.Words.{HadNone, Saw, Sent, Turned};
+ghost use Rattle.smi_audit.specs.Splitting.{IsNextPost};
 ghost use Rattle.smi_audit.specs.Tracks as says;
 
 use crate::track::Track;
 use smi_entry::args::{Args, Reading};
 use smi_entry::entry::Verdict;
+use smi_entry::journal::Format;
 use smi_entry::letter::Letter;
+use smi_entry::members::Members;
+use smi_interp::contact::{Names, Post};
 use sml_domain::domain::Domain;
-use sml_domain::ids::{ActionId, ObjId, StateId};
+use sml_domain::ids::{ActionId, ObjId, SetId, StateId};
 use std::alloc::{AllocError, Global};
 use std::sync::Arc;
 
-// The objects that what runs at an object reads next.
-pub(crate) fn reads_in(tracks: &[Track], o: ObjId) -> Option<&[ObjId]>
+// Those whom what runs at an object reads next, by their names.
+pub(crate) fn reads_in(tracks: &[Track], o: ObjId) -> Option<&Names>
     requires { o < length tracks.now }
-    ensures some { IfSome result (λ objects. says.ReadsNext (says.track_at tracks.now o).follower objects.now) }
+    ensures some { IfSome result (λ names. says.ReadsNext (says.track_at tracks.now o).follower names.now) }
     ensures none { IfNone result (says.CannotRead (says.track_at tracks.now o).follower) }
 {
     tracks[o.get()].reads()
+}
+
+// The next post of a send that is begun, where what runs at an object is within one.
+pub(crate) fn next_post_in(tracks: &[Track], o: ObjId) -> Option<&Post>
+    requires { o < length tracks.now }
+    ensures { IsNextPost (says.track_at tracks.now o).follower (option_map (λ p. p.now) result) }
+{
+    tracks[o.get()].next_post()
 }
 
 // Follows the action of a letter at an object, where the state declares it.
 pub(crate) fn start_in(
     tracks: &mut Vec<Track>,
     alloc: Global,
+    format: Format,
+    declared: &Members,
     domain: &Arc<Domain>,
     o: ObjId,
     state: StateId,
     letter: Letter,
 ) -> Result<(), AllocError>
-    requires { o < length tracks.old.items }
+    requires within { o < length tracks.old.items }
+    requires declared { declared.now ≡ unchanged (arc_value domain.now) }
+    requires are { AreOf (arc_value domain.now) declared.now }
     ensures { OnOk result (tracks.new.items ≡ slice_set tracks.old.items o
         (record (says.track_at tracks.old.items o) {
-          follower = says.begins_in (arc_value domain.now) o state letter (says.track_at tracks.old.items o).params;
+          follower = says.begins_in format (arc_value domain.now) o state letter
+              (says.track_at tracks.old.items o).params;
         })) }
 {
-    tracks[o.get()].start(alloc, domain, o, state, letter)
+    tracks[o.get()].start(alloc, format, declared, domain, o, state, letter)
 }
 
-// Goes on with a post of an object, where what runs there may make it next.
+// Goes on with a post of an object, where sets have these members and what runs there may make it next.
 pub(crate) fn post_in(
     tracks: &mut Vec<Track>,
+    alloc: Global,
+    members: &Members,
     o: ObjId,
     target: ObjId,
     verdict: &Verdict,
@@ -50,28 +70,65 @@ pub(crate) fn post_in(
     args: &Args,
 ) -> Result<bool, AllocError>
     requires within { o < length tracks.old.items }
+    requires told { says.MayBeTold members.now (says.track_at tracks.old.items o).follower }
     requires target { target < length (says.track_at tracks.old.items o).calls }
     ensures shows { IfOk result (says.Shows (says.track_at tracks.old.items o) (says.track_at tracks.new.items o)
-        (Sent target verdict.now action args.now)
+        (Sent members.now target verdict.now action args.now)
         (says.calls_with (says.track_at tracks.old.items o).calls target verdict.now
         (record { action = action; args = args.now }))) }
     ensures written { tracks.new.items ≡ slice_set tracks.old.items o (says.track_at tracks.new.items o) }
 {
-    tracks[o.get()].post(target, verdict, action, args)
+    tracks[o.get()].post(alloc, members, target, verdict, action, args)
 }
 
-// Goes on with what an object read, where what runs there may read it next.
-pub(crate) fn see_in(
+// Goes on with a set without members, where sets have these and what runs at an object may send to it next.
+pub(crate) fn none_in(
+    tracks: &mut Vec<Track>,
+    alloc: Global,
+    members: &Members,
+    o: ObjId,
+    set: SetId,
+) -> Result<bool, AllocError>
+    requires within { o < length tracks.old.items }
+    requires told { says.MayBeTold members.now (says.track_at tracks.old.items o).follower }
+    ensures shows { IfOk result (says.Shows (says.track_at tracks.old.items o) (says.track_at tracks.new.items o)
+        (HadNone members.now set) (says.track_at tracks.old.items o).calls) }
+    ensures written { tracks.new.items ≡ slice_set tracks.old.items o (says.track_at tracks.new.items o) }
+{
+    tracks[o.get()].none(alloc, members, set)
+}
+
+// Goes on with a change of a set, where what runs at an object may make it next.
+pub(crate) fn turn_in(
     tracks: &mut Vec<Track>,
     o: ObjId,
-    readings: &[Reading],
+    add: bool,
+    member: ObjId,
+    set: SetId,
 ) -> Result<bool, AllocError>
     requires { o < length tracks.old.items }
     ensures shows { IfOk result (says.Shows (says.track_at tracks.old.items o) (says.track_at tracks.new.items o)
-        (Saw readings.now) (says.track_at tracks.old.items o).calls) }
+        (Turned add member set) (says.track_at tracks.old.items o).calls) }
     ensures written { tracks.new.items ≡ slice_set tracks.old.items o (says.track_at tracks.new.items o) }
 {
-    tracks[o.get()].see(readings)
+    tracks[o.get()].turn(add, member, set)
+}
+
+// Goes on with what an object read, where sets have these members and what runs there may read it next.
+pub(crate) fn see_in(
+    tracks: &mut Vec<Track>,
+    alloc: Global,
+    members: &Members,
+    o: ObjId,
+    readings: &[Reading],
+) -> Result<bool, AllocError>
+    requires within { o < length tracks.old.items }
+    requires told { says.MayBeTold members.now (says.track_at tracks.old.items o).follower }
+    ensures shows { IfOk result (says.Shows (says.track_at tracks.old.items o) (says.track_at tracks.new.items o)
+        (Saw (record { sets = members.now; readings = readings.now })) (says.track_at tracks.old.items o).calls) }
+    ensures written { tracks.new.items ≡ slice_set tracks.old.items o (says.track_at tracks.new.items o) }
+{
+    tracks[o.get()].see(alloc, members, readings)
 }
 
 // Ends what runs at an object, where it may end now: in which state.

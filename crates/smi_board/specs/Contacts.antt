@@ -13,8 +13,12 @@ use Rattle.smi_meaning.specs.Items.{Post}
 use Rattle.smi_meaning.specs.Meaning.{state_left}
 use Rattle.smi_interp.specs.declared.contact.Contact.{Contact}
 use Rattle.smi_interp.specs.declared.contact.Contact.TheVariants as named
-use Rattle.smi_interp.specs.Expanded.{Expanded, Local, Send, Read, End}
-use Rattle.smi_interp.specs.Task.{TaskView, outcome_of, with_states, with_verdicts}
+use Rattle.sml_domain.specs.Program.{Target, ToOne, ToMembers}
+use Rattle.smi_entry.specs.declared.entry.Entry.{Entry}
+use Rattle.smi_entry.specs.Sets.{Sets, sets_after}
+use Rattle.smi_meaning.specs.Meaning.{Wanted}
+use Rattle.smi_interp.specs.Expanded.{objects_by_names, posts_in}
+use Rattle.smi_interp.specs.Task.{TaskView, outcome_of, with_change, with_states, with_verdicts}
 use Rattle.smi_board.specs.Boards.{BoardView, kept_at}
 use Rattle.smi_board.specs.Posting.{Lists, AreJudged, target_of}
 use Rattle.smi_board.specs.Reading.{states_now, waited}
@@ -48,6 +52,7 @@ IsEnding (Some (named.End s)) = Unit {0}
 IsEnding (Some (named.Local p v)) = ⊥
 IsEnding (Some (named.Send wanted)) = ⊥
 IsEnding (Some (named.Read names)) = ⊥
+IsEnding (Some (named.Change add member set)) = ⊥
 IsEnding None = ⊥
 
 -- ---- replies
@@ -62,19 +67,30 @@ pub record Ends {M : Type 0} (t : TaskView) (s : Option ℕ) (b b2 : BoardView M
     woken = with_one t.turn.object b.woken;
   }
 
--- the posts are judged one after another, and the task is told their verdicts; their targets are woken
-pub record Posts {M : Type 0} (t : TaskView) (posts : List Post) (b : BoardView M) (m : Lists) (b2 : BoardView M)
+-- there is nobody to post to, which is noted of a set
+abbrev pub NotesNobody : ℕ → Target → List Entry → List Entry → Type 0
+NotesNobody o (ToOne x) J J2 = J2 ≡ J
+NotesNobody o (ToMembers set) J J2 = J2 ≡ J ++ entry.NoMember o set ∷ []
+
+-- the posts to a target are judged one after another; where there are none, that is noted of a set
+abbrev pub AreSent : ℕ → Target → Lists → List Entry → List Post → List Verdict → Lists → List Entry → Type 0
+AreSent o to m J [] vs m2 J2 = (vs ≡ []) × (m2 ≡ m) × NotesNobody o to J J2
+AreSent o to m J (p ∷ ps) vs m2 J2 = AreJudged o m J (p ∷ ps) vs m2 J2
+
+-- the posts by the members that sets have now are judged one after another, and the task is told their verdicts and these members;
+-- their targets are woken
+pub record Posts {M : Type 0} (t : TaskView) (w : Wanted) (b : BoardView M) (m : Lists) (b2 : BoardView M)
     (m2 : Lists) (r : Reply) : Type 0 where
   pub verdicts : List Verdict
-  pub answers : r ≡ reply.Posted (with_verdicts t verdicts)
-  pub judged : AreJudged t.turn.object m b.journal posts verdicts m2 b2.journal
+  pub answers : r ≡ reply.Posted (with_verdicts t verdicts (sets_after b.domain b.journal))
+  pub judged : AreSent t.turn.object w.target m b.journal (posts_in b.domain (sets_after b.domain b.journal) w) verdicts m2 b2.journal
   pub params_same : b2.params ≡ b.params
   pub kept_same : b2.kept ≡ b.kept
-  pub wakes : b2.woken ≡ with_all (map target_of posts) b.woken
+  pub wakes : b2.woken ≡ with_all (map target_of (posts_in b.domain (sets_after b.domain b.journal) w)) b.woken
 
 -- the objects are read in the states in which they are, and the task is told these
 pub record Sees {M : Type 0} (t : TaskView) (objects : List ℕ) (b b2 : BoardView M) (r : Reply) : Type 0 where
-  pub answers : r ≡ reply.Seen (with_states t (states_now b.domain b.journal objects))
+  pub answers : r ≡ reply.Seen (with_states t (states_now b.domain b.journal objects) (sets_after b.domain b.journal))
   pub after : b2 ≡ record b {
     journal = b.journal ++ entry.Seen t.turn.object (map (reading_of b.domain b.journal) objects) ∷ [];
   }
@@ -87,14 +103,28 @@ pub record Waits {M : Type 0} (t : TaskView) (b b2 : BoardView M) (r : Reply) : 
     kept = slice_set b.kept t.turn.object (Some t);
   }
 
--- by the contact that waits, of objects: they are read exactly where all of them are clear
+-- the entry of an object that is put into a set, or taken out
+abbrev pub change_entry : ℕ → Bool → ℕ → ℕ → Entry
+change_entry o true member set = entry.Insert o member set
+change_entry o false member set = entry.Remove o member set
+
+-- the set is changed, and the task is told that
+pub record ChangesMembers {M : Type 0} (t : TaskView) (add : Bool) (member set : ℕ) (b b2 : BoardView M) (r : Reply) : Type 0 where
+  pub answers : r ≡ reply.Changed (with_change t)
+  pub after : b2 ≡ record b { journal = b.journal ++ change_entry t.turn.object add member set ∷ [] }
+
+-- the objects that names stand for now are read exactly where all of them are clear
+abbrev pub Reads : {M : Type 0} → TaskView → List ℕ → BoardView M → BoardView M → Reply → Type 0
+Reads t objects b b2 r = MatchBool (are_clear b.journal t.turn.object objects) (Sees t objects b b2 r) (Waits t b b2 r)
+
+-- by the contact that waits, by names, and by the members that sets have now
 abbrev pub Replies : {M : Type 0}
-    → TaskView → Option Expanded → BoardView M → Lists → BoardView M → Lists → Reply → Type 0
-Replies t (Some (End s)) b m b2 m2 r = Ends t s b b2 r
-Replies t (Some (Send posts)) b m b2 m2 r = Posts t posts b m b2 m2 r
-Replies t (Some (Read objects)) b m b2 m2 r =
-    MatchBool (are_clear b.journal t.turn.object objects) (Sees t objects b b2 r) (Waits t b b2 r)
-Replies t (Some (Local p v)) b m b2 m2 r = ⊥
+    → TaskView → Option Contact → BoardView M → Lists → BoardView M → Lists → Reply → Type 0
+Replies t (Some (named.End s)) b m b2 m2 r = Ends t s b b2 r
+Replies t (Some (named.Send wanted)) b m b2 m2 r = Posts t wanted b m b2 m2 r
+Replies t (Some (named.Read names)) b m b2 m2 r = Reads t (objects_by_names b.domain (sets_after b.domain b.journal) names) b b2 r
+Replies t (Some (named.Change add member set)) b m b2 m2 r = ChangesMembers t add member set b b2 r × (m2 ≡ m)
+Replies t (Some (named.Local p v)) b m b2 m2 r = ⊥
 Replies t None b m b2 m2 r = ⊥
 
 -- ---- what goes on
@@ -105,13 +135,13 @@ pub record Resumes {M : Type 0} (b b2 : BoardView M) (w : Work) : Type 0 where
   pub task : TaskView
   pub resumed : w ≡ Resume task
   pub was_kept : kept_at b.kept object ≡ Some task
-  pub goes : can_go_on object b.journal (Some task) ≡ true
+  pub goes : can_go_on b.domain object b.journal (Some task) ≡ true
   pub after : b2 ≡ record b { kept = slice_set b.kept object None }
 
 -- the first woken object that can start a request is handed out, where no task can go on; it and those before it, which
 -- can not, are woken no more
 pub record HandsOut {M : Type 0} (b b2 : BoardView M) (o : ℕ) : Type 0 where
-  pub none_goes : (x : ℕ) → can_go_on x b.journal (kept_at b.kept x) ≡ false
+  pub none_goes : (x : ℕ) → can_go_on b.domain x b.journal (kept_at b.kept x) ≡ false
   pub first : first_woken b.journal b.woken ≡ Some o
   pub within : o < length b.domain.objects
   pub can : can_start b.journal o ≡ true
@@ -138,6 +168,7 @@ StartsTaskOf d o Skipped = Unit {0}
 abbrev pub RepliesTaskOf : Domain → ℕ → Reply → Type 0
 RepliesTaskOf d o (reply.Posted t) = IsTaskOf d o t
 RepliesTaskOf d o (reply.Seen t) = IsTaskOf d o t
+RepliesTaskOf d o (reply.Changed t) = IsTaskOf d o t
 RepliesTaskOf d o reply.Waiting = Unit {0}
 RepliesTaskOf d o reply.Ended = Unit {0}
 

@@ -135,13 +135,14 @@ fn explain_ruling<E: Sink>(
     let Judgement::Illegal { line, rule } = ruling.judgement else {
         return Ok(());
     };
-    let Ok(journal) = read_journal(heap, domain, bytes) else {
+    let Ok((format, journal)) = read_journal(heap, domain, bytes) else {
         return Err(AllocError);
     };
     let shared = Arc::try_clone(domain)?;
     let mut failed = false;
     explain(
         heap,
+        format,
         shared,
         journal.entries(),
         line,

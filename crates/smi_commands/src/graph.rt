@@ -92,8 +92,8 @@ fn draw_run<'a, W: Write>(
     window: Window,
     output: &mut W,
 ) -> Result<(), Fault<'a>> {
-    let journal = match read_journal(heap, domain, bytes) {
-        Ok(journal) => journal,
+    let (_format, journal) = match read_journal(heap, domain, bytes) {
+        Ok(read) => read,
         Err(error) => return Err(Fault::of_journal(path, error)),
     };
     let Ok(mut writer) = BufWriter::new(heap, &mut *output) else {

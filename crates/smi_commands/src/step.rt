@@ -5,6 +5,7 @@ ghost use Rattle.std.specs.Io.KnownBytes.{Appends};
 ghost use Rattle.sml_text.specs.Written.{Wrote, WroteFront};
 ghost use Rattle.sml_checkable.specs.Texts.{IsDomainOfText};
 ghost use Rattle.smi_world.specs.World.{opening};
+ghost use Rattle.smi_entry.specs.declared.journal.Format.TheVariants.{Two};
 ghost use Rattle.smi_journal.specs.JournalText.{journal_text};
 ghost use Rattle.smi_machine.specs.Machines.{AreLimits};
 ghost use Rattle.smi_commands.specs.Performed.{FollowsIf, PerformsAll, PerformsFirst};
@@ -405,9 +406,9 @@ fn write_all_of<'a, J: Write>(core: &Core, path: &'a str, kept: &mut J) -> Resul
 /// cost is the length of the text. The error comes from the writer alone; then a prefix of the text is written.
 pub fn write_run<W: Sink>(core: &Core, writer: &mut W) -> Result<(), WriteFault>
     ensures ok { OnOk result (Wrote (W.contents writer.old) (W.contents writer.new)
-        (journal_text core.now.setup.domain core.now.world.journal)) }
+        (journal_text Two core.now.setup.domain core.now.world.journal)) }
     ensures err { OnErr result (WroteFront (W.contents writer.old) (W.contents writer.new)
-        (journal_text core.now.setup.domain core.now.world.journal)) }
+        (journal_text Two core.now.setup.domain core.now.world.journal)) }
     ensures refused { OnErr result (W.has_refused writer.new) }
 {
     write_journal(core.domain(), core.journal(), writer)

@@ -1,6 +1,7 @@
 //! A list of steps from the opening world.
 ghost use Rattle.std.specs.Prelude.{◌≡◌, ◌↔◌, IfOk, Ok, Err};
 ghost use Rattle.std.specs.Arc.{arc_value};
+ghost use Rattle.smi_entry.specs.declared.journal.Format.TheVariants.{Two};
 ghost use Rattle.smi_meaning.specs.Legal.{IsLegal};
 ghost use Rattle.smi_world.specs.World.{FrontOk};
 ghost use Rattle.smi_world.specs.Runs.{Reaches};
@@ -32,7 +33,7 @@ pub fn run(
       max_starts = max_starts;
     }) }
     ensures run { IfOk result (λ made. Reaches made.0.setup steps.now made.1.items made.0.world) }
-    ensures legal { IfOk result (λ made. IsLegal made.0.setup.domain made.0.world.journal) }
+    ensures legal { IfOk result (λ made. IsLegal Two made.0.setup.domain made.0.world.journal) }
     ensures front { IfOk result (λ made. FrontOk made.0.world) }
 {
     every_run();

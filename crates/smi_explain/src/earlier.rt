@@ -11,6 +11,16 @@ pub(crate) fn owner(entry: &Entry) -> ObjId {
             *object,
         Entry::Post { sender, .. } => *sender,
         Entry::End { object, .. } | Entry::Kill { object, .. } => *object,
+        Entry::Insert { object, .. } | Entry::Remove { object, .. } => *object,
+        Entry::NoMember { object, .. } => *object,
+    }
+}
+
+/// The object of the last entry.
+pub(crate) fn last_owner(entries: &[Entry]) -> Option<ObjId> {
+    match entries.last() {
+        Some(entry) => Some(owner(entry)),
+        None => None,
     }
 }
 

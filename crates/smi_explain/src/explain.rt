@@ -3,10 +3,12 @@ ghost use Rattle.std.specs.Prelude.{◌+◌, ◌<◌, ◌^◌, All, IfSome, leng
 ghost use Rattle.std.specs.Arc.{arc_value};
 ghost use Rattle.smi_journal.specs.HasText.{HasText};
 
-use crate::earlier::{Earlier, is_fault_without_device, last, owner, post_of};
+use crate::earlier::{Earlier, is_fault_without_device, last, last_owner, owner, post_of};
+use crate::next::{Next, next_of};
 use crate::sentence::{first_busy, first_misread, tell_sentence};
 use smi_audit::past::{Past, PastError};
 use smi_entry::entry::{Entry, Sender, Verdict};
+use smi_entry::journal::Format;
 use smi_journal::journal_text::tell_lines;
 use smi_rules::rule::Rule;
 use sml_domain::domain::Domain;
@@ -104,11 +106,30 @@ fn closed_by(past: &Past, entry: &Entry) -> Option<usize> {
     }
 }
 
+// What the action does next that goes on in place of an entry: that of its object, or the one whose posts it splits.
+fn next_in_place(
+    alloc: Global,
+    past: &Past,
+    entry: &Entry,
+    rule: Rule,
+) -> Result<Option<Next>, AllocError> {
+    match rule {
+        Rule::Meaning => next_of(alloc, past, owner(entry)),
+        Rule::Split => match last_owner(past.ledger().journal()) {
+            Some(o) => next_of(alloc, past, o),
+            None => Ok(None),
+        },
+        _ => Ok(None),
+    }
+}
+
 // The earlier entry that stands against an entry which breaks a rule.
 fn rests_on(past: &Past, entry: &Entry, rule: Rule) -> Option<usize> {
     let entries = past.ledger().journal();
     let o = owner(entry);
     match rule {
+        // The last post of the send stands right before.
+        Rule::Split => entries.len().checked_sub(1),
         Rule::Killed => last(entries, Earlier::Kill(o)),
         Rule::Open | Rule::Meaning | Rule::Clear | Rule::NotAState => {
             last(entries, Earlier::Start(o))
@@ -136,13 +157,14 @@ fn place_of(line: u64, entries: &[Entry]) -> Option<usize>
 }
 
 /// Writes what stands against a line of a journal: its text, one sentence, and the earlier line that this
-/// rests on, if there is one. Line and rule are those of a `Judgement` of these entries. Nothing is written
-/// where the line has no entry, or one before it may not stand.
+/// rests on, if there is one. Line and rule are those of a `Judgement` of these entries as a journal of the format.
+/// Nothing is written where the line has no entry, or one before it may not stand.
 ///
 /// It is text for people, and no part of a format. What is written is not promised, and only tests hold it. The
 /// time and the memory are those of judging the entries before the line.
 pub fn explain<W: Sink>(
     alloc: Global,
+    format: Format,
     domain: Arc<Domain>,
     entries: &[Entry],
     line: u64,
@@ -157,14 +179,15 @@ pub fn explain<W: Sink>(
         return Ok(());
     };
     let (before, rest) = entries.split_at(place);
-    let past = match Past::of(alloc, domain, before) {
+    let past = match Past::of(alloc, format, domain, before) {
         Ok(past) => past,
         Err(PastError::Illegal { .. }) => return Ok(()),
         Err(PastError::Memory) => return Err(AllocError),
     };
     let entry = &rest[0];
+    let next = next_in_place(alloc, &past, entry, rule)?;
     tell_numbered(writer, failed, past.ledger().domain(), entries, place);
-    tell_sentence(writer, failed, &past, entry, rule);
+    tell_sentence(writer, failed, &past, entry, rule, &next);
     tell(writer, failed, b".\n");
     if let Some(earlier) = rests_on(&past, entry, rule) {
         tell_numbered(writer, failed, past.ledger().domain(), entries, earlier);

@@ -5,4 +5,5 @@
 mod bad_request;
 mod earlier;
 pub mod explain;
+mod next;
 mod sentence;

@@ -3,16 +3,17 @@ ghost use Rattle.std.specs.Prelude.{IsTrue, length};
 ghost use Rattle.smi_ledger.specs.Tables.{IsKnown};
 
 use crate::bad_request::tell_bad_request;
-use crate::earlier::{is_fault_without_device, owner};
+use crate::earlier::{is_fault_without_device, last_owner, owner};
+use crate::next::Next;
 use smi_audit::past::Past;
 use smi_entry::args::Reading;
 use smi_entry::entry::{Entry, Sender, Verdict};
-use smi_follower::follower::Expected;
-use smi_journal::call_text::{tell_call, tell_object};
+use smi_interp::contact::Post;
+use smi_journal::call_text::{tell_call, tell_object, tell_set};
 use smi_journal::entry_text::{tell_number, tell_session};
 use smi_rules::rule::Rule;
 use sml_domain::domain::Domain;
-use sml_domain::ids::{ObjId, StateId};
+use sml_domain::ids::{ObjId, SetId, StateId};
 use sml_text::writing::{Sink, tell};
 
 const NOT_SENT: &[u8] = b"its sender posted no such request under this number";
@@ -23,6 +24,9 @@ const SKIPPED: &[u8] = b" does not declare the action, which is skipped";
 const NO_STATE: &[u8] = b" has no such state";
 
 const CLEAR: &[u8] = b" reads next is busy";
+
+// What stands before the next post of a send.
+const UNSPLIT: &[u8] = b"nothing stands between the posts of a send: ";
 
 fn tell_state<W: Sink>(writer: &mut W, failed: &mut bool, domain: &Domain, state: StateId) {
     if let Some(name) = domain.state_name(state) {
@@ -61,32 +65,53 @@ fn tell_objects<W: Sink>(writer: &mut W, failed: &mut bool, domain: &Domain, obj
     }
 }
 
-fn tell_expected<W: Sink>(
+fn tell_post<W: Sink>(writer: &mut W, failed: &mut bool, domain: &Domain, post: &Post) {
+    tell(writer, failed, b" posts to");
+    tell_object(writer, failed, domain, post.target);
+    tell_call(
+        writer,
+        failed,
+        domain,
+        post.target,
+        post.action,
+        post.args.values(),
+    );
+}
+
+// That an object is put into a set, or taken out.
+fn tell_change<W: Sink>(
     writer: &mut W,
     failed: &mut bool,
     domain: &Domain,
-    o: ObjId,
-    expected: &Expected<'_>,
+    add: bool,
+    member: ObjId,
+    set: SetId,
 ) {
+    let words: (&[u8], &[u8]) = if add {
+        (b" puts", b" into")
+    } else {
+        (b" takes", b" out of")
+    };
+    tell_of(writer, failed, domain, words.0, member, words.1);
+    tell_set(writer, failed, domain, set);
+}
+
+fn tell_doing<W: Sink>(writer: &mut W, failed: &mut bool, domain: &Domain, o: ObjId, next: &Next) {
     tell_of(writer, failed, domain, b"next the action of", o, b"");
-    match expected {
-        Expected::Post(post) => {
-            tell(writer, failed, b" posts to");
-            tell_object(writer, failed, domain, post.target);
-            tell_call(
-                writer,
-                failed,
-                domain,
-                post.target,
-                post.action,
-                post.args.values(),
-            );
+    match next {
+        Next::Post(post) => tell_post(writer, failed, domain, post),
+        Next::Nobody(set) => {
+            tell(writer, failed, b" finds no member of");
+            tell_set(writer, failed, domain, *set);
         }
-        Expected::Read(objects) => {
+        Next::Read(objects) => {
             tell(writer, failed, b" reads");
             tell_objects(writer, failed, domain, objects);
         }
-        Expected::End(state) => {
+        Next::Change { add, member, set } => {
+            tell_change(writer, failed, domain, *add, *member, *set);
+        }
+        Next::End(state) => {
             tell(writer, failed, b" ends in");
             tell_state(writer, failed, domain, *state);
         }
@@ -94,12 +119,18 @@ fn tell_expected<W: Sink>(
 }
 
 // What the open action of an object does next.
-fn tell_next<W: Sink>(writer: &mut W, failed: &mut bool, past: &Past, o: ObjId) {
+fn tell_next<W: Sink>(
+    writer: &mut W,
+    failed: &mut bool,
+    past: &Past,
+    o: ObjId,
+    next: &Option<Next>,
+) {
     let domain = past.ledger().domain();
     if !domain.has(o) {
         return;
     }
-    let Some(expected) = past.next(o) else {
+    let Some(next) = next else {
         tell_skip(writer, failed, past, o);
         return;
     };
@@ -113,7 +144,15 @@ fn tell_next<W: Sink>(writer: &mut W, failed: &mut bool, past: &Past, o: ObjId) 
             b" ends the action",
         );
     } else {
-        tell_expected(writer, failed, domain, o, &expected);
+        tell_doing(writer, failed, domain, o, next);
+    }
+}
+
+// Whose posts an entry splits, and which is the next of them.
+fn tell_split<W: Sink>(writer: &mut W, failed: &mut bool, past: &Past, next: &Option<Next>) {
+    tell(writer, failed, UNSPLIT);
+    if let Some(o) = last_owner(past.ledger().journal()) {
+        tell_next(writer, failed, past, o, next);
     }
 }
 
@@ -271,24 +310,27 @@ fn tell_readings<W: Sink>(
     }
 }
 
-/// What stands against an entry that breaks a rule first, behind the entries of a past.
+/// What stands against an entry that breaks a rule first, behind the entries of a past; with what the action does next
+/// that goes on in its place.
 pub(crate) fn tell_sentence<W: Sink>(
     writer: &mut W,
     failed: &mut bool,
     past: &Past,
     entry: &Entry,
     rule: Rule,
+    next: &Option<Next>,
 ) {
     let domain = past.ledger().domain();
     let o = owner(entry);
     match rule {
+        Rule::Split => tell_split(writer, failed, past, next),
         Rule::Killed => tell_of(writer, failed, domain, b"the object", o, b" is killed"),
         Rule::Open => tell_of(writer, failed, domain, b"an action is open at", o, b""),
         Rule::Number => tell_right_number(writer, failed, past, entry),
         Rule::NotSent => tell(writer, failed, NOT_SENT),
         Rule::BadRequest => tell_bad_request(writer, failed, domain, entry),
         Rule::NotOpen => tell_not_open(writer, failed, domain, entry),
-        Rule::Meaning => tell_next(writer, failed, past, o),
+        Rule::Meaning => tell_next(writer, failed, past, o, next),
         Rule::Dead => tell_dead(writer, failed, domain, entry),
         Rule::Clear => tell_of(
             writer,

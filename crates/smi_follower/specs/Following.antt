@@ -4,19 +4,25 @@ use Rattle.std.specs.Option.{option_map_or}
 use Rattle.sml_domain.specs.declared.value.Value.{Value}
 use Rattle.sml_domain.specs.Program.{Program, Nothing}
 use Rattle.sml_domain.specs.Domain.{Domain}
-use Rattle.sml_domain.specs.Lookups.{members_at, program_at}
+use Rattle.sml_domain.specs.Lookups.{program_at}
 use Rattle.smi_entry.specs.declared.entry.Verdict.{Verdict}
 use Rattle.smi_entry.specs.declared.letter.Letter.{Letter}
+use Rattle.smi_entry.specs.declared.journal.Format.{Format}
+use Rattle.smi_entry.specs.declared.journal.Format.TheVariants.{One, Two}
+use Rattle.smi_entry.specs.Sets.{Sets}
 use Rattle.smi_entry.specs.Words.{Item}
-use Rattle.smi_meaning.specs.Items.{item_of}
+use Rattle.smi_meaning.specs.Items.{Post, item_of}
 use Rattle.smi_meaning.specs.Environment.{Env}
 use Rattle.smi_meaning.specs.Meaning.{Move, Outcome, Means, state_left}
-use Rattle.smi_meaning.specs.Shown.{Question, question_in, shown_moves, BeginsToShow}
+use Rattle.smi_meaning.specs.Shown.{Question, question_in, sets_of, AreSame, shown_moves, BeginsToShow}
+use Rattle.smi_meaning.specs.Quiet.{AreDeclared, AreUnchanged, heard, said_in}
 use Rattle.smi_interp.specs.Turn.{posted_of}
-use Rattle.smi_interp.specs.Task.{TaskView, posts_waiting, this_program, awaited}
+use Rattle.smi_interp.specs.Task.{TaskView, this_program}
 
--- an action of an object that was in a state and had these parameters when it began, and what it has shown since
+-- an action of an object that was in a state and had these parameters when it began, and what it has shown since, as a journal of a
+-- format shows it
 pub record FollowerView : Type 0 where
+  pub format : Format
   pub domain : Domain
   pub object : ℕ
   pub state : ℕ
@@ -25,16 +31,16 @@ pub record FollowerView : Type 0 where
   pub shown : List Item
 
 -- an action that has shown nothing
-abbrev pub followed : Domain → ℕ → ℕ → Letter → List Value → FollowerView
-followed d o s l own = record { domain = d; object = o; state = s; own = own; letter = l; shown = [] }
+abbrev pub followed : Format → Domain → ℕ → ℕ → Letter → List Value → FollowerView
+followed format d o s l own = record { format = format; domain = d; object = o; state = s; own = own; letter = l; shown = [] }
 
 -- the action with one more item shown
 abbrev pub with_item : FollowerView → Item → FollowerView
 with_item f item = record f { shown = f.shown ++ item ∷ [] }
 
--- the block that the object's class declares in that state for the action
+-- the block that the object's class declares in that state for the action, as a journal of the format tells of it
 abbrev pub block_of : FollowerView → Program
-block_of f = option_map_or this_program (program_at f.domain f.object f.state f.letter.action) Nothing
+block_of f = said_in f.format f.domain (option_map_or this_program (program_at f.domain f.object f.state f.letter.action) Nothing)
 
 -- the environment in which it began
 abbrev pub env_of : FollowerView → Env
@@ -42,18 +48,22 @@ env_of f = record { own = f.own; given = f.letter.args }
 
 -- after what was shown the action may show this
 abbrev pub MayShow : FollowerView → Item → Type 0
-MayShow f item = BeginsToShow f.domain (members_at f.domain) (block_of f) (env_of f) (f.shown ++ item ∷ [])
+MayShow f item = BeginsToShow f.domain (block_of f) (env_of f) (f.shown ++ item ∷ [])
 
--- the action may show exactly what answers this question
-abbrev pub Asks : FollowerView → Question → Type 0
-Asks f q = (item : Item) → MayShow f item ↔ (question_in item ≡ q)
+-- what is shown goes by these members, if by any
+abbrev pub GoesBy : Sets → Item → Type 0
+GoesBy sets item = AreSame (sets_of item) (Some sets)
+
+-- where sets have these members, the action may show exactly what answers this question
+abbrev pub Asks : FollowerView → Sets → Question → Type 0
+Asks f sets q = (item : Item) → GoesBy sets item → MayShow f item ↔ (question_in item ≡ q)
 
 -- by a meaning that shows exactly what was shown, the action ends in this state and leaves its object these parameters
 pub record EndsIn (f : FollowerView) (s : ℕ) (own2 : List Value) : Type 0 where
   pub moves : List Move
   pub env2 : Env
   pub outcome : Outcome
-  pub means : Means f.domain (members_at f.domain) (block_of f) (env_of f) moves env2 outcome
+  pub means : Means f.domain (block_of f) (env_of f) moves env2 outcome
   pub shown : shown_moves moves ≡ f.shown
   pub state : s ≡ state_left f.state outcome
   pub params : own2 ≡ env2.own
@@ -67,13 +77,29 @@ abbrev pub GoesOn : FollowerView → Item → Option FollowerView → Type 0
 GoesOn f item (Some g) = MayShow f item × (g ≡ with_item f item)
 GoesOn f item None = ¬ MayShow f item
 
--- a task, and the verdicts on the first posts that it waits for, as an action that has shown them all
-abbrev pub seen_of : TaskView → List Verdict → FollowerView
-seen_of t verdicts = record {
+-- the moves that a journal of a format tells of: in the first no send to nobody is among them
+abbrev pub said_moves : Format → List Move → List Move
+said_moves One moves = heard moves
+said_moves Two moves = moves
+
+-- moves of which a journal of a format may tell: in the first they were made while sets had their declared members
+abbrev pub AreTellable : Format → Domain → List Move → Type 0
+AreTellable One d moves = AreUnchanged d moves
+AreTellable Two d moves = Unit {0}
+
+-- sets have members of which a journal of a format may tell: in the first the declared ones
+abbrev pub MayTell : Format → Domain → Sets → Type 0
+MayTell One d sets = AreDeclared d sets
+MayTell Two d sets = Unit {0}
+
+-- a task, and the verdicts on the first of the posts that it waits for, as an action that has shown them all
+abbrev pub seen_of : Format → TaskView → Sets → List Post → List Verdict → FollowerView
+seen_of format t sets posts verdicts = record {
+  format = format;
   domain = t.domain;
   object = t.turn.object;
   state = t.turn.state;
   own = t.turn.start;
   letter = t.turn.letter;
-  shown = shown_moves t.turn.moves ++ map item_of (posted_of (posts_waiting (awaited t)) verdicts);
+  shown = shown_moves (said_moves format t.turn.moves) ++ map (item_of sets) (posted_of posts verdicts);
 }

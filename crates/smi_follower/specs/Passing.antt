@@ -1,28 +1,47 @@
 -- How a task comes to a contact that shows something.
-use Rattle.std.specs.Prelude.{◌≡◌, ◌<◌, ◌≤◌, ◌+◌, ℕ, suc, List, [], Option, Some, None, length}
-use Rattle.sml_domain.specs.Program.{Program, Nothing, SetThen, SendThen, SendNoneThen, IfThen, EndIn, TerminateIn, WaitThen}
-use Rattle.smi_entry.specs.declared.entry.Verdict.{Verdict}
-use Rattle.smi_meaning.specs.Meaning.{state_left}
-use Rattle.smi_interp.specs.Expanded.{Expanded, Local, Send, Read, End}
-use Rattle.smi_interp.specs.Task.{TaskView, body, outcome_of, awaited}
-use Rattle.smi_follower.specs.Following.{seen_of}
-use Rattle.smi_follower.specs.declared.passing.Stop.{Stop}
-use Rattle.smi_follower.specs.declared.passing.Stop.TheVariants as stop
+use Rattle.std.specs.Prelude.{◌≡◌, ◌≤◌, ◌+◌, ℕ, Bool, true, false, not, suc, nat_eq, [], Option, Some, None, length}
+use Rattle.sml_domain.specs.Program.{Target, ToOne, ToMembers, Program, Nothing, SetThen, SendThen, SendNoneThen, IfThen, EndIn, TerminateIn, WaitThen, ChangeThen}
+use Rattle.sml_domain.specs.Domain.{Domain}
+use Rattle.sml_domain.specs.Lookups.{members_at}
+use Rattle.smi_entry.specs.declared.journal.Format.{Format}
+use Rattle.smi_entry.specs.declared.journal.Format.TheVariants.{One, Two}
+use Rattle.smi_meaning.specs.Meaning.{Wanted, state_left}
+use Rattle.smi_interp.specs.declared.contact.Contact.{Contact}
+use Rattle.smi_interp.specs.declared.contact.Contact.TheVariants as named
+use Rattle.smi_interp.specs.Task.{TaskView, body, outcome_of}
+use Rattle.smi_follower.specs.Following.{FollowerView, AreTellable, seen_of}
 
--- a contact waits that shows something or is the end, and fewer verdicts came than it wants
-abbrev pub Stands : Option Expanded → List Verdict → Type 0
-Stands (Some (Send posts)) verdicts = length verdicts < length posts
-Stands (Some (Read objects)) verdicts = verdicts ≡ []
-Stands (Some (End o)) verdicts = verdicts ≡ []
-Stands (Some (Local p v)) verdicts = ⊥
-Stands None verdicts = ⊥
+-- whether there is somebody to send to, as sets are declared
+abbrev pub is_anybody : Domain → Target → Bool
+is_anybody d (ToOne o) = true
+is_anybody d (ToMembers set) = not (nat_eq (length (members_at d set)) 0)
+
+-- whether something is sent, as sets are declared; no class declares the action of a send without one
+abbrev pub is_sent : Domain → Target → Option ℕ → Bool
+is_sent d to None = false
+is_sent d to (Some a) = is_anybody d to
+
+-- whether a journal of a format tells of a send: in the first not of one to a set that is declared without members
+abbrev pub is_said : Format → Domain → Wanted → Bool
+is_said One d w = is_sent d w.target w.action
+is_said Two d w = true
+
+-- a contact waits that shows something or is the end
+abbrev pub Stands : Format → Domain → Option Contact → Type 0
+Stands format d (Some (named.Local p v)) = ⊥
+Stands format d (Some (named.Send w)) = is_said format d w ≡ true
+Stands format d (Some (named.Read names)) = Unit {0}
+Stands format d (Some (named.Change add member set)) = Unit {0}
+Stands format d (Some (named.End o)) = Unit {0}
+Stands format d None = ⊥
 
 -- the state in which an action ends that began in a state, where its end waits
-abbrev pub end_of : ℕ → Option Expanded → Option ℕ
-end_of was (Some (End o)) = Some (state_left was (outcome_of o))
-end_of was (Some (Send posts)) = None
-end_of was (Some (Read objects)) = None
-end_of was (Some (Local p v)) = None
+abbrev pub end_of : ℕ → Option Contact → Option ℕ
+end_of was (Some (named.End o)) = Some (state_left was (outcome_of o))
+end_of was (Some (named.Send w)) = None
+end_of was (Some (named.Read names)) = None
+end_of was (Some (named.Change add member set)) = None
+end_of was (Some (named.Local p v)) = None
 end_of was None = None
 
 -- how many moves a block makes at most
@@ -35,16 +54,29 @@ size (SendThen target a args rest) = suc (size rest)
 size (SendNoneThen set rest) = suc (size rest)
 size (IfThen f p q rest) = suc (size p + size q + size rest)
 size (WaitThen names rest) = suc (size rest)
+size (ChangeThen add member set rest) = suc (size rest)
 
--- what a task waits for where it stands
-abbrev pub stop_of : Stop → Expanded
-stop_of (stop.Posts posts) = Send posts.items
-stop_of (stop.Objects objects) = Read objects.items
-stop_of (stop.End end) = End end
+-- a task as an action that has shown what its moves show
+abbrev pub fresh_of : Format → TaskView → FollowerView
+fresh_of format t = seen_of format t [] [] []
 
--- the task made a move that shows nothing, one of the few that its block makes; or it stands here, and made none
-abbrev pub Passes : TaskView → TaskView → Option Stop → Type 0
-Passes t u (Some at) = (awaited u ≡ Some (stop_of at)) × Stands (Some (stop_of at)) [] × (seen_of u [] ≡ seen_of t [])
-Passes t u None =
-    (u.pending ≡ None) × (seen_of u [] ≡ seen_of t [])
-    × (length u.turn.moves ≡ length t.turn.moves + 1) × (length u.turn.moves ≤ size (body u))
+-- the task made a move that shows nothing, one of the few that its block makes
+pub record Passed (format : Format) (t u : TaskView) : Type 0 where
+  pub idle : u.pending ≡ None
+  pub domain : u.domain ≡ t.domain
+  pub same : fresh_of format u ≡ fresh_of format t
+  pub told : AreTellable format u.domain u.turn.moves
+  pub more : length u.turn.moves ≡ length t.turn.moves + 1
+  pub few : length u.turn.moves ≤ size (body u)
+
+-- or it stands, and made none
+pub record Stood (format : Format) (t u : TaskView) : Type 0 where
+  pub stands : Stands format u.domain u.pending
+  pub domain : u.domain ≡ t.domain
+  pub same : fresh_of format u ≡ fresh_of format t
+  pub told : AreTellable format u.domain u.turn.moves
+
+-- one of both
+abbrev pub Passes : Format → TaskView → TaskView → Bool → Type 0
+Passes format t u true = Stood format t u
+Passes format t u false = Passed format t u

@@ -1,65 +1,87 @@
 //! Moves that show nothing, and where a task stops.
-ghost use Rattle.std.specs.Prelude.{◌≡◌, [], IfOk, None, Some};
-ghost use Rattle.smi_interp.specs.Task.{awaited};
-ghost use Rattle.smi_follower.specs.Following.{seen_of};
-ghost use Rattle.smi_follower.specs.Passing.{Passes, Stands, stop_of};
+ghost use Rattle.std.specs.Prelude.{◌≡◌, IfOk, None, OnOk};
+ghost use Rattle.sml_domain.specs.Trees.{target as target_tree};
+ghost use Rattle.smi_entry.specs.Sets.{AreOf, unchanged};
+ghost use Rattle.smi_follower.specs.Following.{AreTellable};
+ghost use Rattle.smi_follower.specs.Passing as passing;
 
-use smi_interp::contact::{Contact, Post};
-use smi_interp::expanding::{objects_for, posts_for};
+use smi_entry::journal::Format;
+use smi_entry::members::Members;
+use smi_interp::contact::{Contact, Wanted};
 use smi_interp::task::Task;
-use sml_domain::ids::{ObjId, StateId};
-use std::alloc::{AllocError, Global};
+use sml_domain::domain::Domain;
+use sml_domain::instr::Target;
+use std::alloc::AllocError;
 
-/// A contact that shows something, or is the end, with its names expanded.
-#[derive(Drop)]
-pub enum Stop {
-    /// The posts of a `do`, of which there is one at least.
-    Posts(Vec<Post>),
-    /// The objects of a condition or of a `wait`.
-    Objects(Vec<ObjId>),
-    /// The end of the action, in this state or without one.
-    End(Option<StateId>),
+// Whether there is somebody to send to, as sets are declared.
+fn is_anybody(domain: &Domain, target: &Target) -> bool
+    ensures { result ≡ passing.is_anybody domain.now (target_tree target.now) }
+{
+    match target {
+        Target::One(_) => true,
+        Target::Members(set) => !domain.members(*set).is_empty(),
+    }
+}
+
+// Whether something is sent, as sets are declared.
+fn is_sent(domain: &Domain, wanted: &Wanted) -> bool
+    ensures { result ≡ passing.is_sent domain.now wanted.now.target wanted.now.action }
+{
+    match wanted.action {
+        Some(_) => is_anybody(domain, &wanted.target),
+        None => false,
+    }
+}
+
+/// Whether a journal of a format tells of a send.
+pub(crate) fn is_said(format: Format, domain: &Domain, wanted: &Wanted) -> bool
+    ensures { result ≡ passing.is_said format domain.now wanted.now }
+{
+    match format {
+        Format::One => is_sent(domain, wanted),
+        Format::Two => true,
+    }
 }
 
 // Makes a move that shows nothing, unless the task comes to stand.
-fn stands(alloc: Global, task: &mut Task) -> Result<Option<Stop>, AllocError>
-    requires { task.old.pending ≡ None }
-    ensures { IfOk result (Passes task.old task.new) }
+fn stands(format: Format, declared: &Members, task: &mut Task) -> Result<bool, AllocError>
+    requires idle { task.old.pending ≡ None }
+    requires told { AreTellable format task.old.domain task.old.turn.moves }
+    requires declared { declared.now ≡ unchanged task.old.domain }
+    requires are { AreOf task.old.domain declared.now }
+    ensures { IfOk result (passing.Passes format task.old task.new) }
 {
     match task.advance()? {
         Contact::Local { .. } => {
             // A task is under way, so that its moves are few.
             let _turn = task.turn();
-            Ok(None)
+            Ok(false)
         }
         Contact::Send(wanted) => {
-            let posts = posts_for(alloc, task.domain(), &wanted)?;
-            if posts.len() > 0 {
-                return Ok(Some(Stop::Posts(posts)));
+            if is_said(format, task.domain(), &wanted) {
+                return Ok(true);
             }
-            task.sent(&[]);
+            let members = declared.share()?;
+            task.sent(&[], members);
             let _turn = task.turn();
-            Ok(None)
+            Ok(false)
         }
-        Contact::Read(names) => {
-            let objects = objects_for(alloc, task.domain(), &names)?;
-            Ok(Some(Stop::Objects(objects)))
-        }
-        Contact::End(end) => Ok(Some(Stop::End(end))),
+        Contact::Read(_) | Contact::Change { .. } | Contact::End(_) => Ok(true),
     }
 }
 
-/// Makes the moves that show nothing, up to a contact that shows something or is the end. An error is
-/// want of memory. The cost is that of these moves, and of expanding the names of that contact.
-pub fn settle(alloc: Global, task: &mut Task) -> Result<Stop, AllocError>
-    requires { task.old.pending ≡ None }
-    ensures at { IfOk result (λ at. awaited task.new ≡ Some (stop_of at)) }
-    ensures stands { IfOk result (λ at. Stands (Some (stop_of at)) []) }
-    ensures same { IfOk result (λ at. seen_of task.new [] ≡ seen_of task.old []) }
+/// Makes the moves that show nothing, up to a contact that shows something or is the end. Sets have their declared
+/// members in what is passed over. An error is out of memory. The cost is that of these moves.
+pub fn settle(format: Format, declared: &Members, task: &mut Task) -> Result<(), AllocError>
+    requires idle { task.old.pending ≡ None }
+    requires told { AreTellable format task.old.domain task.old.turn.moves }
+    requires declared { declared.now ≡ unchanged task.old.domain }
+    requires are { AreOf task.old.domain declared.now }
+    ensures { OnOk result (passing.Stood format task.old task.new) }
 {
     loop {
-        if let Some(at) = stands(alloc, task)? {
-            return Ok(at);
+        if stands(format, declared, task)? {
+            return Ok(());
         }
     }
 }

@@ -4,18 +4,19 @@ ghost use Rattle.sml_domain.specs.Lookups.{block_at, program_at};
 ghost use Rattle.smi_meaning.specs.Conditions.{object_read};
 ghost use Rattle.smi_meaning.specs.Meaning.{DidSend};
 ghost use Rattle.smi_interp.specs.Expanded.{all_by_names, objects_by_names, posts_in};
-ghost use Rattle.smi_interp.specs.Turn.{HasAVerdictEach, move_of, posted_of, readings_of};
+ghost use Rattle.smi_interp.specs.Turn.{HasAVerdictEach, move_of, readings_of, sending_of};
 ghost use Rattle.smi_interp.specs.Cursor.{left_in};
 
 use crate::contact::{Contact, Names, Wanted};
-use crate::cursor::{Place, branch_of, contact_at, make_room, next_of, settle};
+use crate::cursor::{Place, branch_by, contact_at, make_room, next_of, settle};
 use crate::expanding::add_objects;
 use crate::turn::{Move, TurnRecord};
 use smi_entry::args::{Args, Reading};
 use smi_entry::entry::{Sender, Verdict};
 use smi_entry::letter::Letter;
+use smi_entry::members::Members;
 use sml_domain::domain::Domain;
-use sml_domain::ids::{ActionId, BlockId, ObjId, ParamId, StateId};
+use sml_domain::ids::{ActionId, BlockId, ObjId, ParamId, SetId, StateId};
 use sml_domain::value::Value;
 use std::alloc::{AllocError, Global};
 use std::mem;
@@ -32,6 +33,8 @@ pub struct Run {
     pub at: Place,
     /// Where it goes on after that: the places behind the `if`s that are under way, the innermost last.
     pub later: Vec<Place>,
+    /// Whether the readings of the last move have still to pick where the action goes on from its place.
+    pub has_read: bool,
     /// The contact that waits for an answer.
     pub pending: Option<Contact>,
     /// Room for the verdicts of the contact that waits.
@@ -42,16 +45,17 @@ pub struct Run {
 }
 
 impl Run {
-    ghost use Rattle.std.specs.Prelude.{◌≡◌, ◌<◌, ◌++◌, ◌∷◌, [], IfOk, IfSome, IsSomeAnd, IsTrue, None, OnErr, OnOk, Some, is_some, length, vec_capacity, vec_len};
+    ghost use Rattle.std.specs.Prelude.{◌≡◌, ◌<◌, ◌++◌, ◌∷◌, [], IfOk, IfSome, IsSomeAnd, IsTrue, None, OnErr, OnOk, Some, false, is_some, length, true, vec_capacity, vec_len};
     ghost use Rattle.sml_domain.specs.Lookups.{block_at};
     ghost use Rattle.std.specs.Arc.{arc_value};
     ghost use Rattle.sml_domain.specs.Program.{Nothing};
-    ghost use Rattle.smi_meaning.specs.Meaning.{DidRead, DidSend};
+    ghost use Rattle.smi_entry.specs.Sets.{AreOf};
+    ghost use Rattle.smi_meaning.specs.Meaning.{DidChange, DidRead, DidSend};
     ghost use Rattle.smi_interp.specs.declared.contact.Contact.TheVariants as contact;
-    ghost use Rattle.smi_interp.specs.Expanded.{expanded, objects_by_names, posts_in};
-    ghost use Rattle.smi_interp.specs.Turn.{posted_of, readings_of};
+    ghost use Rattle.smi_interp.specs.Expanded.{objects_by_names, posts_in};
+    ghost use Rattle.smi_interp.specs.Turn.{sending_of, sight_of};
     ghost use Rattle.smi_interp.specs.Cursor.{HasRoom, Waits};
-    ghost use Rattle.smi_interp.specs.Task.{IsNext, LeftAsks, LeftNames, WantsStates, WantsVerdicts, begun, shown, awaited, with_move, with_states, with_verdicts};
+    ghost use Rattle.smi_interp.specs.Task.{IsNext, LeftNames, WantsChange, WantsStates, WantsVerdicts, begun, shown, with_change, with_move, with_states, with_verdicts};
     ghost use Rattle.smi_interp.specs.Run.{IsBlank, IsSound, contact_here, here, task_of};
 
     /// A task that is not begun, of an object with these parameters. The arguments stand in its letter until it is.
@@ -89,6 +93,7 @@ impl Run {
                 index: 0,
             },
             later: Vec::new(alloc),
+            has_read: false,
             pending: None,
             verdicts: Vec::new(alloc),
             readings: Vec::new(alloc),
@@ -112,7 +117,7 @@ impl Run {
     pub fn advance(&mut self) -> Result<Contact, AllocError>
         requires sound { IsSound self.old }
         ensures sound { IsSound self.new }
-        ensures next { IfOk result (λ c. IsNext (task_of self.old) (expanded (arc_value self.old.domain) c)) }
+        ensures next { IfOk result (IsNext (task_of self.old)) }
         ensures names { IfOk result (LeftNames (task_of self.old)) }
         ensures waiting { IfOk result (λ c. IfSome self.old.pending (λ w. c ≡ w)) }
         ensures ok { IfOk result (λ c. task_of self.new ≡ shown (task_of self.old) c) }
@@ -123,15 +128,48 @@ impl Run {
                 let told = contact.share()?;
                 Ok(told)
             }
-            None => self.go_on(),
+            None => {
+                self.pick();
+                self.go_on()
+            }
         }
+    }
+
+    // Goes to the branch that the last readings pick, where they still have to. A condition is evaluated here, and not
+    // where its readings are told, since they are told under the lock of a run.
+    fn pick(&mut self)
+        requires sound { IsSound self.old }
+        requires idle { self.old.pending ≡ None }
+        ensures sound { IsSound self.new }
+        ensures same { task_of self.new ≡ task_of self.old }
+        ensures picked { self.new.has_read ≡ false }
+    {
+        if self.has_read {
+            self.enter_branch();
+        }
+    }
+
+    fn enter_branch(&mut self)
+        requires sound { IsSound self.old }
+        requires idle { self.old.pending ≡ None }
+        requires read { self.old.has_read ≡ true }
+        ensures sound { IsSound self.new }
+        ensures same { task_of self.new ≡ task_of self.old }
+        ensures picked { self.new.has_read ≡ false }
+    {
+        let branch = branch_by(&self.domain, self.at, &self.turn.moves);
+        let next = next_of(&self.domain, self.at);
+        self.later.push_reserved(next);
+        self.at = branch;
+        self.has_read = false;
     }
 
     fn go_on(&mut self) -> Result<Contact, AllocError>
         requires sound { IsSound self.old }
         requires idle { self.old.pending ≡ None }
+        requires picked { self.old.has_read ≡ false }
         ensures sound { IsSound self.new }
-        ensures next { IfOk result (λ c. IsNext (task_of self.old) (expanded (arc_value self.old.domain) c)) }
+        ensures next { IfOk result (IsNext (task_of self.old)) }
         ensures names { IfOk result (LeftNames (task_of self.old)) }
         ensures ok { IfOk result (λ c. task_of self.new ≡ shown (task_of self.old) c) }
         ensures err { OnErr result (task_of self.new ≡ task_of self.old) }
@@ -157,79 +195,114 @@ impl Run {
             Contact::Local { param, value } => self.set(param, value)?,
             Contact::Send(wanted) => self.wait(Contact::Send(wanted)),
             Contact::Read(names) => self.wait(Contact::Read(names)),
+            Contact::Change { add, member, set } => self.wait(Contact::Change { add, member, set }),
             Contact::End(state) => self.wait(Contact::End(state)),
         }
         Ok(told)
     }
 
-    /// The verdicts on the posts that wait.
-    pub fn sent(&mut self, verdicts: &[Verdict])
+    /// The verdicts on the posts that wait, and the members that sets have.
+    pub fn sent(&mut self, verdicts: &[Verdict], members: Members)
         requires sound { IsSound self.old }
-        requires waits { IsSomeAnd (awaited (task_of self.old)) (WantsVerdicts (length verdicts.now)) }
+        requires are { AreOf (arc_value self.old.domain) members }
+        requires waits { IsSomeAnd self.old.pending (WantsVerdicts (arc_value self.old.domain) members (length verdicts.now)) }
         ensures sound { IsSound self.new }
-        ensures sent { task_of self.new ≡ with_verdicts (task_of self.old) verdicts.now }
+        ensures sent { task_of self.new ≡ with_verdicts (task_of self.old) verdicts.now members }
     {
         match take_contact(&mut self.pending) {
-            Contact::Send(wanted) => self.note_sent(wanted, verdicts),
+            Contact::Send(wanted) => self.note_sent(wanted, verdicts, members),
             _ => unreachable!(),
         }
     }
 
-    fn note_sent(&mut self, wanted: Wanted, verdicts: &[Verdict])
+    fn note_sent(&mut self, wanted: Wanted, verdicts: &[Verdict], members: Members)
         requires sound { IsSound self.old }
+        requires are { AreOf (arc_value self.old.domain) members }
         requires idle { self.old.pending ≡ None }
+        requires picked { self.old.has_read ≡ false }
         requires asks { contact.Send wanted ≡ contact_here self.old }
         requires room { HasRoom (arc_value self.old.domain) (contact.Send wanted) self.old.turn.moves self.old.verdicts
             self.old.readings self.old.later }
-        requires each { length verdicts.now ≡ length (posts_in (arc_value self.old.domain) wanted) }
+        requires each { length verdicts.now ≡ length (posts_in (arc_value self.old.domain) members wanted) }
         ensures sound { IsSound self.new }
         ensures sent { task_of self.new ≡ with_move (task_of self.old)
-            (DidSend (posted_of (posts_in (arc_value self.old.domain) wanted) verdicts.now)) }
+            (DidSend (sending_of (arc_value self.old.domain) members wanted verdicts.now)) }
     {
         let room = mem::replace(&mut self.verdicts, Vec::new(self.alloc));
         self.turn
             .moves
-            .push_reserved(sent_move(&self.domain, room, wanted, verdicts));
+            .push_reserved(sent_move(&self.domain, room, wanted, verdicts, members));
         self.at = next_of(&self.domain, self.at);
     }
 
-    /// The states of the objects that wait to be read.
-    pub fn tell(&mut self, states: &[StateId])
+    /// The states of the objects that wait to be read, and the members that sets have.
+    pub fn tell(&mut self, states: &[StateId], members: Members)
         requires sound { IsSound self.old }
-        requires waits { IsSomeAnd (awaited (task_of self.old)) (WantsStates (length states.now)) }
+        requires are { AreOf (arc_value self.old.domain) members }
+        requires waits { IsSomeAnd self.old.pending (WantsStates (arc_value self.old.domain) members (length states.now)) }
         ensures sound { IsSound self.new }
-        ensures told { task_of self.new ≡ with_states (task_of self.old) states.now }
+        ensures told { task_of self.new ≡ with_states (task_of self.old) states.now members }
     {
         match take_contact(&mut self.pending) {
-            Contact::Read(names) => self.note_read(names, states),
+            Contact::Read(names) => self.note_read(names, states, members),
             _ => unreachable!(),
         }
     }
 
-    fn note_read(&mut self, names: Names, states: &[StateId])
+    fn note_read(&mut self, names: Names, states: &[StateId], members: Members)
         requires sound { IsSound self.old }
+        requires are { AreOf (arc_value self.old.domain) members }
         requires idle { self.old.pending ≡ None }
+        requires picked { self.old.has_read ≡ false }
         requires asks { contact.Read names ≡ contact_here self.old }
         requires room { HasRoom (arc_value self.old.domain) (contact.Read names) self.old.turn.moves self.old.verdicts
             self.old.readings self.old.later }
-        requires each { length states.now ≡ length (objects_by_names (arc_value self.old.domain) names) }
+        requires each { length states.now ≡ length (objects_by_names (arc_value self.old.domain) members names) }
         ensures sound { IsSound self.new }
         ensures told { task_of self.new ≡ with_move (task_of self.old)
-            (DidRead (readings_of (objects_by_names (arc_value self.old.domain) names) states.now)) }
+            (DidRead (sight_of (arc_value self.old.domain) members names states.now)) }
     {
-        add_readings(&self.domain, &names, states, &mut self.readings);
-        let branch = branch_of(&self.domain, self.at, &self.readings);
-        let next = next_of(&self.domain, self.at);
+        add_readings(&self.domain, &members, &names, states, &mut self.readings);
         let readings = mem::replace(&mut self.readings, Vec::new(self.alloc));
-        self.turn.moves.push_reserved(Move::Saw { readings });
-        self.later.push_reserved(next);
-        self.at = branch;
+        self.turn
+            .moves
+            .push_reserved(Move::Saw { readings, members });
+        self.has_read = true;
+    }
+
+    /// The set that waits was changed.
+    pub fn changed(&mut self)
+        requires sound { IsSound self.old }
+        requires waits { IsSomeAnd self.old.pending WantsChange }
+        ensures sound { IsSound self.new }
+        ensures changed { task_of self.new ≡ with_change (task_of self.old) }
+    {
+        match take_contact(&mut self.pending) {
+            Contact::Change { add, member, set } => self.note_change(add, member, set),
+            _ => unreachable!(),
+        }
+    }
+
+    fn note_change(&mut self, add: bool, member: ObjId, set: SetId)
+        requires sound { IsSound self.old }
+        requires idle { self.old.pending ≡ None }
+        requires picked { self.old.has_read ≡ false }
+        requires asks { contact.Change add member set ≡ contact_here self.old }
+        requires room { vec_len self.old.turn.moves < vec_capacity self.old.turn.moves }
+        ensures sound { IsSound self.new }
+        ensures changed { task_of self.new ≡ with_move (task_of self.old) (DidChange add member set) }
+    {
+        self.turn
+            .moves
+            .push_reserved(Move::Changed { add, member, set });
+        self.at = next_of(&self.domain, self.at);
     }
 
     // Makes the `set` that comes next.
     fn set(&mut self, param: ParamId, value: Value) -> Result<(), AllocError>
         requires sound { IsSound self.old }
         requires idle { self.old.pending ≡ None }
+        requires picked { self.old.has_read ≡ false }
         requires asks { contact.Local param value ≡ contact_here self.old }
         requires room { vec_len self.old.turn.moves < vec_capacity self.old.turn.moves }
         ensures sound { IsSound self.new }
@@ -248,6 +321,7 @@ impl Run {
     // Waits for the answer to the contact that comes next.
     fn wait(&mut self, contact: Contact)
         requires sound { IsSound self.old }
+        requires picked { self.old.has_read ≡ false }
         requires asks { contact ≡ contact_here self.old }
         requires settled { here self.old ≡ Nothing → self.old.later.items ≡ [] }
         requires room { HasRoom (arc_value self.old.domain) contact self.old.turn.moves self.old.verdicts
@@ -307,12 +381,18 @@ fn take_contact(pending: &mut Option<Contact>) -> Contact
 }
 
 // A `do` that sent its posts and was answered by these verdicts, which are kept in the room for them.
-fn sent_move(domain: &Domain, room: Vec<Verdict>, wanted: Wanted, verdicts: &[Verdict]) -> Move
+fn sent_move(
+    domain: &Domain,
+    room: Vec<Verdict>,
+    wanted: Wanted,
+    verdicts: &[Verdict],
+    members: Members,
+) -> Move
     requires room { vec_len room + length verdicts.now ≤ vec_capacity room }
     requires empty { room.items ≡ [] }
-    requires each { length verdicts.now ≡ length (posts_in domain.now wanted) }
+    requires each { length verdicts.now ≡ length (posts_in domain.now members wanted) }
     ensures each { HasAVerdictEach domain.now result }
-    ensures is { move_of domain.now result ≡ DidSend (posted_of (posts_in domain.now wanted) verdicts.now) }
+    ensures is { move_of domain.now result ≡ DidSend (sending_of domain.now members wanted verdicts.now) }
 {
     let _domain = domain;
     let mut told = room;
@@ -320,6 +400,7 @@ fn sent_move(domain: &Domain, room: Vec<Verdict>, wanted: Wanted, verdicts: &[Ve
     Move::Sent {
         wanted,
         verdicts: told,
+        members,
     }
 }
 
@@ -332,14 +413,20 @@ fn add_verdicts(to: &mut Vec<Verdict>, more: &[Verdict])
     }
 }
 
-// Adds a reading of each object that names stand for, in the state of its place.
-fn add_readings(domain: &Domain, names: &Names, states: &[StateId], readings: &mut Vec<Reading>)
-    requires room { vec_len readings.old + length (all_by_names domain.now names.now) ≤ vec_capacity readings.old }
+// Adds a reading of each object that names stand for where sets have these members, in the state of its place.
+fn add_readings(
+    domain: &Domain,
+    members: &Members,
+    names: &Names,
+    states: &[StateId],
+    readings: &mut Vec<Reading>,
+)
+    requires room { vec_len readings.old + length (all_by_names domain.now members.now names.now) ≤ vec_capacity readings.old }
     requires empty { readings.old.items ≡ [] }
-    requires each { length states.now ≡ length (objects_by_names domain.now names.now) }
-    ensures { readings.new.items ≡ readings_of (objects_by_names domain.now names.now) states.now }
+    requires each { length states.now ≡ length (objects_by_names domain.now members.now names.now) }
+    ensures { readings.new.items ≡ readings_of (objects_by_names domain.now members.now names.now) states.now }
 {
-    add_objects(domain, names, readings);
+    add_objects(domain, members, names, readings);
     put_states(readings, states);
 }
 

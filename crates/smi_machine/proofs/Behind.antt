@@ -1,6 +1,8 @@
 -- The entries that a step adds stand behind those before it.
 use Rattle.std.proofs.Common.{◌≡◌, ◌∙◌, sym, ap, refl, ℕ, List, [], ◌∷◌, ◌++◌, Option, Some, None, Result, Ok, Err, inl, inr, subst, append_assoc, append-nil}
 use Rattle.sml_domain.specs.Domain.{Domain}
+use Rattle.sml_domain.specs.Program.{Target, ToOne, ToMembers}
+use Rattle.smi_entry.specs.declared.journal.Format.TheVariants.{Two}
 use Rattle.smi_entry.specs.declared.entry.Entry.{Entry}
 use Rattle.smi_entry.specs.declared.entry.Verdict.{Verdict}
 use Rattle.smi_entry.specs.declared.entry.Verdict.TheVariants.{Accepted, Full, Dead}
@@ -12,7 +14,7 @@ use Rattle.smi_world.specs.declared.step.Step.TheVariants as step
 use Rattle.smi_world.specs.declared.step.Answer.{Answer}
 use Rattle.smi_world.specs.declared.refusal.StepError.{StepError}
 use Rattle.smi_world.specs.World.{Setup, World}
-use Rattle.smi_world.specs.Moves.{PostsAs, PostsEach, GoesOn}
+use Rattle.smi_world.specs.Moves.{PostsAll, PostsAs, PostsEach, GoesOn}
 use Rattle.smi_world.specs.Steps.{MakesAt, StepsTo, begun}
 
 -- a journal stands in front of another
@@ -41,13 +43,19 @@ posts_behind m w o [] w2 h = none_behind w.journal w2.journal (same_journal w w2
 posts_behind m w o (p ∷ ps) w2 h =
     more_behind w.journal h.0.journal w2.journal (post_behind p.verdict m w o p.post h.0 h.1) (posts_behind m h.0 o ps w2 h.2)
 
+all_behind : (m : Setup) (w : World) (o : ℕ) (to : Target) (ps : List Posted) (w2 : World) → PostsAll m w o to ps w2 → Behind w.journal w2.journal
+all_behind m w o (ToOne t) [] w2 h = none_behind w.journal w2.journal (same_journal w w2 h)
+all_behind m w o (ToMembers set) [] w2 h = one_behind w.journal w2.journal _ (same_journal _ w2 h)
+all_behind m w o to (p ∷ ps) w2 h = posts_behind m w o (p ∷ ps) w2 h
+
 goes_behind : (m : Setup) (w : World) (o : ℕ) (a : Answer) (w2 : World) → GoesOn m w o a w2 → Behind w.journal w2.journal
 goes_behind m w o a w2 (inl h) = none_behind w.journal w2.journal (same_journal _ w2 h.after)
-goes_behind m w o a w2 (inr (inl h)) = subst (Behind w.journal) (sym (same_journal _ w2 h.after)) (posts_behind m w o h.posts h.mid h.posted)
+goes_behind m w o a w2 (inr (inl h)) = subst (Behind w.journal) (sym (same_journal _ w2 h.after)) (all_behind m w o h.to h.posts h.mid h.posted)
 goes_behind m w o a w2 (inr (inr (inl h))) = one_behind w.journal w2.journal _ (same_journal _ w2 h.after)
 goes_behind m w o a w2 (inr (inr (inr (inl h)))) = one_behind w.journal w2.journal _ (same_journal _ w2 h.after)
 goes_behind m w o a w2 (inr (inr (inr (inr (inl h))))) = none_behind w.journal w2.journal (same_journal w w2 h.after)
-goes_behind m w o a w2 (inr (inr (inr (inr (inr h))))) = one_behind w.journal w2.journal _ (same_journal _ w2 h.after)
+goes_behind m w o a w2 (inr (inr (inr (inr (inr (inr h)))))) = one_behind w.journal w2.journal _ (same_journal _ w2 h.after)
+goes_behind m w o a w2 (inr (inr (inr (inr (inr (inl h)))))) = one_behind w.journal w2.journal _ (same_journal _ w2 h.after)
 
 begun_behind : {P : Type 0} (p : Option P) (w : World) (o : ℕ) (e : Entry) → Behind w.journal (begun p w o e).journal
 begun_behind (Some p) w o e = (e ∷ [], refl)
@@ -66,8 +74,8 @@ step_behind m w s (Ok a) w2 h = makes_behind m w h.object s a w2 h.made
 step_behind m w s (Err e) w2 h = none_behind w.journal w2.journal (same_journal w w2 h.1)
 
 -- where the journal after a step is legal, each entry that the step added may follow those before it
-pub legal_behind : (m : Setup) (d : Domain) (w : World) (s : Step) (r : Result Answer StepError) (w2 : World) → StepsTo m w s r w2 → IsLegal d w2.journal
-    → (added : List Entry) × (w2.journal ≡ w.journal ++ added) × IsLegalFrom d w.journal added
+pub legal_behind : (m : Setup) (d : Domain) (w : World) (s : Step) (r : Result Answer StepError) (w2 : World) → StepsTo m w s r w2 → IsLegal Two d w2.journal
+    → (added : List Entry) × (w2.journal ≡ w.journal ++ added) × IsLegalFrom Two d w.journal added
 legal_behind m d w s r w2 h legal =
     let b = step_behind m w s r w2 h in
-    (b.0, b.1, (legal_front d w.journal b.0 (subst (IsLegal d) b.1 legal)).1)
+    (b.0, b.1, (legal_front Two d w.journal b.0 (subst (IsLegal Two d) b.1 legal)).1)

@@ -74,6 +74,7 @@ impl Machine {
         match self.board.contact(task) {
             Ok(Reply::Posted(task)) => Ok(self.go_on(task, first)),
             Ok(Reply::Seen(task)) => Ok(self.go_on(task, first)),
+            Ok(Reply::Changed(task)) => Ok(self.go_on(task, first)),
             Ok(Reply::Waiting) => Ok(self.waits_since(first)),
             Ok(Reply::Ended) => Ok(self.entries_since(first)),
             Err((ContactError::Memory, task)) => {
@@ -126,7 +127,7 @@ impl Machine {
         ensures have { HaveTheirs self.new.board self.new.tasks.items }
         ensures world { world_of self.new.board self.new.tasks.items ≡ world_of self.old.board self.old.tasks.items }
         ensures setup { setup_of self.new.board ≡ setup_of self.old.board }
-        ensures none { (o : ℕ) → can_go_on o self.new.board.journal (kept_at self.new.board.kept o) ≡ false }
+        ensures none { (o : ℕ) → can_go_on self.new.board.domain o self.new.board.journal (kept_at self.new.board.kept o) ≡ false }
     {
         self.told();
         while let Some(task) = self.next_task() {

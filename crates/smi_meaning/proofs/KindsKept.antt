@@ -3,24 +3,25 @@ use Rattle.std.proofs.Common.{◌≡◌, ℕ, zero, suc, Bool, true, false, List
 use Rattle.std.specs.Prelude.{MatchBool, IsSomeAnd, IfSome}
 use Rattle.std.specs.List.{filter_map, AllZip}
 use Rattle.std.specs.Option.{option_and_then, option_map_or}
-use Rattle.std.proofs.lemmas.List.Elements.{All-cons, All-nil, All-map}
+use Rattle.std.proofs.lemmas.List.Elements.{All-cons, All-nil, All-map, All-contains}
 use Rattle.sml_tree.specs.declared.file.Kind.{Kind}
 use Rattle.sml_domain.specs.declared.value.Value.{Value}
 use Rattle.sml_domain.specs.Values.{kind_of}
 use Rattle.sml_domain.specs.Names.{AreDistinct}
-use Rattle.sml_domain.specs.Program.{Operand, Fixed, Own, Given, Argument, Target, ToOne, ToMembers, Program, Nothing, SetThen, SendThen, SendNoneThen, IfThen, EndIn, TerminateIn, WaitThen}
+use Rattle.sml_domain.specs.Program.{Operand, Fixed, Own, Given, Argument, Target, ToOne, ToMembers, Program, Nothing, SetThen, SendThen, SendNoneThen, IfThen, EndIn, TerminateIn, WaitThen, ChangeThen}
 use Rattle.sml_domain.specs.Domain.{Domain, Class, Signature, Param}
-use Rattle.sml_domain.specs.Lookups.{class_at, params_at, members_at, is_signature, signature_in, params_of_action}
+use Rattle.sml_domain.specs.Lookups.{class_at, params_at, may_at, is_signature, signature_in, params_of_action}
 use Rattle.sml_domain.specs.Completing.{complete}
 use Rattle.sml_domain.specs.Fits.{kind_at, HasKindOf, ArgumentsFit, RequestFits, SendFits, ProgramFits}
 use Rattle.sml_domain.specs.Sound.{ParamFits, ClassFits, SignatureFits, IsSound, name_of_param}
 use Rattle.sml_domain.specs.Laws.{passed_as, KeepsKinds, IsFilled, CompletesWithKinds}
 use Rattle.sml_domain.proofs.Finds.{found}
 use Rattle.sml_domain.proofs.Ranges.{class_fits}
+use Rattle.smi_entry.specs.Sets.{members_in}
 use Rattle.smi_meaning.specs.Environment.{Env, value_in, value_of, with_set, ValuesFit, EnvFits}
 use Rattle.smi_meaning.specs.Conditions.{is_true_over}
 use Rattle.smi_meaning.specs.Meaning.{Move, Outcome, Through, To, Means, Goes, itself, values_for, post_to, wanted}
-use Rattle.smi_meaning.specs.Laws.{PostFits}
+use Rattle.smi_meaning.specs.Laws.{PostFits, AreAllowedMembers}
 use Rattle.smi_meaning.proofs.Picked.{same_some}
 
 -- a value at a place has the kind of the parameter there
@@ -50,32 +51,34 @@ env_set own given env p x k h =
     }
 
 -- what goes on after an if keeps them
-goes_keeps : (d : Domain) (mem : ℕ → List ℕ) (own given : List Param) (rest : Program) (r1 : Outcome) (e1 : Env) (ms : List Move) (e2 : Env) (r : Outcome) → ((ns : List Move) → EnvFits own given e1 → Means d mem rest e1 ns e2 r → EnvFits own given e2)
-    → EnvFits own given e1 → Goes r1 e1 ms e2 r (Means d mem rest) → EnvFits own given e2
-goes_keeps d mem own given rest Through e1 ms e2 r ih h g = ih ms h g
-goes_keeps d mem own given rest (To s) e1 ms e2 r ih h g = subst (EnvFits own given) (sym g.1) h
+goes_keeps : (d : Domain) (own given : List Param) (rest : Program) (r1 : Outcome) (e1 : Env) (ms : List Move) (e2 : Env) (r : Outcome) → ((ns : List Move) → EnvFits own given e1 → Means d rest e1 ns e2 r → EnvFits own given e2)
+    → EnvFits own given e1 → Goes r1 e1 ms e2 r (Means d rest) → EnvFits own given e2
+goes_keeps d own given rest Through e1 ms e2 r ih h g = ih ms h g
+goes_keeps d own given rest (To s) e1 ms e2 r ih h g = subst (EnvFits own given) (sym g.1) h
 
-pub branch_keeps : (d : Domain) (mem : ℕ → List ℕ) (own given : List Param) (t : Bool) (p q : Program) (env : Env) (ms : List Move) (e1 : Env) (r1 : Outcome) → (Means d mem p env ms e1 r1 → EnvFits own given e1) → (Means d mem q env ms e1 r1 → EnvFits own given e1)
-    → MatchBool t (Means d mem p env ms e1 r1) (Means d mem q env ms e1 r1) → EnvFits own given e1
-branch_keeps d mem own given true p q env ms e1 r1 f g h = f h
-branch_keeps d mem own given false p q env ms e1 r1 f g h = g h
+pub branch_keeps : (d : Domain) (own given : List Param) (t : Bool) (p q : Program) (env : Env) (ms : List Move) (e1 : Env) (r1 : Outcome) → (Means d p env ms e1 r1 → EnvFits own given e1) → (Means d q env ms e1 r1 → EnvFits own given e1)
+    → MatchBool t (Means d p env ms e1 r1) (Means d q env ms e1 r1) → EnvFits own given e1
+branch_keeps d own given true p q env ms e1 r1 f g h = f h
+branch_keeps d own given false p q env ms e1 r1 f g h = g h
 
-pub meanings_keep_kinds : (d : Domain) (mem : ℕ → List ℕ) (c : Class) (given : List Param) (b : Program) (env : Env) (ms : List Move) (env2 : Env) (r : Outcome) → ProgramFits d c given b → EnvFits c.params given env → Means d mem b env ms env2 r → EnvFits c.params given env2
-meanings_keep_kinds d mem c given Nothing env ms env2 r f h m = subst (EnvFits c.params given) (sym m.1) h
-meanings_keep_kinds d mem c given (EndIn s) env ms env2 r f h m = subst (EnvFits c.params given) (sym m.1) h
-meanings_keep_kinds d mem c given (TerminateIn s) env ms env2 r f h m = subst (EnvFits c.params given) (sym m.1) h
-meanings_keep_kinds d mem c given (SetThen p x rest) env ms env2 r f h m =
-    meanings_keep_kinds d mem c given rest (with_set env p (value_of env x)) m.0 env2 r f.1 (env_set c.params given env p x f.0 h) m.2
-meanings_keep_kinds d mem c given (SendThen t a args rest) env ms env2 r f h m =
-    meanings_keep_kinds d mem c given rest env m.1 env2 r f.1 h m.4
-meanings_keep_kinds d mem c given (SendNoneThen set rest) env ms env2 r f h m =
-    meanings_keep_kinds d mem c given rest env m.0 env2 r f.2 h m.2
-meanings_keep_kinds d mem c given (IfThen t p q rest) env ms env2 r f h m =
-    let first = branch_keeps d mem c.params given (is_true_over mem m.0 t) p q env m.1 m.3 m.4
-    (λ u. meanings_keep_kinds d mem c given p env m.1 m.3 m.4 f.1 h u) (λ u. meanings_keep_kinds d mem c given q env m.1 m.3 m.4 f.2 h u) m.7 in
-    goes_keeps d mem c.params given rest m.4 m.3 m.2 env2 r (λ ns e u. meanings_keep_kinds d mem c given rest m.3 ns env2 r f.3 e u) first m.8
-meanings_keep_kinds d mem c given (WaitThen names rest) env ms env2 r f h m =
-    meanings_keep_kinds d mem c given rest env m.1 env2 r f.1 h m.4
+pub meanings_keep_kinds : (d : Domain) (c : Class) (given : List Param) (b : Program) (env : Env) (ms : List Move) (env2 : Env) (r : Outcome) → ProgramFits d c given b → EnvFits c.params given env → Means d b env ms env2 r → EnvFits c.params given env2
+meanings_keep_kinds d c given Nothing env ms env2 r f h m = subst (EnvFits c.params given) (sym m.1) h
+meanings_keep_kinds d c given (EndIn s) env ms env2 r f h m = subst (EnvFits c.params given) (sym m.1) h
+meanings_keep_kinds d c given (TerminateIn s) env ms env2 r f h m = subst (EnvFits c.params given) (sym m.1) h
+meanings_keep_kinds d c given (SetThen p x rest) env ms env2 r f h m =
+    meanings_keep_kinds d c given rest (with_set env p (value_of env x)) m.0 env2 r f.1 (env_set c.params given env p x f.0 h) m.2
+meanings_keep_kinds d c given (SendThen t a args rest) env ms env2 r f h m =
+    meanings_keep_kinds d c given rest env m.1 env2 r f.1 h m.4
+meanings_keep_kinds d c given (SendNoneThen set rest) env ms env2 r f h m =
+    meanings_keep_kinds d c given rest env m.1 env2 r f.2 h m.4
+meanings_keep_kinds d c given (IfThen t p q rest) env ms env2 r f h m =
+    let first = branch_keeps d c.params given (is_true_over (members_in d m.0.sets) m.0.readings t) p q env m.1 m.3 m.4
+    (λ u. meanings_keep_kinds d c given p env m.1 m.3 m.4 f.1 h u) (λ u. meanings_keep_kinds d c given q env m.1 m.3 m.4 f.2 h u) m.7 in
+    goes_keeps d c.params given rest m.4 m.3 m.2 env2 r (λ ns e u. meanings_keep_kinds d c given rest m.3 ns env2 r f.3 e u) first m.8
+meanings_keep_kinds d c given (WaitThen names rest) env ms env2 r f h m =
+    meanings_keep_kinds d c given rest env m.1 env2 r f.1 h m.4
+meanings_keep_kinds d c given (ChangeThen add o set rest) env ms env2 r f h m =
+    meanings_keep_kinds d c given rest env m.0 env2 r f.1 h m.2
 
 -- values that are filled have the kinds of their parameters
 filled_fit : (params : List Param) (values : List (Option Value)) → AllZip IsFilled params values → ValuesFit (filter_map itself values) params
@@ -110,8 +113,9 @@ request_fits law d own given env a args o sound fits h = go (params_at d o a) (s
     go None p f = absurd f
     go (Some params) p f = arguments_have_kinds law own given params args env h p.fit p.apart f
 
-pub wanted_fit : CompletesWithKinds → (d : Domain) (own given : List Param) (env : Env) (target : Target) (a : ℕ) (args : List Argument) → IsSound d → SendFits d own given a args target → EnvFits own given env → All (PostFits d) (wanted d (members_at d) target a args env)
-wanted_fit law d own given env (ToOne o) a args sound fits h =
+pub wanted_fit : CompletesWithKinds → (d : Domain) (members : ℕ → List ℕ) (own given : List Param) (env : Env) (target : Target) (a : ℕ) (args : List Argument) → IsSound d → AreAllowedMembers d members → SendFits d own given a args target → EnvFits own given env → All (PostFits d) (wanted d members target a args env)
+wanted_fit law d members own given env (ToOne o) a args sound within fits h =
     All-cons (PostFits d) (post_to d a args env o) [] (request_fits law d own given env a args o sound fits.1 h) (All-nil (PostFits d))
-wanted_fit law d own given env (ToMembers set) a args sound fits h =
-    All-map (PostFits d) (post_to d a args env) (members_at d set) (λ k x lt. request_fits law d own given env a args (get_or (members_at d set) k x) sound (fits.1 k x lt) h)
+wanted_fit law d members own given env (ToMembers set) a args sound within fits h =
+    All-map (PostFits d) (post_to d a args env) (members set)
+    (λ k x lt. request_fits law d own given env a args (get_or (members set) k x) sound (All-contains (RequestFits d own given a args) (may_at d set) (get_or (members set) k x) fits.1 (within set k x lt)) h)

@@ -16,3 +16,9 @@ pub mod There
 pub mod Leaving
 pub mod Numbered
 pub mod Tested
+pub mod Within
+pub mod Silence
+pub mod Sparing
+pub mod Quieted
+pub mod Inside
+mod Old

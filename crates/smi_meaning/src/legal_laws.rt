@@ -1,6 +1,6 @@
 //! What holds of parameters and of legal journals, as contracts of functions that do nothing.
 ghost use Rattle.smi_meaning.specs.Example.{ExampleIsLegal};
-ghost use Rattle.smi_meaning.specs.LegalLaws.{ShownIsOne, DoneOnce, ParamsAreOne, ParamsMore, ParamsAreThere, LegalMore, LegalFront, NothingStartsDead, StateIsKnown, LegalFits, NextIsLegal, LegalIsNext, WholeIsDone, DoneIsWhole, ShowsOne, DoneOrShows};
+ghost use Rattle.smi_meaning.specs.LegalLaws.{ShownIsOne, DoneOnce, ParamsAreOne, ParamsMore, ParamsAreThere, LegalMore, LegalFront, NothingStartsDead, StateIsKnown, LegalFits, NextIsLegal, LegalIsNext, WholeIsDone, DoneIsWhole, ShowsOne, DoneOrShows, MembersAreFew, OldMembersStay, WithinIsOne, WithinIsLast, OneIsWithin, WholeIsOut};
 
 /// After a legal journal every object has one list of parameters.
 pub fn laws_of_params()
@@ -18,6 +18,14 @@ pub fn laws_of_legal_journals()
     ensures killed { NothingStartsDead }
     ensures states { StateIsKnown }
     ensures values { LegalFits }
+    ensures members { MembersAreFew }
+{}
+
+/// A journal of the first format is judged as it was before sets could change: its sets keep their declared members.
+/// (That no entry of a change may stand in it, and that nothing is asked of fan-outs, is in `MayFollow` and
+/// `KeepsWhole`.)
+pub fn laws_of_old_journals()
+    ensures { OldMembersStay }
 {}
 
 /// What an action may do next may be added to the journal that shows what it did.
@@ -28,6 +36,14 @@ pub fn laws_of_next_entries()
     ensures is_whole { DoneIsWhole }
     ensures shows { ShowsOne }
     ensures ends { DoneOrShows }
+{}
+
+/// In the second format at most one fan-out has some of its posts in a legal journal and some not, and one request is its next.
+pub fn laws_of_fan_outs()
+    ensures next { WithinIsOne }
+    ensures last { WithinIsLast }
+    ensures one { OneIsWithin }
+    ensures whole { WholeIsOut }
 {}
 
 /// An example, so that nothing of this is empty: supplies are switched on, are killed and fail; a

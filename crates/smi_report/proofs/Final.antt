@@ -1,7 +1,8 @@
 -- What was told, what the mailboxes held and the journal, put together.
-use Rattle.std.proofs.Common.{◌≡◌, ◌<◌, ◌≤◌, ◌+◌, ◌++◌, ◌∷◌, ℕ, zero, suc, List, [], length, map, get_or, Bool, true, false, cond, refl, sym, ap, ◌∙◌, subst}
+use Rattle.std.proofs.Common.{◌≡◌, ◌<◌, ◌≤◌, ◌+◌, ◌++◌, ◌∷◌, ℕ, zero, suc, List, [], length, map, get_or, Bool, true, false, cond, refl, sym, ap, ◌∙◌, subst, arith, inr, ⊎_elim}
 use Rattle.std.specs.Prelude.{Vec}
 use Rattle.std.specs.Global.{Global}
+use Rattle.std.proofs.lemmas.Bool.{cases_lt}
 use Rattle.std.proofs.lemmas.List.{map-append, get_or-map, get_or_past, length-map}
 use Rattle.std.proofs.lemmas.Option.{get_or_from_slice_get, slice_get_within}
 use Rattle.sml_domain.specs.Domain.{Domain}
@@ -13,7 +14,7 @@ use Rattle.smi_entry.specs.Requests.{request_of, from_sender}
 use Rattle.smi_entry.specs.Words.{starts_at}
 use Rattle.smi_ruled.specs.Letters.{letters_from, is_same, requests_in}
 use Rattle.smi_ruled.specs.Mails.{OperatorSide, session_sent}
-use Rattle.smi_ruled.specs.Drains.{Final, final_at, AreAllEnds}
+use Rattle.smi_ruled.specs.Drains.{AreAllEnds, Final, IsNoSession, final_at}
 use Rattle.smi_ruled.proofs.Lists.{from_requests, is_same-true}
 use Rattle.smi_board.specs.Closed.{IsClosed}
 use Rattle.smi_report.specs.declared.told.Accepted.{Accepted}
@@ -88,20 +89,36 @@ module _ (d : Domain) (n : ℕ) (ends : List OperatorSide) (accepted : List (Vec
       ∙ ap (λ l. l ++ requests_in (letters_from s left)) started
       ∙ ap (λ l. from_sender s (starts_at o J) ++ l) (sym (from_requests s left))
 
+  -- of a session that there is not, nothing is started or left
+  of_nobody : (k o : ℕ) → IsNoSession n k → o < length d.objects → from_sender (Operator k) (starts_at o J) ++ left_from f (Operator k) o ≡ []
+  of_nobody k o none lt =
+      sym (split (Operator k) o lt)
+      ∙ ap requests_in (sym (closed.settled (Operator k) o lt) ∙ closed.nobody k o (subst (λ m. IsNoSession m k) (sym told.long) none) lt)
+
+  untold : (k o : ℕ) → n ≤ k → accepted_in all k o ≡ []
+  untold k o le =
+      ap (λ (l : List (List Accepted)). get_or l o [])
+      (get_or_past all k [] (subst (λ (m : ℕ). m ≤ k) (sym (length-map accepted _ ∙ told.wide)) le))
+
+  of_session : (k o : ℕ) → k < n → o < length d.objects
+      → map (told_request (k + 1)) (accepted_in all k o) ≡ from_sender (Operator (k + 1)) (starts_at o J) ++ left_from f (Operator (k + 1)) o
+  of_session k o lt lt' =
+      let t = told.each k lt in
+      let taken = (final_at f o).taken in
+      let left = (final_at f o).left in
+      let own : session_sent t.side o ≡ letters_from (Operator (k + 1)) taken ++ letters_from (Operator (k + 1)) left
+      = sym (closed.sessions k o t.side t.end lt') ∙ closed.settled (Operator t.side.session) o lt'
+      ∙ ap (λ j. letters_from (Operator j) taken ++ letters_from (Operator j) left) t.session in
+      ap (map (told_request (k + 1))) (told_is k o lt ∙ ap (map accepted_of) own) ∙ told_twice (k + 1) taken left
+      ∙ split (Operator (k + 1)) o lt'
+
   final : IsFinalReport d n J all f
   final = record {
-    operators = λ k o lt lt'.
-        let t = told.each k lt in
-        let taken = (final_at f o).taken in
-        let left = (final_at f o).left in
-        let own : session_sent t.side o ≡ letters_from (Operator (k + 1)) taken ++ letters_from (Operator (k + 1)) left
-        = sym (closed.sessions k o t.side t.end lt') ∙ closed.settled (Operator t.side.session) o lt'
-        ∙ ap (λ j. letters_from (Operator j) taken ++ letters_from (Operator j) left) t.session in
-        ap (map (told_request (k + 1))) (told_is k o lt ∙ ap (map accepted_of) own) ∙ told_twice (k + 1) taken left
-        ∙ split (Operator (k + 1)) o lt';
-    untold = λ k o le.
-        ap (λ (l : List (List Accepted)). get_or l o [])
-        (get_or_past all k [] (subst (λ (m : ℕ). m ≤ k) (sym (length-map accepted _ ∙ told.wide)) le));
+    operators = λ k o lt'. ⊎_elim (λ (lt : k < n). of_session k o lt lt')
+        (λ (le : n ≤ k). ap (map (told_request (k + 1))) (untold k o le) ∙ sym (of_nobody (k + 1) o (inr (omega (arith, le))) lt'))
+        (cases_lt k n);
+    untold = untold;
+    nobody = of_nobody;
     settled = λ s o lt. ap requests_in (closed.settled s o lt) ∙ split s o lt;
     objects_sent = λ a o lt lt'.
         closed.posts a o lt lt' ∙ ap requests_in (closed.settled (Object a) o lt') ∙ split (Object a) o lt';

@@ -4,7 +4,7 @@ use Rattle.std.specs.List.{filter}
 use Rattle.smi_entry.specs.declared.entry.Cause.{Cause}
 use Rattle.smi_entry.specs.declared.entry.Cause.TheVariants.{By, Fault}
 use Rattle.smi_entry.specs.declared.entry.Entry.{Entry}
-use Rattle.smi_entry.specs.declared.entry.Entry.TheVariants.{Start, Post, Wait, Seen, End, Kill}
+use Rattle.smi_entry.specs.declared.entry.Entry.TheVariants.{Start, Post, Wait, Seen, End, Kill, Insert, Remove, NoMember}
 use Rattle.smi_report.specs.declared.told.Receipt.{Receipt}
 
 -- whether a kill has the cause that a receipt tells: the session itself, where the receipt says that it is its own
@@ -21,6 +21,9 @@ is_kill_told r (Some (Wait o)) = false
 is_kill_told r (Some (Seen o rs)) = false
 is_kill_told r (Some (End o e)) = false
 is_kill_told r (Some (Kill o c)) = (o == r.object) && is_by r c
+is_kill_told r (Some (Insert o member set)) = false
+is_kill_told r (Some (Remove o member set)) = false
+is_kill_told r (Some (NoMember o set)) = false
 
 -- whether a receipt is met: the entry at its place is the kill that it tells
 abbrev pub is_met : List Entry → Receipt → Bool

@@ -1,6 +1,7 @@
 //! What a run gave.
 ghost use Rattle.std.specs.Prelude.{◌≡◌, ◌<◌, ◌-◌, length};
 ghost use Rattle.smi_entry.specs.Words as says;
+ghost use Rattle.smi_entry.specs.declared.journal.Format.TheVariants.{Two};
 ghost use Rattle.smi_meaning.specs.Legal.{IsLegal};
 ghost use Rattle.smi_ruled.specs.Drains.{final_at};
 ghost use Rattle.smi_report.specs.Told.{accepted_in};
@@ -73,7 +74,7 @@ impl<D: Drop, K: MailNames> Report<D, K> {
     /// The journal.
     pub fn journal(&self) -> &[Entry]
         ensures is { result.now ≡ self.now.journal }
-        ensures legal { IsLegal K.names.domain self.now.journal }
+        ensures legal { IsLegal Two K.names.domain self.now.journal }
     {
         self.ledger.journal()
     }
@@ -171,7 +172,7 @@ impl<D: Drop, K: MailNames> Report<D, K> {
     /// The journal, as [`journal`](Report::journal) shows it. All else is given up.
     pub fn into_journal(self) -> Journal
         ensures is { result.entries ≡ self.journal }
-        ensures legal { IsLegal K.names.domain result.entries }
+        ensures legal { IsLegal Two K.names.domain result.entries }
     {
         let Report {
             ledger,

@@ -1,8 +1,8 @@
 -- Mailboxes as they are closed.
-use Rattle.std.proofs.Common.{◌≡◌, ◌<◌, ◌+◌, ◌++◌, ℕ, zero, suc, List, [], ◌∷◌, length, map, get_or, Some, refl, sym, ap, ◌∙◌, subst, arith, append_assoc}
+use Rattle.std.proofs.Common.{◌≡◌, ◌<◌, ◌+◌, ◌++◌, ℕ, zero, suc, List, [], ◌∷◌, length, map, get_or, Some, refl, sym, ap, ◌∙◌, subst, arith, append_assoc, ⊎_elim}
 use Rattle.std.specs.Prelude.{slice_get, slice_index_or}
 use Rattle.std.specs.List.{All}
-use Rattle.std.proofs.lemmas.List.{length-map, map-append}
+use Rattle.std.proofs.lemmas.List.{get_or_past, length-map, map-append}
 use Rattle.std.proofs.lemmas.Option.{slice_get_within, slice_get-get_or, get_or_from_slice_get}
 use Rattle.atomic_table.specs.Seated.{TableId}
 use Rattle.smi_entry.specs.declared.entry.Sender.{Sender}
@@ -90,6 +90,9 @@ module _ (d : Domain) (n s : ℕ) (mailboxes : List TableId) (old : List BoardSi
           taken = ap (λ (y : Final). y.taken) at ∙ is.taken ∙ sym (ap (λ (y : Letters). y.taken) before);
           objects = λ a. sent (Object a) ∙ ap (letters_from (Object a)) is.sent ∙ sym (ap (λ (y : Letters). letters_from (Object a) y.sent) before);
           operators = λ k e there'. let place : e.session ≡ suc k = omega (arith, order k e there') in sent (Operator e.session) ∙ ap (λ l. slice_index_or l e.session []) (is.known ∙ ap (λ l. l ++ map f ends) run.known) ∙ ap (λ j. slice_index_or ([] ∷ map f ends) j []) place ∙ get_or_from_slice_get (map f ends) k (f e) [] (map_at f ends k e there');
+          nobody = λ k none. sent (Operator k) ∙ ap (λ l. slice_index_or l k []) (is.known ∙ ap (λ l. l ++ map f ends) run.known)
+              ∙ ⊎_elim (λ (zeroth : k ≡ 0). ap (λ j. slice_index_or ([] ∷ map f ends) j []) zeroth)
+              (λ (past : length ends < k). get_or_past ([] ∷ map f ends) k [] (omega (arith, past, length-map ends f))) none;
           settled = λ q. sent q ∙ is.settled q ∙ ap (λ (y : Final). letters_from q y.taken ++ letters_from q y.left) (sym at);
         }
       where

@@ -6,7 +6,7 @@ use Rattle.std.proofs.lemmas.Bool.{cases_eq}
 use Rattle.std.proofs.lemmas.Option.{slice_get_within, slice_get-get_or, get_or_from_slice_get}
 use Rattle.smi_ruled.specs.Mails.{AreFresh, Letters, OperatorSide}
 use Rattle.smi_ruled.proofs.Closing.{there}
-use Rattle.smi_ruled.specs.Drains.{AreAllEnds, AreInOrder, Final, HasEnd, HasSessionFrom, IsFinal}
+use Rattle.smi_ruled.specs.Drains.{AreAllEnds, AreInOrder, Final, HasEnd, HasSessionFrom, IsFinal, IsNoSession}
 
 pub at_or_behind : (p i : ℕ) → p ≤ i → (i ≡ p) ⊎ (p + 1 ≤ i)
 at_or_behind zero zero h = inl refl
@@ -83,11 +83,12 @@ pub ends_ordered : (given now : List OperatorSide) (place : ℕ) → IsOrdered g
 ends_ordered given now place h le k e at = let lt = slice_get_within now k e at in h.front k e (omega (arith, lt, h.long, le)) at
 
 -- what closed mailboxes say of ends that were put in order, they say of the ends as they were handed in
-pub final_given : (m : List Letters) (given now : List OperatorSide) (d : List Final) (o : ℕ) → ((i : ℕ) (e : OperatorSide) → slice_get given i ≡ Some e → HasEnd e now) → IsFinal m now d o → IsFinal m given d o
-final_given m given now d o kept h = record {
+pub final_given : (m : List Letters) (given now : List OperatorSide) (d : List Final) (o : ℕ) → length given ≡ length now → ((i : ℕ) (e : OperatorSide) → slice_get given i ≡ Some e → HasEnd e now) → IsFinal m now d o → IsFinal m given d o
+final_given m given now d o long kept h = record {
   taken = h.taken;
   objects = h.objects;
   operators = λ i e at. let k = kept i e at in h.operators k.0 e k.1;
+  nobody = λ k none. h.nobody k (subst (λ n. IsNoSession n k) long none);
   settled = h.settled;
 }
 

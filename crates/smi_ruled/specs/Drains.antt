@@ -1,5 +1,5 @@
 -- What closed mailboxes show.
-use Rattle.std.specs.Prelude.{◌≡◌, ◌<◌, ◌≤◌, ◌++◌, ◌+◌, ℕ, List, [], length, map, slice_get, slice_index_or, Some, Vec, vec_capacity}
+use Rattle.std.specs.Prelude.{◌≡◌, ◌<◌, ◌≤◌, ◌++◌, ◌+◌, ◌⊎◌, ℕ, List, [], length, map, slice_get, slice_index_or, Some, Vec, vec_capacity}
 use Rattle.std.specs.Global.{Global}
 use Rattle.smi_entry.specs.declared.entry.Sender.{Sender}
 use Rattle.smi_entry.specs.declared.entry.Sender.TheVariants.{Operator, Object}
@@ -66,13 +66,18 @@ pub record AreAllEnds (n : ℕ) (ends : List OperatorSide) : Type 0 where
   pub count : length ends ≡ n
   pub each : (k : ℕ) → k < n → HasSession (k + 1) ends
 
+-- of `n` sessions, which are numbered from 1, none has this number
+abbrev pub IsNoSession : ℕ → ℕ → Type 0
+IsNoSession n k = (k ≡ 0) ⊎ (n < k)
+
 -- What closed mailboxes say of one object: what was taken of it and what objects sent to it, as the mail knew them;
--- what each session sent to it, as its end knew it; and for each sender, what it sent is what was taken of it,
--- followed by what is left of it.
+-- what each session sent to it, as its end knew it, and a session that there is not nothing; and for each sender, what
+-- it sent is what was taken of it, followed by what is left of it.
 pub record IsFinal (m : List Letters) (ends : List OperatorSide) (d : List Final) (o : ℕ) : Type 0 where
   pub taken : (final_at d o).taken ≡ letters_taken m o
   pub objects : (a : ℕ) → final_sent d (Object a) o ≡ letters_sent m (Object a) o
   pub operators : (k : ℕ) (e : OperatorSide) → slice_get ends k ≡ Some e →
       final_sent d (Operator e.session) o ≡ session_sent e o
+  pub nobody : (k : ℕ) → IsNoSession (length ends) k → final_sent d (Operator k) o ≡ []
   pub settled : (s : Sender) →
       final_sent d s o ≡ letters_from s (final_at d o).taken ++ letters_from s (final_at d o).left

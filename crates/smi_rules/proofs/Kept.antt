@@ -14,13 +14,17 @@ use Rattle.smi_entry.specs.declared.entry.Sender.TheVariants.{Operator, Object}
 use Rattle.smi_entry.specs.declared.entry.ActionEnd.{ActionEnd}
 use Rattle.smi_entry.specs.declared.entry.ActionEnd.TheVariants.{State, Skipped}
 use Rattle.smi_entry.specs.declared.entry.Entry.{Entry}
-use Rattle.smi_entry.specs.declared.entry.Entry.TheVariants.{Start, Post, Wait, Seen, End, Kill}
+use Rattle.smi_entry.specs.declared.entry.Entry.TheVariants.{Start, Post, Wait, Seen, End, Kill, Insert, Remove, NoMember}
 use Rattle.smi_entry.specs.declared.letter.Letter.{Letter}
+use Rattle.smi_entry.specs.declared.journal.Format.{Format}
+use Rattle.smi_entry.specs.declared.journal.Format.TheVariants.{One, Two}
 use Rattle.smi_entry.specs.Requests.{Request}
 use Rattle.smi_entry.specs.Words.{Item, open_at, is_open, state_of}
-use Rattle.smi_meaning.specs.Params.{Running, running_at, run_with}
-use Rattle.smi_meaning.specs.Legal.{WasSent, ShowsNext, is_clear_for, IsRead, SkippedAt, DeviceEnds, BlockEnds, MayEnd, IsLegalAt}
-use Rattle.smi_rules.specs.Rules.{rules_of, IsPosted, IsRequest, IsStateNow, EndMeans, EndsInState, KeepsAll}
+use Rattle.smi_meaning.specs.Params.{Running, running_in, running_at, run_with}
+use Rattle.smi_meaning.specs.Quiet.{said_in}
+use Rattle.smi_meaning.proofs.Picked.{in_two}
+use Rattle.smi_meaning.specs.Legal.{WasSent, ShowsNext, is_clear_for, IsRead, SkippedAt, DeviceEnds, BlockEnds, MayEnd, MayFollow, IsLegalAt}
+use Rattle.smi_rules.specs.Rules.{own_rules, rules_of, IsPosted, IsRequest, IsStateNow, EndMeans, EndsInState, KeepsAll}
 
 -- ---- what runs is open
 
@@ -29,12 +33,12 @@ some_of None f run h = absurd (cc)
 some_of (Some l) f run h = refl
 
 -- where something runs at an object an action is open
-pub runs_open : (d : Domain) (J : List Entry) (o : ℕ) (run : Running) → running_at d o J ≡ Some run → is_open o J ≡ true
-runs_open d J o run h = some_of (open_at o J) _ run h
+pub runs_open : (format : Format) (d : Domain) (J : List Entry) (o : ℕ) (run : Running) → running_at format d o J ≡ Some run → is_open o J ≡ true
+runs_open format d J o run h = some_of (open_at o J) _ run h
 
 -- where something may be shown next an action is open
-pub shows_open : (d : Domain) (J : List Entry) (o : ℕ) (item : Item) → ShowsNext d J o item → is_open o J ≡ true
-shows_open d J o item h = runs_open d J o h.run h.runs
+pub shows_open : (format : Format) (d : Domain) (J : List Entry) (o : ℕ) (item : Item) → ShowsNext format d J o item → is_open o J ≡ true
+shows_open format d J o item h = runs_open format d J o h.run h.runs
 
 -- ---- starts
 
@@ -67,76 +71,92 @@ clear_out d J o (r ∷ rs) h g =
 
 -- ---- ends
 
-none_runs : (d : Domain) (J : List Entry) (o : ℕ) → SkippedAt d J o → running_at d o J ≡ None
-none_runs d J o h =
-    ap (option_and_then (λ (l : Letter). option_map (run_with l.args) (program_at d o (state_of d o J) l.action))) h.is_open
-    ∙ ap (option_map (run_with h.letter.args)) h.undeclared
+none_runs : (format : Format) (d : Domain) (J : List Entry) (o : ℕ) → SkippedAt d J o → running_at format d o J ≡ None
+none_runs format d J o h =
+    ap (option_and_then (running_in format d o J)) h.is_open
+    ∙ ap (λ p. option_map (run_with h.letter.args) (option_map (said_in format d) p)) h.undeclared
 
-no_program : (p : Option Program) (args : _) → option_map (run_with args) p ≡ None → p ≡ None
-no_program None args h = refl
-no_program (Some p) args h = absurd (cc)
+no_program : (said : Program → Program) (p : Option Program) (args : _) → option_map (run_with args) (option_map said p) ≡ None → p ≡ None
+no_program said None args h = refl
+no_program said (Some p) args h = absurd (cc)
 
-skipped_of : (d : Domain) (J : List Entry) (o : ℕ) (opened : Option Letter) → open_at o J ≡ opened → is_some opened ≡ true
-    → option_and_then (λ (l : Letter). option_map (run_with l.args) (program_at d o (state_of d o J) l.action)) opened ≡ None → SkippedAt d J o
-skipped_of d J o None e h g = absurd (cc)
-skipped_of d J o (Some l) e h g = record { letter = l; is_open = e; undeclared = no_program _ l.args g }
+skipped_of : (format : Format) (d : Domain) (J : List Entry) (o : ℕ) (opened : Option Letter) → open_at o J ≡ opened → is_some opened ≡ true
+    → option_and_then (running_in format d o J) opened ≡ None → SkippedAt d J o
+skipped_of format d J o None e h g = absurd (cc)
+skipped_of format d J o (Some l) e h g = record { letter = l; is_open = e; undeclared = no_program (said_in format d) (program_at d o (state_of d o J) l.action) l.args g }
 
 is_there : (r : Option Running) → is_some r ≡ true → (run : Running) × (r ≡ Some run)
 is_there None h = absurd (cc)
 is_there (Some run) h = (run, refl)
 
-ends_in : (d : Domain) (J : List Entry) (o s : ℕ) (t : Bool) → MatchBool t (DeviceEnds d J o s) (BlockEnds d J o s)
-    → (is_open o J ≡ true) × MatchBool t (is_some (running_at d o J) ≡ true) (BlockEnds d J o s) × MatchBool t (is_state_of d o s ≡ true) (Unit {0})
-ends_in d J o s true h =
-    let q = is_there (running_at d o J) h.runs in
-    (runs_open d J o q.0 q.1, h.runs, h.state)
-ends_in d J o s false h = (runs_open d J o h.done.run h.done.runs, h, tt)
+ends_in : (format : Format) (d : Domain) (J : List Entry) (o s : ℕ) (t : Bool) → MatchBool t (DeviceEnds format d J o s) (BlockEnds format d J o s)
+    → (is_open o J ≡ true) × MatchBool t (is_some (running_at format d o J) ≡ true) (BlockEnds format d J o s) × MatchBool t (is_state_of d o s ≡ true) (Unit {0})
+ends_in format d J o s true h =
+    let q = is_there (running_at format d o J) h.runs in
+    (runs_open format d J o q.0 q.1, h.runs, h.state)
+ends_in format d J o s false h = (runs_open format d J o h.done.run h.done.runs, h, tt)
 
-ends_out : (d : Domain) (J : List Entry) (o s : ℕ) (t : Bool) → MatchBool t (is_some (running_at d o J) ≡ true) (BlockEnds d J o s)
-    → MatchBool t (is_state_of d o s ≡ true) (Unit {0}) → MatchBool t (DeviceEnds d J o s) (BlockEnds d J o s)
-ends_out d J o s true h g = record { runs = h; state = g }
-ends_out d J o s false h g = h
+ends_out : (format : Format) (d : Domain) (J : List Entry) (o s : ℕ) (t : Bool) → MatchBool t (is_some (running_at format d o J) ≡ true) (BlockEnds format d J o s)
+    → MatchBool t (is_state_of d o s ≡ true) (Unit {0}) → MatchBool t (DeviceEnds format d J o s) (BlockEnds format d J o s)
+ends_out format d J o s true h g = record { runs = h; state = g }
+ends_out format d J o s false h g = h
 
-end_in : (d : Domain) (J : List Entry) (o : ℕ) (r : ActionEnd) → MayEnd d J o r → (is_open o J ≡ true) × EndMeans d J o r × EndsInState d o r
-end_in d J o Skipped h = (ap is_some h.is_open, none_runs d J o h, tt)
-end_in d J o (State s) h = ends_in d J o s (associated_at d o) h
+end_in : (format : Format) (d : Domain) (J : List Entry) (o : ℕ) (r : ActionEnd) → MayEnd format d J o r → (is_open o J ≡ true) × EndMeans format d J o r × EndsInState d o r
+end_in format d J o Skipped h = (ap is_some h.is_open, none_runs format d J o h, tt)
+end_in format d J o (State s) h = ends_in format d J o s (associated_at d o) h
 
-end_out : (d : Domain) (J : List Entry) (o : ℕ) (r : ActionEnd) → is_open o J ≡ true → EndMeans d J o r → EndsInState d o r → MayEnd d J o r
-end_out d J o Skipped h g k = skipped_of d J o (open_at o J) refl h g
-end_out d J o (State s) h g k = ends_out d J o s (associated_at d o) g k
+end_out : (format : Format) (d : Domain) (J : List Entry) (o : ℕ) (r : ActionEnd) → is_open o J ≡ true → EndMeans format d J o r → EndsInState d o r → MayEnd format d J o r
+end_out format d J o Skipped h g k = skipped_of format d J o (open_at o J) refl h g
+end_out format d J o (State s) h g k = ends_out format d J o s (associated_at d o) g k
 
 -- ---- entries
 
--- an entry that may follow keeps its rules
-pub keeps_in : (d : Domain) (J : List Entry) (e : Entry) → IsLegalAt d J e → KeepsAll d J e (rules_of e)
-keeps_in d J (Start o s n a args) h =
+-- an entry that may follow keeps the rules of its kind
+own_in : (format : Format) (d : Domain) (J : List Entry) (e : Entry) → MayFollow format d J e → KeepsAll format d J e (own_rules e)
+own_in format d J (Start o s n a args) h =
     let q = sent_in d J o n (record { sender = s; action = a; args = args }) s h.sent in
     (h.alive, (h.closed, (h.number, (q.0, (q.1, tt)))))
-keeps_in d J (Post o t (Accepted n) a args) h = (shows_open d J o _ h.0, (h.0, (h.1.0, (h.1.1, tt))))
-keeps_in d J (Post o t Full a args) h = (shows_open d J o _ h.0, (h.0, (h.1, (tt, tt))))
-keeps_in d J (Post o t Dead a args) h = (shows_open d J o _ h.0, (h.0, (h.1, (tt, tt))))
-keeps_in d J (Wait o) h = (shows_open d J o _ h.1, ((h.0, h.1), (h, tt)))
-keeps_in d J (Seen o rs) h =
+own_in format d J (Post o t (Accepted n) a args) h = (shows_open format d J o _ h.0, (h.0, (h.1.0, (h.1.1, tt))))
+own_in format d J (Post o t Full a args) h = (shows_open format d J o _ h.0, (h.0, (h.1, (tt, tt))))
+own_in format d J (Post o t Dead a args) h = (shows_open format d J o _ h.0, (h.0, (h.1, (tt, tt))))
+own_in format d J (Wait o) h = (shows_open format d J o _ h.1, ((h.0, h.1), (h, tt)))
+own_in format d J (Seen o rs) h =
     let q = clear_in d J o rs h.1 in
-    (shows_open d J o _ h.0, (h.0, (q.0, (q.1, tt))))
-keeps_in d J (End o r) h =
-    let q = end_in d J o r h in
+    (shows_open format d J o _ h.0, (h.0, (q.0, (q.1, tt))))
+own_in format d J (End o r) h =
+    let q = end_in format d J o r h in
     (q.0, (q.1, (q.2, tt)))
-keeps_in d J (Kill o c) h = (h.0, (h.1, tt))
+own_in format d J (Kill o c) h = (h.0, (h.1, tt))
+own_in format d J (Insert o m set) h = (shows_open format d J o _ (in_two format _ h), (h, tt))
+own_in format d J (Remove o m set) h = (shows_open format d J o _ (in_two format _ h), (h, tt))
+own_in format d J (NoMember o set) h = (shows_open format d J o _ (in_two format _ h), (h, tt))
 
--- and one that keeps its rules may follow
-pub keeps_out : (d : Domain) (J : List Entry) (e : Entry) → KeepsAll d J e (rules_of e) → IsLegalAt d J e
-keeps_out d J (Start o s n a args) h =
+-- and one that keeps them may follow
+pub own_out : (format : Format) (d : Domain) (J : List Entry) (e : Entry) → KeepsAll format d J e (own_rules e) → MayFollow format d J e
+own_out format d J (Start o s n a args) h =
     record {
       alive = h.0;
       closed = h.1.0;
       number = h.1.1.0;
       sent = sent_out d J o n (record { sender = s; action = a; args = args }) s h.1.1.1.0 h.1.1.1.1.0;
     }
-keeps_out d J (Post o t (Accepted n) a args) h = (h.1.0, (h.1.1.0, h.1.1.1.0))
-keeps_out d J (Post o t Full a args) h = (h.1.0, h.1.1.0)
-keeps_out d J (Post o t Dead a args) h = (h.1.0, h.1.1.0)
-keeps_out d J (Wait o) h = h.1.1.0
-keeps_out d J (Seen o rs) h = (h.1.0, clear_out d J o rs h.1.1.0 h.1.1.1.0)
-keeps_out d J (End o r) h = end_out d J o r h.0 h.1.0 h.1.1.0
-keeps_out d J (Kill o c) h = (h.0, h.1.0)
+own_out format d J (Post o t (Accepted n) a args) h = (h.1.0, (h.1.1.0, h.1.1.1.0))
+own_out format d J (Post o t Full a args) h = (h.1.0, h.1.1.0)
+own_out format d J (Post o t Dead a args) h = (h.1.0, h.1.1.0)
+own_out format d J (Wait o) h = h.1.1.0
+own_out format d J (Seen o rs) h = (h.1.0, clear_out d J o rs h.1.1.0 h.1.1.1.0)
+own_out format d J (End o r) h = end_out format d J o r h.0 h.1.0 h.1.1.0
+own_out format d J (Kill o c) h = (h.0, h.1.0)
+own_out format d J (Insert o m set) h = h.1.0
+own_out format d J (Remove o m set) h = h.1.0
+own_out format d J (NoMember o set) h = h.1.0
+
+-- an entry that may follow keeps its rules
+pub keeps_in : (format : Format) (d : Domain) (J : List Entry) (e : Entry) → IsLegalAt format d J e → KeepsAll format d J e (rules_of format e)
+keeps_in One d J e h = own_in One d J e h.1
+keeps_in Two d J e h = (h.0, own_in Two d J e h.1)
+
+-- and one that keeps its rules may follow
+pub keeps_out : (format : Format) (d : Domain) (J : List Entry) (e : Entry) → KeepsAll format d J e (rules_of format e) → IsLegalAt format d J e
+keeps_out One d J e h = (tt, own_out One d J e h)
+keeps_out Two d J e h = (h.0, own_out Two d J e h.1)

@@ -1,6 +1,7 @@
 //! What a run came to, and how it is told.
 ghost use Rattle.std.specs.Prelude.{◌≡◌, ◌≢◌, [], IfErr, OnErr, OnOk};
 ghost use Rattle.sml_text.specs.Written.{Wrote, WroteFront};
+ghost use Rattle.smi_entry.specs.declared.journal.Format.TheVariants.{Two};
 ghost use Rattle.smi_journal.specs.JournalText.{journal_text};
 ghost use Rattle.smi_run_command.specs.Outcomes.{IsFaultOf};
 
@@ -131,9 +132,9 @@ pub fn write_kept_journal<W: Sink>(
     writer: &mut W,
 ) -> Result<(), WriteFault>
     ensures ok { OnOk result (Wrote (W.contents writer.old) (W.contents writer.new)
-        (journal_text domain.now journal.now.entries)) }
+        (journal_text Two domain.now journal.now.entries)) }
     ensures err { OnErr result (WroteFront (W.contents writer.old) (W.contents writer.new)
-        (journal_text domain.now journal.now.entries)) }
+        (journal_text Two domain.now journal.now.entries)) }
     ensures refused { OnErr result (W.has_refused writer.new) }
 {
     write_journal(domain, journal.entries(), writer)

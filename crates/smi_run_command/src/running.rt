@@ -2,6 +2,7 @@
 ghost use Rattle.std.specs.Prelude.{◌≡◌, IfErr, IfOk, length, true};
 ghost use Rattle.std.specs.Arc.{arc_value};
 ghost use Rattle.smi_entry.specs.Words.{all_starts};
+ghost use Rattle.smi_entry.specs.declared.journal.Format.TheVariants.{Two};
 ghost use Rattle.smi_meaning.specs.Legal.{IsLegal};
 ghost use Rattle.smi_report.specs.Receipts.{unmet_among};
 ghost use Rattle.smi_report.specs.Reports.{IsFinalReport, device_count};
@@ -110,7 +111,7 @@ fn outcome_of<D: Drop, K: MailNames>(
 ) -> Result<Outcome, AllocError>
     ensures end { IfOk result (λ o. o.end ≡ end) }
     ensures journal { IfOk result (λ o. o.journal.entries ≡ report.journal) }
-    ensures legal { IfOk result (λ o. IsLegal K.names.domain o.journal.entries) }
+    ensures legal { IfOk result (λ o. IsLegal Two K.names.domain o.journal.entries) }
     ensures unmet { IfOk result (λ o. o.unmet.items ≡ unmet_among report.journal report.unmet) }
     ensures text { IfOk result (λ o. o.summary.items ≡ summary_text K.names.domain report end refused.now) }
     ensures report { IfOk result (λ _. IsFinalReport K.names.domain K.names.sessions report.journal report.accepted
@@ -189,7 +190,7 @@ fn run_over<K: MailNames + Send + Sync, R: Threads + Wait + Copy + Send + Sync, 
     requires capacity { boxes.capacity ≡ numbers.capacity }
     requires sessions { boxes.sessions ≡ length plan.scripts.items }
     requires within { AreMailNumbers numbers.capacity (length plan.scripts.items) }
-    ensures legal { IfOk result (λ o. IsLegal (arc_value domain.now) o.journal.entries) }
+    ensures legal { IfOk result (λ o. IsLegal Two (arc_value domain.now) o.journal.entries) }
     ensures rest { IfOk result (λ o. EndsAtRest (arc_value domain.now) o.end o.journal.entries) }
     ensures limit { IfOk result (λ o. o.end ≡ Limit → length (all_starts o.journal.entries) ≡ numbers.max_starts) }
     ensures summed { IfOk result (IsSummed (arc_value domain.now) (length plan.scripts.items)) }
@@ -222,7 +223,7 @@ pub fn run_plan<R: Threads + Wait + Copy + Send + Sync + Drop, W: Watch>(
     numbers: RunNumbers,
     watcher: &mut W,
 ) -> Result<Outcome, RunError>
-    ensures legal { IfOk result (λ o. IsLegal (arc_value domain.now) o.journal.entries) }
+    ensures legal { IfOk result (λ o. IsLegal Two (arc_value domain.now) o.journal.entries) }
     ensures rest { IfOk result (λ o. EndsAtRest (arc_value domain.now) o.end o.journal.entries) }
     ensures limit { IfOk result (λ o. o.end ≡ Limit → length (all_starts o.journal.entries) ≡ numbers.max_starts) }
     ensures summed { IfOk result (IsSummed (arc_value domain.now) (length plan.scripts.items)) }

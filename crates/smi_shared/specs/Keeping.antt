@@ -6,6 +6,7 @@ use Rattle.smi_entry.specs.declared.entry.Cause.TheVariants.{Fault}
 use Rattle.smi_entry.specs.declared.entry.Entry.{Entry}
 use Rattle.smi_entry.specs.declared.entry.Entry.TheVariants.{End, Kill}
 use Rattle.smi_entry.specs.declared.entry.Sender.TheVariants.{Object}
+use Rattle.smi_entry.specs.declared.journal.Format.TheVariants.{Two}
 use Rattle.smi_entry.specs.Words.{posts_between, starts_at}
 use Rattle.smi_meaning.specs.Legal.{IsLegal}
 use Rattle.smi_ruled.specs.Mails.{Letters, requests_taken, requests_sent}
@@ -18,7 +19,7 @@ use Rattle.smi_shared.specs.declared.device.DeviceFault.{DeviceFault}
 -- are what its objects sent
 pub record IsSharedBoard (d : Domain) (b : BoardView (List Letters)) : Type 0 where
   pub domain : b.domain ≡ d
-  pub legal : IsLegal d b.journal
+  pub legal : IsLegal Two d b.journal
   pub starts : (o : ℕ) → starts_at o b.journal ≡ requests_taken b.mail o
   pub posts : (a o : ℕ) → a < length d.objects → posts_between a o b.journal ≡ requests_sent b.mail (Object a) o
 

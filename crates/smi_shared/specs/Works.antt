@@ -1,7 +1,7 @@
 -- What a worker is given under the lock, by what the board does.
 use Rattle.std.specs.Prelude.{◌≡◌, ◌⊎◌, ℕ, Bool, true, false, [], List, Option, Some, None, IsSomeAnd, slice_set}
 use Rattle.smi_entry.specs.Words.{is_killed}
-use Rattle.smi_interp.specs.Task.{TaskView, awaited}
+use Rattle.smi_interp.specs.Task.{TaskView}
 use Rattle.smi_ruled.specs.Mails.{Letters, requests_taken, requests_sent}
 use Rattle.smi_board.specs.declared.contacts.Reply.{Reply}
 use Rattle.smi_board.specs.declared.contacts.Reply.TheVariants as reply
@@ -82,7 +82,7 @@ shared_lists capacity b = record {
 -- the board answers this to a task's contact
 abbrev pub RepliesOnBoard : ℕ → TaskView → SharedBoard → SharedBoard → Reply → Type 0
 RepliesOnBoard capacity t b b2 r =
-    Replies t (awaited t) b (shared_lists capacity b) b2 (shared_lists capacity b2) r
+    Replies t t.pending b (shared_lists capacity b) b2 (shared_lists capacity b2) r
 
 -- a task has a place on the board: its object is not killed, and it is out
 pub record HasPlace (t : TaskView) (b : SharedBoard) : Type 0 where
@@ -111,6 +111,7 @@ pub record IsLetGo (t : TaskView) (b b2 : SharedBoard) : Type 0 where
 abbrev pub GivesBack : ℕ → TaskView → SharedBoard → SharedBoard → Job → Type 0
 GivesBack capacity t b b2 (Move t2) = RepliesOnBoard capacity t b b2 (reply.Posted t2)
     ⊎ RepliesOnBoard capacity t b b2 (reply.Seen t2)
+    ⊎ RepliesOnBoard capacity t b b2 (reply.Changed t2)
     ⊎ ((t.pending ≡ None) × (t2 ≡ t) × (b2 ≡ b))
 GivesBack capacity t b b2 (Perform o s) = ⊥
 GivesBack capacity t b b2 Again = RepliesOnBoard capacity t b b2 reply.Waiting

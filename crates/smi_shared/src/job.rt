@@ -33,8 +33,8 @@ fn make_move(task: &mut Task) -> bool
     }
 }
 
-/// Makes the moves of a task up to one that asks the board for something. A `set` is made here, and no lock is held.
-/// Tells whether there was memory.
+/// Makes the moves of a task up to one that asks the board for something. A `set` is made here and the branch of an `if`
+/// is picked, and no lock is held. Tells whether there was memory.
 pub fn make_moves<R: Wait>(rt: &R, task: &mut Task) -> bool
     ensures domain { task.new.domain ≡ task.old.domain }
     ensures object { task.new.turn.object ≡ task.old.turn.object }

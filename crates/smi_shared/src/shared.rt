@@ -219,6 +219,7 @@ impl<R: Wait + Copy + Send, K: MailNames> Shared<R, K> {
         match self.board.contact(task) {
             Ok(Reply::Posted(task)) => Job::Move(task),
             Ok(Reply::Seen(task)) => Job::Move(task),
+            Ok(Reply::Changed(task)) => Job::Move(task),
             Ok(_) => Job::Again,
             Err((ContactError::Memory, task)) => self.put_back(task),
             Err(_) => Job::Again,

@@ -4,11 +4,14 @@ use smi_advice::history::History;
 use smi_audit::past::{Past, PastError};
 use smi_core::Core;
 use smi_follower::follower::Expected;
+use smi_interp::expanding::objects_of;
 use smi_journal::call_text::{tell_object, tell_value};
 use smi_journal::journal_text::write_journal;
 use smi_journal::read::read_journal;
 use sml_domain::domain::Domain;
-use sml_domain::ids::ObjId;
+use sml_domain::ids::{ObjId, SetId};
+use sml_domain::instr::Asked;
+use sml_domain::rows::Group;
 use sml_text::decimal::tell_u64;
 use sml_text::writing::{Sink, tell};
 use sml_tree::name::Name;
@@ -21,11 +24,11 @@ fn past_of(alloc: Global, domain: &Arc<Domain>, core: &Core) -> Result<Past, All
     if write_journal(core.domain(), core.journal(), &mut text).is_err() {
         return Err(AllocError);
     }
-    let Ok(journal) = read_journal(alloc, domain, text.as_slice()) else {
+    let Ok((format, journal)) = read_journal(alloc, domain, text.as_slice()) else {
         return Err(AllocError);
     };
     let shared = Arc::try_clone(domain)?;
-    match Past::of(alloc, shared, journal.entries()) {
+    match Past::of(alloc, format, shared, journal.entries()) {
         Ok(past) => Ok(past),
         Err(PastError::Illegal { .. } | PastError::Memory) => Err(AllocError),
     }
@@ -74,19 +77,45 @@ fn tell_params<W: Sink>(writer: &mut W, failed: &mut bool, core: &Core) {
     }
 }
 
-// The objects for which the open action of an object waits.
-fn tell_busy<W: Sink>(writer: &mut W, failed: &mut bool, past: &Past, o: ObjId, objects: &[ObjId]) {
+// Whether names stand for an object now.
+fn are_for(past: &Past, names: &[Asked], o: ObjId) -> bool {
+    let ledger = past.ledger();
+    names.iter().any(|name| objects_of(ledger.domain(), ledger.sets(), name).contains(&o))
+}
+
+// Those of the objects for which a name stands that are not clear for an object, and for which no earlier name stands.
+// The word stands before the first of all.
+fn tell_busy_of<W: Sink>(
+    writer: &mut W,
+    failed: &mut bool,
+    past: &Past,
+    o: ObjId,
+    before: &[Asked],
+    name: &Asked,
+    is_first: bool,
+) -> bool {
     let ledger = past.ledger();
     let domain = ledger.domain();
-    let mut is_first = true;
-    for busy in objects {
-        if domain.has(o) && domain.has(*busy) && !ledger.is_clear(o, *busy) {
+    let mut is_first = is_first;
+    for busy in objects_of(domain, ledger.sets(), name) {
+        let is_busy = domain.has(o) && domain.has(*busy) && !ledger.is_clear(o, *busy);
+        if is_busy && !are_for(past, before, *busy) {
             if is_first {
                 tell(writer, failed, b" waits");
                 is_first = false;
             }
             tell_object(writer, failed, domain, *busy);
         }
+    }
+    is_first
+}
+
+// The objects for which the open action of an object waits, each once, by the members that sets have now.
+fn tell_busy<W: Sink>(writer: &mut W, failed: &mut bool, past: &Past, o: ObjId, names: &[Asked]) {
+    let mut is_first = true;
+    for (place, name) in names.iter().enumerate() {
+        let before = &names[..place];
+        is_first = tell_busy_of(writer, failed, past, o, before, name, is_first);
     }
 }
 
@@ -104,8 +133,8 @@ fn tell_open_at<W: Sink>(writer: &mut W, failed: &mut bool, past: &Past, o: ObjI
     tell_name(writer, failed, domain.action_name(letter.action));
     if domain.associated(o) {
         tell(writer, failed, b" waits device");
-    } else if let Some(Expected::Read(objects)) = past.next(o) {
-        tell_busy(writer, failed, past, o, objects);
+    } else if let Some(Expected::Read(names)) = past.next(o) {
+        tell_busy(writer, failed, past, o, names.list());
     }
     tell(writer, failed, b"\n");
 }
@@ -128,8 +157,36 @@ fn tell_waiting_at<W: Sink>(
     }
 }
 
+// The members of a set, where they are not the declared ones in their order.
+fn tell_members_of<W: Sink>(
+    writer: &mut W,
+    failed: &mut bool,
+    core: &Core,
+    set: SetId,
+    group: &Group,
+) {
+    let members = core.members(set);
+    if members == group.members.as_slice() {
+        return;
+    }
+    tell(writer, failed, b"member");
+    tell_name(writer, failed, Some(group.name));
+    for member in members {
+        tell_object(writer, failed, core.domain(), *member);
+    }
+    tell(writer, failed, b"\n");
+}
+
+// The members of all sets that have others than the declared ones.
+fn tell_members<W: Sink>(writer: &mut W, failed: &mut bool, core: &Core) {
+    for (place, group) in core.domain().groups().iter().enumerate() {
+        tell_members_of(writer, failed, core, SetId::new(place), group);
+    }
+}
+
 /// Writes how all stands behind the steps of a core: a line for each state, each parameter, each open action with
-/// what it waits for, and each mailbox that is not empty. (docs/FORMATS.md, "How all stands".)
+/// what it waits for, each mailbox that is not empty, and each set that has other members than the declared ones.
+/// (docs/FORMATS.md, "How all stands".)
 ///
 /// The domain is that of the core, and the history that of its steps. The time and the memory are those of writing the
 /// journal, reading it and judging it. The error is out of memory; then nothing is written.
@@ -150,5 +207,6 @@ pub fn tell_standing<W: Sink>(
     for o in 0..domain.objects() {
         tell_waiting_at(writer, failed, domain, history, ObjId::new(o));
     }
+    tell_members(writer, failed, core);
     Ok(())
 }

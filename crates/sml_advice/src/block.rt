@@ -32,6 +32,9 @@ impl<'w, const MOST: usize> Walk<'w, MOST> {
             Instr::Set { param, value } => self.assign(within, param, value),
             Instr::MoveTo(state) | Instr::Terminate(state) => self.end(within, state),
             Instr::Wait(names) => self.waits(within, names),
+            Instr::Insert { member, set } | Instr::Remove { member, set } => {
+                self.change(member, set)
+            }
         }
     }
 

@@ -62,9 +62,10 @@ pub fn explain_good<W: Sink>(file: &str, text: &[u8], writer: &mut W, failed: &m
 /// The faults of a text, of which the first are kept, in the order of the text, and `MOST` of them where there are as
 /// many; None where it is refused by the reader.
 ///
-/// The time is that of reading and checking, and some looks at each member of a set for each `do` and test of the set;
-/// where a `do` leaves an argument out, as many as the square of the members, of which there are `MAX_MEMBERS` at
-/// most. The memory is that of the tree, of its tables, and of the faults that are kept.
+/// The time is that of reading and checking, and some looks at each object that a set may come to have for each `do`
+/// and test of the set; where a `do` leaves an argument out, as many as the square of these objects, of which there
+/// are `MAX_MEMBERS` and `MAX_OBJECTS` at most. The memory is that of the tree, of its tables, and of the faults that
+/// are kept.
 pub fn faults_of_text<const MOST: usize>(
     alloc: Global,
     text: &[u8],
@@ -116,7 +117,7 @@ fn find_in_tree<const MOST: usize>(
 ) -> Result<(), AllocError> {
     let mut directory = Directory::new(alloc, tree);
     let mut spots = Spots::new(alloc);
-    let found = match directory.fill() {
+    let found = match directory.fill(alloc) {
         Ok(()) => match spots.fill(text) {
             Ok(()) => find(alloc, &directory, &spots, findings),
             Err(error) => Err(error),
@@ -161,7 +162,7 @@ fn explain_tree<W: Sink>(
 ) -> Result<(), AllocError> {
     let mut directory = Directory::new(alloc, tree);
     let mut spots = Spots::new(alloc);
-    let told = match directory.fill() {
+    let told = match directory.fill(alloc) {
         Ok(()) => match spots.fill(out.text) {
             Ok(()) => explain_file(alloc, &directory, &spots, out),
             Err(error) => Err(error),

@@ -7,7 +7,6 @@ use sml_tree::file::{
 use sml_tree::literal::{Arg, Literal, Passed};
 use sml_tree::name::Name;
 use std::alloc::{AllocError, Global};
-use std::slice::from_ref;
 
 /// Where an action is declared first: the place of its state in the class, and its own in the state.
 #[derive(Clone, Copy)]
@@ -23,6 +22,26 @@ struct ActionKey {
     name: Name,
 }
 
+/// The objects that a name speaks of. The first of them are declared to be members of the set, or are the one of the
+/// name; the others are inserted.
+#[derive(Clone, Copy)]
+pub(crate) struct Meant<'b> {
+    pub objects: &'b [Name],
+    /// How many are not inserted.
+    pub declared: usize,
+}
+
+impl Meant<'_> {
+    /// Whether one of the objects is inserted.
+    pub(crate) fn is_inserted(self, object: &Name) -> bool {
+        !self
+            .objects
+            .iter()
+            .take(self.declared)
+            .any(|member| member == object)
+    }
+}
+
 /// The places of the items of a file, and of the actions of its classes, by their names. Of two of one name the
 /// first counts.
 #[derive(Drop)]
@@ -32,6 +51,8 @@ pub(crate) struct Directory<'a> {
     objects: IndexMap<Name, usize>,
     sets: IndexMap<Name, usize>,
     actions: IndexMap<ActionKey, ActionPlace>,
+    /// What the set at each place may come to have; a list of nothing for another item.
+    pub may: Vec<Vec<Name>>,
 }
 
 impl<'a> Directory<'a> {
@@ -43,11 +64,12 @@ impl<'a> Directory<'a> {
             objects: IndexMap::new(alloc),
             sets: IndexMap::new(alloc),
             actions: IndexMap::new(alloc),
+            may: Vec::new(alloc),
         }
     }
 
-    /// Notes the names of the file. The time and the memory grow with it.
-    pub(crate) fn fill(&mut self) -> Result<(), AllocError> {
+    /// Notes the names of the file, and what its sets may come to have. The time and the memory grow with it.
+    pub(crate) fn fill(&mut self, alloc: Global) -> Result<(), AllocError> {
         let file: &'a SmlFile<Global> = self.file;
         for (place, item) in file.items.iter().enumerate() {
             match item {
@@ -59,7 +81,8 @@ impl<'a> Directory<'a> {
                 Item::Group(set) => note(&mut self.sets, set.name, place)?,
             }
         }
-        Ok(())
+        self.note_members(alloc)?;
+        self.note_inserts()
     }
 
     // Notes the actions of the states of a class.
@@ -122,8 +145,8 @@ impl<'a> Directory<'a> {
         }
     }
 
-    // The set at a place.
-    fn set_at(&self, place: usize) -> Option<&'a Group<Global>> {
+    /// The set at a place.
+    pub(crate) fn set_at(&self, place: usize) -> Option<&'a Group<Global>> {
         let file: &'a SmlFile<Global> = self.file;
         match file.items.get(place) {
             Some(Item::Group(set)) => Some(set),
@@ -161,23 +184,6 @@ impl<'a> Directory<'a> {
     /// The action of the class of an object.
     pub(crate) fn action_of(&self, name: &Name, object: &Name) -> Option<&'a Action<Global>> {
         self.action_in(self.class_of(object)?, name)
-    }
-
-    /// The objects that a name speaks of: itself, or the members of the set.
-    pub(crate) fn objects_meant<'b>(&self, is_set: bool, name: &'b Name) -> &'b [Name]
-    where
-        'a: 'b,
-    {
-        if !is_set {
-            return from_ref(name);
-        }
-        match self.set(name) {
-            Some(place) => match self.set_at(place) {
-                Some(set) => &set.members,
-                None => &[],
-            },
-            None => &[],
-        }
     }
 
     /// Whether the class of some object has a state.

@@ -34,6 +34,8 @@ const ARGUMENT: &[u8] = b"a value or a parameter";
 
 const TARGET: &[u8] = b"`all_in` or the name of an object";
 
+const OBJECT: &[u8] = b"the name of an object";
+
 const SET: &[u8] = b"the name of a set";
 
 const BEHIND_VALUE: &[u8] = b"`,` or `)`";
@@ -61,6 +63,8 @@ pub(crate) fn expected_at(trail: &Trail) -> Expected {
         TokenKind::MoveTo => in_move(trail),
         TokenKind::TerminateAction => in_end(trail),
         TokenKind::Wait => in_wait(trail),
+        TokenKind::Insert => in_change(trail, b"`in`"),
+        TokenKind::Remove => in_change(trail, b"`from`"),
         TokenKind::Then | TokenKind::Else | TokenKind::Endif => instruction(trail),
         _ => Expected::Other(ITEM),
     }
@@ -118,7 +122,7 @@ fn in_action(trail: &Trail) -> Expected {
 fn in_object(trail: &Trail) -> Expected {
     match (trail.last.kind, trail.before.kind) {
         (TokenKind::Object, _) => Expected::Sign(COLON),
-        (TokenKind::Colon, _) => Expected::Name(b"the name of an object"),
+        (TokenKind::Colon, _) => Expected::Name(OBJECT),
         (TokenKind::IsOfClass, _) => Expected::Name(b"the name of a class"),
         (TokenKind::Name, TokenKind::Colon) => Expected::Other(b"`is_of_class`"),
         _ => Expected::Other(ITEM),
@@ -132,7 +136,7 @@ fn in_set(trail: &Trail) -> Expected {
         TokenKind::Colon => Expected::Name(SET),
         TokenKind::Name if is_outside => Expected::Sign(b"`{`"),
         TokenKind::OpenBrace => Expected::Name(b"the name of an object, or `}`,"),
-        TokenKind::Comma => Expected::Name(b"the name of an object"),
+        TokenKind::Comma => Expected::Name(OBJECT),
         TokenKind::Name => Expected::Sign(BEHIND_MEMBER),
         _ => Expected::Other(ITEM),
     }
@@ -215,6 +219,16 @@ fn in_wait(trail: &Trail) -> Expected {
         TokenKind::AllIn => Expected::Name(SET),
         TokenKind::CloseBracket => instruction(trail),
         _ => Expected::Sign(BEHIND_VALUE),
+    }
+}
+
+// What could stand in an `insert` or a `remove`, with this word between the object and the set.
+fn in_change(trail: &Trail, between: &'static [u8]) -> Expected {
+    match (trail.last.kind, trail.before.kind) {
+        (TokenKind::Insert | TokenKind::Remove, _) => Expected::Name(OBJECT),
+        (TokenKind::Name, TokenKind::Insert | TokenKind::Remove) => Expected::Sign(between),
+        (TokenKind::In | TokenKind::From, _) => Expected::Name(SET),
+        _ => instruction(trail),
     }
 }
 

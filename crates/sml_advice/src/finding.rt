@@ -31,6 +31,8 @@ pub enum Site {
     Tested,
     /// In the brackets of a `wait`.
     Waited,
+    /// In an `insert` or a `remove`.
+    Changed,
 }
 
 /// What a value of the wrong kind was to be.
@@ -62,22 +64,28 @@ pub enum Detail {
         state: usize,
         action: usize,
     },
-    /// The class of an object that a `do` is sent to, and where the name of its action stands.
+    /// The class of an object that a `do` is sent to, where the name of its action stands, and whether the object is
+    /// no member of the set but inserted.
     Called {
         class: usize,
         object: Name,
         call: usize,
+        is_inserted: bool,
     },
-    /// The class that reads an object of its own, and where the name of that, or of its set, stands.
+    /// The class that reads an object of its own, where the name of that, or of its set, stands, and whether the object
+    /// is no member of the set but inserted.
     Read {
         class: usize,
         site: Site,
+        is_inserted: bool,
     },
-    /// The class of an object that a test reads, and whether it reads a set.
+    /// The class of an object that a test reads, whether it reads a set, and whether the object is no member of that
+    /// but inserted.
     Tested {
         class: usize,
         object: Name,
         is_set: bool,
+        is_inserted: bool,
     },
     /// The kind that a value was to have, and where the parameter stands that the value is, if it is one.
     Kinds {

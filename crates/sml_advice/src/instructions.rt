@@ -1,6 +1,6 @@
 //! The names of an instruction or a test.
 
-use crate::directory::{action_param, arg_kind, class_param, has_state, passes};
+use crate::directory::{Meant, action_param, arg_kind, class_param, has_state, passes};
 use crate::finding::{Detail, Role, Site, Sort};
 use crate::walk::{Walk, Within};
 use sml_faults::CheckKind;
@@ -17,6 +17,18 @@ struct Call<'b> {
     name: &'b Name,
     at: usize,
     objects: &'b [Name],
+    declared: usize,
+}
+
+impl Call<'_> {
+    // Whether one of the objects is inserted into the set.
+    fn is_inserted(self, object: &Name) -> bool {
+        let meant = Meant {
+            objects: self.objects,
+            declared: self.declared,
+        };
+        meant.is_inserted(object)
+    }
 }
 
 // Whether two kinds are known and differ.
@@ -47,12 +59,12 @@ impl<'w, const MOST: usize> Walk<'w, MOST> {
             Scope::All | Scope::Any => true,
         };
         self.named(is_set, name, at, Site::Tested);
-        let objects = self.directory.objects_meant(is_set, name);
-        self.own_objects(within, objects, at, Site::Tested);
+        let meant = self.directory.objects_meant(is_set, name);
+        self.own_objects(within, meant, at, Site::Tested);
         for state in states {
             let state_at = self.take();
-            if !objects.is_empty() && !self.directory.some_has_state(state, objects) {
-                self.add_tested(is_set, state, state_at, objects);
+            if !meant.objects.is_empty() && !self.directory.some_has_state(state, meant.objects) {
+                self.add_tested(is_set, state, state_at, meant);
             }
         }
     }
@@ -68,17 +80,29 @@ impl<'w, const MOST: usize> Walk<'w, MOST> {
     fn waited(&mut self, within: Within<'_>, waited: &Waited) {
         let at = self.take();
         self.named(waited.all, &waited.name, at, Site::Waited);
-        let objects = self.directory.objects_meant(waited.all, &waited.name);
-        self.own_objects(within, objects, at, Site::Waited);
+        let meant = self.directory.objects_meant(waited.all, &waited.name);
+        self.own_objects(within, meant, at, Site::Waited);
+    }
+
+    /// Goes over what an `insert` or a `remove` names.
+    pub(crate) fn change(&mut self, member: &Name, set: &Name) {
+        let member_at = self.take();
+        self.named(false, member, member_at, Site::Changed);
+        let set_at = self.take();
+        self.named(true, set, set_at, Site::Changed);
     }
 
     // Looks for objects of the own class among those that a name speaks of. The first is told.
-    fn own_objects(&mut self, within: Within<'_>, objects: &[Name], at: usize, site: Site) {
+    fn own_objects(&mut self, within: Within<'_>, meant: Meant<'_>, at: usize, site: Site) {
         let class = within.class_place;
         let mut is_told = false;
-        for object in objects {
+        for object in meant.objects {
             if self.directory.is_of_class(object, &within.class.name) {
-                let detail = Detail::Read { class, site };
+                let detail = Detail::Read {
+                    class,
+                    site,
+                    is_inserted: meant.is_inserted(object),
+                };
                 self.add_or_not(CheckKind::SelfInCondition, object, at, detail, is_told);
                 is_told = true;
             }
@@ -86,13 +110,14 @@ impl<'w, const MOST: usize> Walk<'w, MOST> {
     }
 
     // Adds that none of the objects of a test has a state. Where no class of theirs is known, that is the fault.
-    fn add_tested(&mut self, is_set: bool, state: &Name, at: usize, objects: &[Name]) {
-        for object in objects {
+    fn add_tested(&mut self, is_set: bool, state: &Name, at: usize, meant: Meant<'_>) {
+        for object in meant.objects {
             if let Some(class) = self.directory.class_of(object) {
                 let detail = Detail::Tested {
                     class,
                     object: *object,
                     is_set,
+                    is_inserted: meant.is_inserted(object),
                 };
                 self.add(CheckKind::UnknownState, state, at, detail);
                 return;
@@ -111,8 +136,13 @@ impl<'w, const MOST: usize> Walk<'w, MOST> {
         target: &Name,
     ) {
         let at = self.take();
-        let objects = self.directory.objects_meant(is_set, target);
-        let call = Call { name, at, objects };
+        let Meant { objects, declared } = self.directory.objects_meant(is_set, target);
+        let call = Call {
+            name,
+            at,
+            objects,
+            declared,
+        };
         self.called(call);
         for (i, object) in objects.iter().enumerate() {
             self.missing(call, args, i, object);
@@ -139,6 +169,7 @@ impl<'w, const MOST: usize> Walk<'w, MOST> {
                     class,
                     object: *object,
                     call: call.at,
+                    is_inserted: call.is_inserted(object),
                 };
                 self.add(CheckKind::UnknownAction, call.name, call.at, detail);
                 return;
@@ -188,6 +219,7 @@ impl<'w, const MOST: usize> Walk<'w, MOST> {
             class,
             object: *object,
             call: call.at,
+            is_inserted: call.is_inserted(object),
         };
         self.add_or_not(CheckKind::MissingArg, param, call.at, detail, follows);
     }
@@ -225,6 +257,7 @@ impl<'w, const MOST: usize> Walk<'w, MOST> {
                     class,
                     object: *object,
                     call: call.at,
+                    is_inserted: call.is_inserted(object),
                 };
                 self.add(CheckKind::UnknownParam, name, at, detail);
                 return;

@@ -45,17 +45,6 @@ fn other_word(name: &Name) -> Option<&'static [u8]> {
     }
 }
 
-// What is said of a reserved word that no rule uses.
-fn unused_word(kind: TokenKind) -> Option<&'static [u8]> {
-    match kind {
-        TokenKind::Insert => Some(b"`insert` is reserved, and not part of this language yet"),
-        TokenKind::Remove => Some(b"`remove` is reserved, and not part of this language yet"),
-        TokenKind::In => Some(b"`in` is reserved, and not part of this language yet"),
-        TokenKind::From => Some(b"`from` is reserved, and not part of this language yet"),
-        _ => None,
-    }
-}
-
 // Whether a word begins lines of schedules or scripts.
 fn begins_line(name: &Name) -> bool {
     matches!(
@@ -106,7 +95,7 @@ fn is_comment(text: &[u8], trail: &Trail) -> bool {
 fn word_said(text: &[u8], trail: &Trail) -> Option<&'static [u8]> {
     match name_of(trail.found.bytes(text)) {
         Some(name) if matches!(trail.found.kind, TokenKind::Name) => other_word(&name),
-        _ => unused_word(trail.found.kind),
+        _ => None,
     }
 }
 

@@ -13,6 +13,7 @@ mod heads;
 mod instructions;
 mod left_out;
 mod limits;
+mod may;
 mod names;
 mod params;
 mod reading;

@@ -20,6 +20,8 @@ fn offer_instructions(nearest: &mut Nearest) {
     nearest.offer(&Name::from_word(b"MOVE_TO"));
     nearest.offer(&Name::from_word(b"TERMINATE_ACTION"));
     nearest.offer(&Name::from_word(b"WAIT"));
+    nearest.offer(&Name::from_word(b"INSERT"));
+    nearest.offer(&Name::from_word(b"REMOVE"));
     nearest.offer(&Name::from_word(b"THEN"));
     nearest.offer(&Name::from_word(b"ELSE"));
     nearest.offer(&Name::from_word(b"ENDIF"));

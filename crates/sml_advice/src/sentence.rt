@@ -36,6 +36,29 @@ pub(crate) fn tell_sentence<W: Sink>(
         CheckKind::AssociatedBody => tell_body(out, subject, finding),
         CheckKind::Memory => {}
     }
+    tell_insert(out, finding);
+}
+
+// That the object of which a fault speaks is inserted into the set, where it is no member of it.
+fn tell_insert<W: Sink>(out: &mut Teller<'_, W>, finding: &Finding) {
+    let object = match finding.detail {
+        Detail::Called {
+            object,
+            is_inserted: true,
+            ..
+        } => object,
+        Detail::Tested {
+            object,
+            is_inserted: true,
+            ..
+        } => object,
+        Detail::Read {
+            is_inserted: true,
+            ..
+        } => finding.name,
+        _ => return,
+    };
+    tell_of(out, b" (an `insert` puts ", &object, b" into the set)");
 }
 
 // What is of a sort, in words.
@@ -147,6 +170,7 @@ fn tell_set<W: Sink>(out: &mut Teller<'_, W>, subject: Subject<'_>, finding: &Fi
     if tell_other_sort(out, subject, name, object, b" is an object") {
         return out.say(match finding.detail {
             Detail::Site(Site::Tested) => b", not a set: leave out `all_in` or `any_in`",
+            Detail::Site(Site::Changed) => b", not a set, which stands behind the object",
             _ => b", not a set: leave out `all_in`",
         });
     }
@@ -250,7 +274,7 @@ fn tell_differing<W: Sink>(out: &mut Teller<'_, W>, finding: &Finding) {
 
 // A condition or a `wait` that reads an object of its own class.
 fn tell_self<W: Sink>(out: &mut Teller<'_, W>, subject: Subject<'_>, finding: &Finding) {
-    let Detail::Read { class, site } = finding.detail else {
+    let Detail::Read { class, site, .. } = finding.detail else {
         return;
     };
     out.name(&finding.name);

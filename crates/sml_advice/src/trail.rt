@@ -52,6 +52,8 @@ fn is_head(kind: TokenKind) -> bool {
             | TokenKind::MoveTo
             | TokenKind::TerminateAction
             | TokenKind::Wait
+            | TokenKind::Insert
+            | TokenKind::Remove
     )
 }
 
@@ -164,6 +166,8 @@ impl Trail {
             TokenKind::MoveTo => matches!(last, TokenKind::Name),
             TokenKind::TerminateAction => matches!(last, TokenKind::Name),
             TokenKind::Wait => matches!(last, TokenKind::CloseBracket),
+            TokenKind::Insert => matches!(before, TokenKind::In),
+            TokenKind::Remove => matches!(before, TokenKind::From),
             _ => false,
         }
     }

@@ -83,7 +83,9 @@ fn tell_part<W: Sink>(out: &mut Teller<'_, W>, trail: &Trail) -> bool {
     match trail.found.kind {
         TokenKind::Name if trail.takes_instruction() => {
             out.quoted(trail.found.bytes(out.text));
-            out.say(b" is no instruction (do, if, set, move_to, terminate_action, wait)");
+            out.say(
+                b" is no instruction (do, if, set, move_to, terminate_action, wait, insert, remove)",
+            );
             tell_meant(out, trail.found);
             true
         }
@@ -224,5 +226,7 @@ fn ends_brackets(kind: TokenKind) -> bool {
             | TokenKind::MoveTo
             | TokenKind::TerminateAction
             | TokenKind::Wait
+            | TokenKind::Insert
+            | TokenKind::Remove
     )
 }

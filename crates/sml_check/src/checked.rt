@@ -7,9 +7,9 @@ ghost use Rattle.sml_faults.specs.KindText.{memory_error};
 ghost use Rattle.sml_layout.specs.Texts.{HasTexts};
 ghost use Rattle.sml_layout.specs.FileDomain.{IsDomainOf};
 
-use crate::faults::first_fault;
+use crate::faults::fault_by;
 use sml_domain::domain::Domain;
-use sml_faults::CheckError;
+use sml_faults::{CheckError, Tables};
 use sml_layout::build::build;
 use sml_tree::file::SmlFile;
 use std::alloc::{Allocator, Global};
@@ -22,7 +22,7 @@ use std::alloc::{Allocator, Global};
 ///
 /// # Errors
 ///
-/// The fault of the lowest number, and of these the first in the text, with its name; or want of
+/// The fault of the lowest number, and of these the first in the text, with its name; or out of
 /// memory, which can stand in place of any other.
 ///
 /// # Example
@@ -40,8 +40,29 @@ pub fn check<A: Allocator + Clone>(alloc: Global, file: &SmlFile<A>) -> Result<D
     ensures ok { IfOk result (λ d. IsWellFormed (file_content file.now) × IsDomainOf (file_content file.now) d) }
     ensures err { IfErr result (λ e. (e ≡ memory_error) ⊎ (Some (e.kind, e.name) ≡ look.first (all_faults (file_content file.now)))) }
 {
-    first_fault(alloc, file)?;
-    match build(alloc, &file.items) {
+    match Tables::new(alloc, file) {
+        Ok(tables) => {
+            let domain = domain_by(alloc, &tables);
+            drop(tables);
+            domain
+        }
+        Err(_) => Err(CheckError::memory()),
+    }
+}
+
+// The domain of a well-formed file, by its tables.
+fn domain_by<A: Allocator + Clone>(
+    alloc: Global,
+    tables: &Tables<'_, A>,
+) -> Result<Domain, CheckError>
+    requires { HasTexts (file_content tables.now.file.now) }
+    ensures ok { IfOk result (λ d. IsWellFormed (file_content tables.now.file.now)
+        × IsDomainOf (file_content tables.now.file.now) d) }
+    ensures err { IfErr result (λ e. (e ≡ memory_error)
+        ⊎ (Some (e.kind, e.name) ≡ look.first (all_faults (file_content tables.now.file.now)))) }
+{
+    fault_by(tables)?;
+    match build(alloc, tables) {
         Ok(domain) => Ok(domain),
         Err(_) => Err(CheckError::memory()),
     }

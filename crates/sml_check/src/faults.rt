@@ -106,16 +106,29 @@ fn judged(fault: Option<(CheckKind, Name)>) -> Result<(), CheckError>
     }
 }
 
+/// The fault of a file of the lowest number, and of these the first in the text, by the file's tables.
+pub(crate) fn fault_by<A: Allocator + Clone>(tables: &Tables<'_, A>) -> Result<(), CheckError>
+    ensures well_formed { OnOk result (IsWellFormed (file_content tables.now.file.now)) }
+    ensures fault { IfErr result (λ e. Some (e.kind, e.name)
+        ≡ look.first (all_faults (file_content tables.now.file.now))) }
+{
+    judged(lowest_fault(tables))
+}
+
 /// Whether a file is well-formed, or else its fault of the lowest number, and of these the first in the
 /// text (docs/LANGUAGE.md, "Well-formed files"). Memory is taken for tables of names alone, and given back.
-/// The cost is the size of the tree, at each `do` times its targets and its arguments, and at each test
-/// times its objects and their states.
+/// The cost is the size of the tree, at each `do` times its targets and its arguments, at each test
+/// times its objects and their states, and at each `insert` times what its set may come to have.
 pub fn first_fault<A: Allocator + Clone>(alloc: Global, file: &SmlFile<A>) -> Result<(), CheckError>
     ensures well_formed { OnOk result (IsWellFormed (file_content file.now)) }
     ensures fault { IfErr result (λ e. (e ≡ memory_error) ⊎ (Some (e.kind, e.name) ≡ look.first (all_faults (file_content file.now)))) }
 {
     match Tables::new(alloc, file) {
-        Ok(tables) => judged(lowest_fault(&tables)),
+        Ok(tables) => {
+            let fault = fault_by(&tables);
+            drop(tables);
+            fault
+        }
         Err(_) => Err(CheckError::memory()),
     }
 }

@@ -1,8 +1,8 @@
 -- What holds of the places of a block whose text can be read.
 use Rattle.std.proofs.Common.{zero, suc, List, [], ◌∷◌, ◌++◌, map, subst, arith}
 use Rattle.std.specs.List.{Contains, AllByRecursion}
-use Rattle.sml_tree.specs.Syntax.{CondData, both, either, neither, test, WaitedData, InstrData, send, choose, assign, move_to, terminate, wait_for, BlockData, done, step}
-use Rattle.sml_faults.specs.Sites.{Site, asks, tests, sets, ends, waited_site, cond_sites, instr_sites, block_sites}
+use Rattle.sml_tree.specs.Syntax.{CondData, both, either, neither, test, WaitedData, InstrData, send, choose, assign, move_to, terminate, wait_for, insert_in, remove_from, BlockData, done, step}
+use Rattle.sml_faults.specs.Sites.{Site, asks, tests, sets, ends, changes, waited_site, cond_sites, instr_sites, block_sites}
 use Rattle.sml_round_trip.specs.Writable.{IsName, IsArg, IsWritableCond, IsWritableSend, IsWaited, IsWritableInstr, IsWritableBlock}
 
 -- what holds of each of some things, of one that stands among them
@@ -21,6 +21,7 @@ IsWritableSite (asks s) = IsWritableSend s
 IsWritableSite (tests t) = IsName t.name × AllByRecursion IsName t.states
 IsWritableSite (sets name value) = IsName name × IsArg value
 IsWritableSite (ends state) = IsName state
+IsWritableSite (changes add member set) = IsName member × IsName set
 
 -- so are some places
 abbrev pub AreWritableSites : List Site → Type 0
@@ -46,6 +47,8 @@ mutual
   instr_writable (move_to state) h = (h, tt)
   instr_writable (terminate state) h = (h, tt)
   instr_writable (wait_for waited) h = waits_writable waited h.1
+  instr_writable (insert_in member set) h = (h, tt)
+  instr_writable (remove_from member set) h = (h, tt)
 
   pub block_writable : (b : BlockData) → IsWritableBlock b → AreWritableSites (block_sites b)
   block_writable done h = tt

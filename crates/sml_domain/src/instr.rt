@@ -84,4 +84,14 @@ pub enum Instr {
     /// Waits until those that are named, and all members of named sets, have nothing to do, and
     /// reads their states, whatever they are. (`Asked::Any` counts as `Asked::Each`.)
     Wait(Vec<Asked>),
+    /// Puts an object into a set, behind its members, where it is not among them.
+    Insert {
+        member: ObjId,
+        set: SetId,
+    },
+    /// Takes an object out of a set, where it is a member.
+    Remove {
+        member: ObjId,
+        set: SetId,
+    },
 }

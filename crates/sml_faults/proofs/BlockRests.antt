@@ -3,7 +3,7 @@ use Rattle.std.proofs.Common.{◌≡◌, ◌∙◌, sym, ap, refl, ℕ, suc, ◌
 use Rattle.std.proofs.lemmas.Bool.Decides.{nat_tests}
 use Rattle.sml_tree.specs.Syntax.{ClassData, ActionData, ItemData, InstrData}
 use Rattle.sml_tree.specs.Content.{block_of}
-use Rattle.sml_faults.specs.Sites.{Site, asks, tests, sets, ends, instr_sites, block_sites}
+use Rattle.sml_faults.specs.Sites.{Site, asks, tests, sets, ends, changes, instr_sites, block_sites}
 use Rattle.sml_faults.specs.Lookup.{first}
 use Rattle.sml_faults.specs.Tables.{or_else}
 use Rattle.sml_faults.specs.Heads.{has_body}
@@ -67,6 +67,7 @@ same_site file c a (asks s) = refl
 same_site file c a (tests t) = refl
 same_site file c a (sets n v) = refl
 same_site file c a (ends s) = refl
+same_site file c a (changes add member set) = refl
 
 pub same_sites : (file : List ItemData) (c : ClassData) (a : ActionData) (ss : List Site) → flat_map (site_faults Duplicate file c a) ss ≡ flat_map repeated_site ss
 same_sites file c a [] = refl

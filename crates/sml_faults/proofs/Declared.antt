@@ -2,12 +2,12 @@
 use Rattle.std.proofs.Common.{◌≡◌, refl, ℕ, Bool, true, false, List, [], arith}
 use Rattle.sml_tree.specs.Syntax.{ItemData, object, group}
 use Rattle.sml_faults.specs.declared.kind.CheckKind.TheVariants.{UnknownClass, UnknownObject, UnknownSet}
-use Rattle.sml_faults.specs.Sites.{asks, tests}
+use Rattle.sml_faults.specs.Sites.{asks, tests, changes}
 use Rattle.sml_faults.specs.Lookup.{of_set}
 use Rattle.sml_faults.specs.Faults.{unknown_object, unknown_set}
 use Rattle.sml_faults.specs.Kinds.{item_faults}
 use Rattle.sml_faults.specs.Inside.{Declares}
-use Rattle.sml_faults.specs.Laws.{OfWellFormed, ObjectsHaveClasses, MembersAreObjects, TargetsAreDeclared, TestsAreDeclared}
+use Rattle.sml_faults.specs.Laws.{OfWellFormed, ObjectsHaveClasses, MembersAreObjects, TargetsAreDeclared, TestsAreDeclared, ChangesAreDeclared}
 use Rattle.sml_faults.proofs.Pairs.{flat_nil, not_so}
 use Rattle.sml_faults.proofs.Named.{class_there, object_there, group_there}
 use Rattle.sml_faults.proofs.WellFormed.{no_fault, not_not, at_site}
@@ -38,3 +38,13 @@ pub tests_are_declared : OfWellFormed TestsAreDeclared
 tests_are_declared file ok c a t at =
     declared file (of_set t.scope) t.name (at_site UnknownObject file (no_fault file ok UnknownObject (5, omega arith, refl)) c a (tests t) at)
     (at_site UnknownSet file (no_fault file ok UnknownSet (6, omega arith, refl)) c a (tests t) at)
+
+pub changes_are_declared : OfWellFormed ChangesAreDeclared
+changes_are_declared file ok c a add m s at = (
+  object_there file m (not_not _
+      (not_so _ m (at_site UnknownObject file (no_fault file ok UnknownObject (5, omega arith, refl)) c a
+      (changes add m s) at))),
+  group_there file s (not_not _
+      (not_so _ s (at_site UnknownSet file (no_fault file ok UnknownSet (6, omega arith, refl)) c a (changes add m s)
+      at))),
+)

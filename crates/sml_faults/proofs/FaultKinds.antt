@@ -2,7 +2,7 @@
 use Rattle.std.proofs.Common.{◌≡◌, ◌∙◌, refl, ap, ℕ, false, List, [], ◌∷◌, ◌++◌, flat_map}
 use Rattle.sml_tree.specs.Syntax.{ItemData, ClassData, ActionData}
 use Rattle.sml_faults.specs.Kinds.{faults_of, item_faults, site_faults, stands_in_blocks}
-use Rattle.sml_faults.specs.Sites.{Site, asks, tests, sets, ends}
+use Rattle.sml_faults.specs.Sites.{Site, asks, tests, sets, ends, changes}
 use Rattle.sml_faults.specs.declared.kind.CheckKind.{CheckKind}
 use Rattle.sml_faults.specs.declared.kind.CheckKind.TheVariants.{Duplicate, NoState, TwoInitial, TwoDead, UnknownClass, UnknownObject, UnknownSet, UnknownState, UnknownAction, UnknownParam, KindMismatch, MissingArg, ParamsDiffer, SelfInCondition, AssociatedBody, Memory}
 
@@ -30,30 +30,37 @@ no_place NoState file c a (asks s) out = refl
 no_place NoState file c a (tests t) out = refl
 no_place NoState file c a (sets n v) out = refl
 no_place NoState file c a (ends s) out = refl
+no_place NoState file c a (changes add member set) out = refl
 no_place TwoInitial file c a (asks s) out = refl
 no_place TwoInitial file c a (tests t) out = refl
 no_place TwoInitial file c a (sets n v) out = refl
 no_place TwoInitial file c a (ends s) out = refl
+no_place TwoInitial file c a (changes add member set) out = refl
 no_place TwoDead file c a (asks s) out = refl
 no_place TwoDead file c a (tests t) out = refl
 no_place TwoDead file c a (sets n v) out = refl
 no_place TwoDead file c a (ends s) out = refl
+no_place TwoDead file c a (changes add member set) out = refl
 no_place UnknownClass file c a (asks s) out = refl
 no_place UnknownClass file c a (tests t) out = refl
 no_place UnknownClass file c a (sets n v) out = refl
 no_place UnknownClass file c a (ends s) out = refl
+no_place UnknownClass file c a (changes add member set) out = refl
 no_place ParamsDiffer file c a (asks s) out = refl
 no_place ParamsDiffer file c a (tests t) out = refl
 no_place ParamsDiffer file c a (sets n v) out = refl
 no_place ParamsDiffer file c a (ends s) out = refl
+no_place ParamsDiffer file c a (changes add member set) out = refl
 no_place AssociatedBody file c a (asks s) out = refl
 no_place AssociatedBody file c a (tests t) out = refl
 no_place AssociatedBody file c a (sets n v) out = refl
 no_place AssociatedBody file c a (ends s) out = refl
+no_place AssociatedBody file c a (changes add member set) out = refl
 no_place Memory file c a (asks s) out = refl
 no_place Memory file c a (tests t) out = refl
 no_place Memory file c a (sets n v) out = refl
 no_place Memory file c a (ends s) out = refl
+no_place Memory file c a (changes add member set) out = refl
 no_place Duplicate file c a s out = cc
 no_place UnknownObject file c a s out = cc
 no_place UnknownSet file c a s out = cc

@@ -6,7 +6,7 @@ use Rattle.sml_tree.proofs.Blocks.{instr_content-If}
 use Rattle.sml_tree.specs.Syntax.{ItemData, class, object, group, ClassData, ObjectData, GroupData, ActionData}
 use Rattle.sml_faults.specs.declared.kind.CheckKind.{CheckKind}
 use Rattle.sml_faults.specs.declared.kind.CheckKind.TheVariants.{Duplicate, NoState, TwoInitial, TwoDead, UnknownClass, UnknownObject, UnknownSet, UnknownState, UnknownAction, UnknownParam, KindMismatch, MissingArg, ParamsDiffer, SelfInCondition, AssociatedBody}
-use Rattle.sml_faults.specs.Sites.{Site, asks, tests, sets, ends, block_sites}
+use Rattle.sml_faults.specs.Sites.{Site, asks, tests, sets, ends, changes, block_sites}
 use Rattle.sml_faults.specs.Lookup.{actions, objects_meant, of_set}
 use Rattle.sml_faults.specs.Kinds.{site_faults, action_head, action_faults, class_head, object_faults, group_faults, item_faults, faults_of, with_kind, all_faults}
 use Rattle.sml_faults.specs.Faults.{unknown_set, states_of_none, unknown_end, unknown_action, unknown_passed, set_unknown_param, missing_at, own_object}
@@ -99,24 +99,28 @@ module _ (file : List ItemData) where
   unknown_sets c a (tests t) e = none_there (unknown_set file (of_set t.scope) t.name) (left_false _ _ e)
   unknown_sets c a (sets n v) e = refl
   unknown_sets c a (ends s) e = refl
+  unknown_sets c a (changes add m s) e = none_there (unknown_set file true s) e
 
   unknown_states : (c : ClassData) (a : ActionData) (s : Site) → is_faulty_site file c a s ≡ false → site_faults UnknownState file c a s ≡ []
   unknown_states c a (asks s) e = refl
   unknown_states c a (tests t) e = none_there (states_of_none file (objects_meant file (of_set t.scope) t.name) t.states) (left_false _ _ (right_false _ _ e))
   unknown_states c a (sets n v) e = refl
   unknown_states c a (ends s) e = none_there (unknown_end c s) e
+  unknown_states c a (changes add m s) e = refl
 
   unknown_actions : (c : ClassData) (a : ActionData) (s : Site) → is_faulty_site file c a s ≡ false → site_faults UnknownAction file c a s ≡ []
   unknown_actions c a (asks s) e = none_there (unknown_action file s.action (objects_meant file s.all s.target)) (left_false _ _ (right_false _ _ e))
   unknown_actions c a (tests t) e = refl
   unknown_actions c a (sets n v) e = refl
   unknown_actions c a (ends s) e = refl
+  unknown_actions c a (changes add m s) e = refl
 
   unknown_params : (c : ClassData) (a : ActionData) (s : Site) → is_faulty_site file c a s ≡ false → site_faults UnknownParam file c a s ≡ []
   unknown_params c a (asks s) e = none_there (flat_map (unknown_passed file s.action (objects_meant file s.all s.target) c a) s.args) (left_false _ _ (right_false _ _ (right_false _ _ e)))
   unknown_params c a (tests t) e = refl
   unknown_params c a (sets n v) e = none_there (set_unknown_param c a n v) e
   unknown_params c a (ends s) e = refl
+  unknown_params c a (changes add m s) e = refl
 
   missing_args : (c : ClassData) (a : ActionData) (s : Site) → is_faulty_site file c a s ≡ false → site_faults MissingArg file c a s ≡ []
   missing_args c a (asks s) e =
@@ -126,12 +130,14 @@ module _ (file : List ItemData) where
   missing_args c a (tests t) e = refl
   missing_args c a (sets n v) e = refl
   missing_args c a (ends s) e = refl
+  missing_args c a (changes add m s) e = refl
 
   own_objects : (c : ClassData) (a : ActionData) (s : Site) → is_faulty_site file c a s ≡ false → site_faults SelfInCondition file c a s ≡ []
   own_objects c a (asks s) e = refl
   own_objects c a (tests t) e = none_there (flat_map (own_object file c) (objects_meant file (of_set t.scope) t.name)) (right_false _ _ (right_false _ _ e))
   own_objects c a (sets n v) e = refl
   own_objects c a (ends s) e = refl
+  own_objects c a (changes add m s) e = refl
 
   abbrev none_of_kind : CheckKind → Type 0
   none_of_kind k = faults_of k file ≡ []

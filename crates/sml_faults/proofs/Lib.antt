@@ -11,6 +11,7 @@ pub mod ActionPlaces
 pub mod Pairs
 pub mod NoPairs
 pub mod OnlyPairs
+pub mod Inserted
 pub mod Named
 pub mod WellFormed
 pub mod Declared
@@ -24,3 +25,5 @@ pub mod Requests
 pub mod Rules
 pub mod Instrs
 pub mod Waits
+pub mod Listed
+pub mod Noted

@@ -1,13 +1,15 @@
 -- What a name is found to stand for.
-use Rattle.std.proofs.Common.{◌≡◌, ◌∙◌, sym, ap, subst, refl, ℕ, zero, suc, Bool, true, false, List, [], ◌∷◌, ◌++◌, Option, Some, None, is_some, cond, arith}
+use Rattle.std.proofs.Common.{◌≡◌, ◌∙◌, sym, ap, subst, refl, ℕ, zero, suc, Bool, true, false, ◌&&◌, ◌⊎◌, inl, inr, List, [], ◌∷◌, ◌++◌, Option, Some, None, is_some, cond, arith}
 use Rattle.std.specs.List.{Contains, find}
 use Rattle.std.proofs.lemmas.Option.{none-some, same_Some}
 use Rattle.sml_tree.specs.Syntax.{ItemData, class, object, group, ClassData, ObjectData, GroupData}
-use Rattle.sml_faults.specs.Lookup.{named, class_named, object_named, group_named, class_of, class_of_object, objects_meant, members_of}
+use Rattle.sml_faults.specs.Sites.{changes}
+use Rattle.sml_faults.specs.Lookup.{named, where_so, class_named, object_named, group_named, class_of, class_of_object, objects_meant, has_object, sites_in, inserted_at, inserted_in, may_have}
 use Rattle.sml_faults.specs.Tables.{class_item, object_item, group_item}
-use Rattle.sml_faults.specs.Inside.{StandsBefore, SpeaksOf, IsOfClass, DeclaresClass, DeclaresObject, DeclaresSet}
+use Rattle.sml_faults.specs.Inside.{StandsBefore, IsInserted, SpeaksOf, IsOfClass, DeclaresClass, DeclaresObject, DeclaresSet}
 use Rattle.sml_faults.specs.PairLaws.{AreDifferent}
-use Rattle.sml_faults.proofs.Pairs.{split, stands, not_named, same_names, named_same, contains_here, contains_next, found_any, any_at}
+use Rattle.sml_faults.proofs.Pairs.{split, stands, not_named, same_names, named_same, contains_here, contains_next, contains_all, found_any, any_at}
+use Rattle.sml_faults.proofs.Inserted.{all_kept, all_added, old_or_added, site_there, inserted_by}
 
 -- ---- the first of some things that is seen in a way and passes a test
 
@@ -151,11 +153,28 @@ module _ (file : List ItemData) (d : AreDifferent file) (n : List ℕ) where
 
 -- ---- what a name speaks of
 
+-- an object that is inserted is found among those that are
+inserted_there : (file : List ItemData) (d : AreDifferent file) (name n : List ℕ) → IsInserted file name n
+    → Contains (inserted_in file name) n
+inserted_there file d name n it =
+    let o = it.declared in
+    let known : has_object file n ≡ true = ap (λ r. is_some r) (object_is file d n o.0 o.1 o.2) in
+    let so : (has_object file n && named name name) ≡ true = ap (λ b. b && named name name) known
+    ∙ named_same name name refl in
+    contains_all (inserted_at file name) (sites_in file) (changes true n name) n
+    (site_there file it.own_class it.own_action (changes true n name) it.site)
+    (subst (λ b. Contains (where_so b n) n) (sym so) (contains_here n []))
+
 module _ (file : List ItemData) (d : AreDifferent file) where
   pub meant : (set : Bool) (name n : List ℕ) → SpeaksOf file set name n → Contains (objects_meant file set name) n
   meant false name n is = subst (λ m. Contains (m ∷ []) n) is (contains_here n [])
   meant true name n of_set =
-      subst (λ o. Contains (members_of o) n) (sym (group_is file d name of_set.0 of_set.1 of_set.2)) of_set.3
+      subst (λ o. Contains (may_have file name o) n) (sym (group_is file d name of_set.0 of_set.1 of_set.2))
+      (by of_set.3)
+    where
+      by : Contains of_set.0.members n ⊎ IsInserted file name n → Contains (may_have file name (Some of_set.0)) n
+      by (inl member) = all_kept of_set.0.members (inserted_in file name) n member
+      by (inr inserted) = all_added of_set.0.members (inserted_in file name) n (inserted_there file d name n inserted)
 
   pub object_of_class : (n : List ℕ) (c : ClassData) (at : IsOfClass file n c) → object_named file n ≡ Some at.declared
   object_of_class n c at = object_is file d n at.declared at.object_in at.object_name
@@ -171,9 +190,24 @@ pub spoken : (file : List ItemData) (set : Bool) (name n : List ℕ) → Contain
 spoken file false name n at = only_one name n at
 spoken file true name n at = by (group_named file name) refl at
   where
-    by : (g : Option GroupData) → group_named file name ≡ g → Contains (members_of g) n → SpeaksOf file true name n
+    either : (g : GroupData) → Contains g.members n ⊎ Contains (inserted_in file name) n → Contains g.members n
+        ⊎ IsInserted file name n
+    either g (inl member) = inl member
+    either g (inr inserted) =
+        let its = inserted_by file name n inserted in
+        let at = its.0 in inr (record {
+          own_class = at.0;
+          own_action = at.1;
+          site = at.2;
+          declared =
+              object_there file n its.1;
+        })
+
+    by : (g : Option GroupData) → group_named file name ≡ g → Contains (may_have file name g) n
+        → SpeaksOf file true name n
     by None is in_it = absurd (omega (in_it.1, arith))
-    by (Some g) is in_it = let one = group_found file name g is in (g, one.0, one.1, in_it)
+    by (Some g) is in_it = let one = group_found file name g is in
+        (g, one.0, one.1, either g (old_or_added g.members (inserted_in file name) n in_it))
 
 pub of_class : (file : List ItemData) (n : List ℕ) (c : ClassData) → class_of file n ≡ Some c → IsOfClass file n c
 of_class file n c e = by (object_named file n) refl e

@@ -2,7 +2,7 @@
 use Rattle.std.proofs.Common.{◌≡◌, ◌∙◌, refl, false, List, [], flat_map, is_some}
 use Rattle.std.specs.List.{Contains, list_any}
 use Rattle.sml_tree.specs.Syntax.{ItemData, class, object, group, ClassData, ObjectData, GroupData, StateData, ActionData, ActionParamData}
-use Rattle.sml_faults.specs.Sites.{Site, asks, tests, sets, ends, block_sites}
+use Rattle.sml_faults.specs.Sites.{Site, asks, tests, sets, ends, changes, block_sites}
 use Rattle.sml_faults.specs.Lookup.{named, actions_of, is_state, is_action, is_class_param, is_action_param, class_param, is_passed}
 use Rattle.sml_faults.specs.Repeats.{each_after, repeated_name, repeated_passed, repeated_site, repeated_class_param, repeated_action_param, repeated_in_action, repeated_action, repeated_state, repeated_in_class, repeated_item, is_class, is_object, is_group}
 use Rattle.sml_faults.specs.Inside.{StandsBefore, HasState, HasAction, HasSite}
@@ -15,6 +15,7 @@ module _ (file : List ItemData) (d : AreDifferent file) where
   at_site c a (tests t) at = refl
   at_site c a (sets n v) at = refl
   at_site c a (ends s) at = refl
+  at_site c a (changes add member set) at = refl
 
   at_param : (c : ClassData) (a : ActionData) → HasAction file c a → (q : ActionParamData) (r : Split q a.params) → repeated_action_param c r.before q ≡ []
   at_param c a at q r =

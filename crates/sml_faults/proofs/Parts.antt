@@ -1,10 +1,10 @@
 -- A file has no faults of a kind where none of its parts has.
-use Rattle.std.proofs.Common.{◌≡◌, List, [], flat_map}
+use Rattle.std.proofs.Common.{◌≡◌, Bool, List, [], flat_map}
 use Rattle.std.specs.List.{Contains}
 use Rattle.sml_tree.specs.Syntax.{ArgData, TestData, ItemData, class, object, group, ClassData, ObjectData, GroupData, ActionData, SendData}
 use Rattle.std.specs.Prelude.{ℕ}
 use Rattle.sml_faults.specs.declared.kind.CheckKind.{CheckKind}
-use Rattle.sml_faults.specs.Sites.{Site, asks, tests, sets, ends, block_sites}
+use Rattle.sml_faults.specs.Sites.{Site, asks, tests, sets, ends, changes, block_sites}
 use Rattle.sml_faults.specs.Lookup.{actions}
 use Rattle.sml_faults.specs.Kinds.{site_faults, action_head, action_faults, class_head, object_faults, group_faults, item_faults}
 use Rattle.sml_faults.specs.Inside.{HasAction, HasSite}
@@ -18,6 +18,8 @@ pub record Parts (kind : CheckKind) (file : List ItemData) : Type 0 where
   pub at_test : (c : ClassData) (a : ActionData) (t : TestData) → HasSite file c a (tests t) → site_faults kind file c a (tests t) ≡ []
   pub at_set : (c : ClassData) (a : ActionData) (n : List ℕ) (v : ArgData) → HasSite file c a (sets n v) → site_faults kind file c a (sets n v) ≡ []
   pub at_end : (c : ClassData) (a : ActionData) (n : List ℕ) → HasSite file c a (ends n) → site_faults kind file c a (ends n) ≡ []
+  pub at_change : (c : ClassData) (a : ActionData) (add : Bool) (m s : List ℕ) → HasSite file c a (changes add m s)
+      → site_faults kind file c a (changes add m s) ≡ []
   pub at_object : (o : ObjectData) → Contains file (object o) → object_faults kind file o ≡ []
   pub at_group : (g : GroupData) → Contains file (group g) → group_faults kind file g ≡ []
 
@@ -27,6 +29,7 @@ module _ (kind : CheckKind) (file : List ItemData) (p : Parts kind file) where
   at_site c a (tests t) at = p.at_test c a t at
   at_site c a (sets n v) at = p.at_set c a n v at
   at_site c a (ends n) at = p.at_end c a n at
+  at_site c a (changes add m s) at = p.at_change c a add m s at
 
   in_action : (c : ClassData) (a : ActionData) → HasAction file c a → action_faults kind file c a ≡ []
   in_action c a at =

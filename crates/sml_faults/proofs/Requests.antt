@@ -1,15 +1,15 @@
 -- A file that keeps the rules of requests and values has none of their faults.
-use Rattle.std.proofs.Common.{◌≡◌, ◌∙◌, sym, ap, refl, ℕ, Bool, true, false, not, ◌&&◌, ◌||◌, List, [], flat_map, Option, Some, None, is_some, option_map, inl, inr}
+use Rattle.std.proofs.Common.{◌≡◌, ◌∙◌, sym, ap, refl, ℕ, Bool, true, false, not, ◌&&◌, ◌||◌, List, [], flat_map, Option, Some, None, is_some, option_map, ◌⊎◌, inl, inr}
 use Rattle.std.specs.List.{Contains, list_any}
 use Rattle.sml_tree.specs.declared.file.Kind.{Kind}
-use Rattle.sml_tree.specs.Syntax.{LiteralData, ArgData, lit, param, ItemData, class, ClassData, ActionData, ActionParamData, ClassParamData, PassedData, SendData}
+use Rattle.sml_tree.specs.Syntax.{LiteralData, ArgData, lit, param, ItemData, class, group, ClassData, GroupData, ActionData, ActionParamData, ClassParamData, PassedData, SendData}
 use Rattle.sml_faults.specs.declared.kind.CheckKind.TheVariants.{UnknownAction, UnknownParam, KindMismatch, MissingArg}
 use Rattle.sml_faults.specs.Sites.{asks}
 use Rattle.sml_faults.specs.Lookup.{actions, is_action, is_passed, is_class_param, is_action_param, class_param, action_param, action_in, action_of, objects_meant}
 use Rattle.sml_faults.specs.Faults.{lacks_action, lacks_param, lacks_param_there, unknown_passed, unknown_value, same_kind, kind_of, class_param_kind, action_param_kind, kind_there, arg_kind, kinds_differ, param_kind, other_kind_there, mismatched, missing_param, missing_params, missing_at}
 use Rattle.sml_faults.specs.Heads.{class_param_mismatch, action_param_mismatch}
 use Rattle.sml_faults.specs.Kinds.{item_faults}
-use Rattle.sml_faults.specs.Inside.{HasAction, HasSite, Declares, SpeaksOf, IsOfClass, AsksFor}
+use Rattle.sml_faults.specs.Inside.{HasAction, HasSite, Declares, DeclaresObject, IsInserted, SpeaksOf, IsOfClass, AsksFor}
 use Rattle.sml_faults.specs.Laws.{IsGiven}
 use Rattle.sml_faults.specs.ValueLaws.{HasKind}
 use Rattle.sml_faults.specs.Sound.{IsSound}
@@ -47,12 +47,17 @@ not_given args p (inr passed) =
     (ap (λ b. not b) (any_at (is_passed p.name) args passed.0 passed.1 (named_same p.name passed.0.name (sym passed.2))))
 
 module _ (file : List ItemData) (sound : IsSound file) where
+  may_be_declared : (g : GroupData) → Contains file (group g) → (n o : List ℕ) → Contains g.members o
+      ⊎ IsInserted file n o → DeclaresObject file o
+  may_be_declared g at n o (inl member) = sound.members_are_objects g at o member
+  may_be_declared g at n o (inr inserted) = inserted.declared
+
   target_class : (set : Bool) (n o : List ℕ) → Declares file set n → SpeaksOf file set n o → (d : ClassData) × IsOfClass file o d
   target_class false n o declared is =
       let d = sound.objects_have_classes declared.0 declared.1 in
       (d.0, record { declared = declared.0; object_in = declared.1; object_name = declared.2 ∙ sym is; class_in = d.1; class_name = d.2 })
   target_class true n o declared in_set =
-      let p = sound.members_are_objects in_set.0 in_set.1 o in_set.3 in
+      let p = may_be_declared in_set.0 in_set.1 n o in_set.3 in
       let d = sound.objects_have_classes p.0 p.1 in
       (d.0, record { declared = p.0; object_in = p.1; object_name = p.2; class_in = d.1; class_name = d.2 })
 
@@ -93,6 +98,7 @@ module _ (file : List ItemData) (sound : IsSound file) where
         at_test = λ c a t at. refl;
         at_set = λ c a n v at. refl;
         at_end = λ c a n at. refl;
+        at_change = λ c a add m s at. refl;
         at_object = λ o at. refl;
         at_group = λ g at. refl;
       })
@@ -113,6 +119,7 @@ module _ (file : List ItemData) (sound : IsSound file) where
         at_test = λ c a t at. refl;
         at_set = λ c a n v at. refl;
         at_end = λ c a n at. refl;
+        at_change = λ c a add m s at. refl;
         at_object = λ o at. refl;
         at_group = λ g at. refl;
       })
@@ -180,6 +187,7 @@ module _ (file : List ItemData) (sound : IsSound file) where
             both_nil _ (unknown_value c a v) (so_not _ n (not_missed (class_param c n) p.0 (class_param_is c at.class_in p.0 p.1 n p.2)))
             (known c a (record { class_in = at.class_in; action_in = at.action_in }) v p.0.kind p.3);
         at_end = λ c a n at. refl;
+        at_change = λ c a add m s at. refl;
         at_object = λ o at. refl;
         at_group = λ g at. refl;
       })
@@ -209,6 +217,7 @@ module _ (file : List ItemData) (sound : IsSound file) where
             (ap (λ o. kinds_differ (option_map class_param_kind o) (arg_kind c a v)) (class_param_is c at.class_in p.0 p.1 n p.2)
             ∙ ap (kinds_differ (Some p.0.kind)) (kind_is c a (record { class_in = at.class_in; action_in = at.action_in }) v p.0.kind p.3) ∙ same_kinds p.0.kind);
         at_end = λ c a n at. refl;
+        at_change = λ c a add m s at. refl;
         at_object = λ o at. refl;
         at_group = λ g at. refl;
       })

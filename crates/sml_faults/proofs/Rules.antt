@@ -4,7 +4,7 @@ use Rattle.std.specs.List.{Contains}
 use Rattle.sml_tree.specs.Syntax.{ItemData, class, object, group, ClassData, ObjectData, GroupData, ActionData}
 use Rattle.sml_faults.specs.declared.kind.CheckKind.{CheckKind}
 use Rattle.sml_faults.specs.declared.kind.CheckKind.TheVariants.{Duplicate, NoState, TwoInitial, TwoDead, UnknownClass, UnknownObject, UnknownSet, UnknownState, UnknownAction, UnknownParam, KindMismatch, MissingArg, ParamsDiffer, SelfInCondition, AssociatedBody, Memory}
-use Rattle.sml_faults.specs.Sites.{Site, asks, tests, sets, ends, block_sites}
+use Rattle.sml_faults.specs.Sites.{Site, asks, tests, sets, ends, changes, block_sites}
 use Rattle.sml_faults.specs.Lookup.{actions, is_action, action_named}
 use Rattle.sml_faults.specs.Heads.{differs, same_params}
 use Rattle.sml_faults.specs.Kinds.{faults_of, with_kind, kinds, site_faults}
@@ -16,7 +16,7 @@ use Rattle.sml_faults.proofs.OnlyPairs.{only_pairs}
 use Rattle.sml_faults.proofs.Named.{found_there}
 use Rattle.sml_faults.proofs.SameParams.{params_themselves}
 use Rattle.sml_faults.proofs.Parts.{no_part}
-use Rattle.sml_faults.proofs.Declared.{objects_have_classes, members_are_objects, targets_are_declared, tests_are_declared}
+use Rattle.sml_faults.proofs.Declared.{objects_have_classes, members_are_objects, targets_are_declared, tests_are_declared, changes_are_declared}
 use Rattle.sml_faults.proofs.Asked.{targets_have_actions, arguments_are_complete}
 use Rattle.sml_faults.proofs.Fitting.{ends_are_states, tests_name_states, arguments_have_kinds, arguments_fit, sets_fit, class_defaults_fit, action_defaults_fit}
 use Rattle.sml_faults.proofs.Sound.{different, classes_have_states, one_is_initial, one_is_dead, associated_are_empty, tests_ask_others, params_of_both}
@@ -30,6 +30,7 @@ keeps_rules file ok = record {
   members_are_objects = members_are_objects file ok;
   targets_are_declared = targets_are_declared file ok;
   tests_are_declared = tests_are_declared file ok;
+  changes_are_declared = changes_are_declared file ok;
   targets_have_actions = targets_have_actions file ok;
   arguments_are_complete = arguments_are_complete file ok;
   arguments_have_kinds = arguments_have_kinds file ok;
@@ -69,6 +70,7 @@ module _ (file : List ItemData) (sound : IsSound file) where
   quiet c a (tests t) = refl
   quiet c a (sets n v) = refl
   quiet c a (ends n) = refl
+  quiet c a (changes add member set) = refl
 
   params_differ : faults_of ParamsDiffer file ≡ []
   params_differ =
@@ -107,6 +109,7 @@ module _ (file : List ItemData) (sound : IsSound file) where
         at_test = λ c a t at. refl;
         at_set = λ c a n v at. refl;
         at_end = λ c a n at. refl;
+        at_change = λ c a add m s at. refl;
         at_object = λ o at. refl;
         at_group = λ g at. refl;
       })

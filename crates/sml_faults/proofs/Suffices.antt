@@ -58,6 +58,7 @@ module _ (file : List ItemData) (sound : IsSound file) where
         at_test = λ c a t at. refl;
         at_set = λ c a n v at. refl;
         at_end = λ c a n at. refl;
+        at_change = λ c a add m s at. refl;
         at_object = λ o at. refl;
         at_group = λ g at. refl;
       })
@@ -72,6 +73,7 @@ module _ (file : List ItemData) (sound : IsSound file) where
         at_test = λ c a t at. refl;
         at_set = λ c a n v at. refl;
         at_end = λ c a n at. refl;
+        at_change = λ c a add m s at. refl;
         at_object = λ o at. refl;
         at_group = λ g at. refl;
       })
@@ -86,6 +88,7 @@ module _ (file : List ItemData) (sound : IsSound file) where
         at_test = λ c a t at. refl;
         at_set = λ c a n v at. refl;
         at_end = λ c a n at. refl;
+        at_change = λ c a add m s at. refl;
         at_object = λ o at. refl;
         at_group = λ g at. refl;
       })
@@ -107,6 +110,7 @@ module _ (file : List ItemData) (sound : IsSound file) where
         at_test = λ c a t at. refl;
         at_set = λ c a n v at. refl;
         at_end = λ c a n at. refl;
+        at_change = λ c a add m s at. refl;
         at_object = λ o at. refl;
         at_group = λ g at. refl;
       })
@@ -123,6 +127,7 @@ module _ (file : List ItemData) (sound : IsSound file) where
         at_test = λ c a t at. refl;
         at_set = λ c a n v at. refl;
         at_end = λ c a n at. refl;
+        at_change = λ c a add m s at. refl;
         at_object = λ o at. let d = sound.objects_have_classes o at in so_not _ o.class (not_missed (class_named file o.class) d.0 (class_is file sound.different o.class d.0 d.1 d.2));
         at_group = λ g at. refl;
       })
@@ -145,6 +150,7 @@ module _ (file : List ItemData) (sound : IsSound file) where
         at_test = λ c a t at. known_object (of_set t.scope) t.name (sound.tests_are_declared c a t at);
         at_set = λ c a n v at. refl;
         at_end = λ c a n at. refl;
+        at_change = λ c a add m s at. known_object false m (sound.changes_are_declared c a add m s at).0;
         at_object = λ o at. refl;
         at_group = λ g at. flat_none (unknown_object file false) g.members (λ n member. known_object false n (sound.members_are_objects g at n member));
       })
@@ -159,6 +165,7 @@ module _ (file : List ItemData) (sound : IsSound file) where
         at_test = λ c a t at. known_set (of_set t.scope) t.name (sound.tests_are_declared c a t at);
         at_set = λ c a n v at. refl;
         at_end = λ c a n at. refl;
+        at_change = λ c a add m s at. known_set true s (sound.changes_are_declared c a add m s at).1;
         at_object = λ o at. refl;
         at_group = λ g at. refl;
       })
@@ -195,6 +202,7 @@ module _ (file : List ItemData) (sound : IsSound file) where
             (ap (has_state_there n) (class_of_is file sound.different one.one one.of one.is_of_class) ∙ has_that_state one.of n one.can_be_in));
         at_set = λ c a n v at. refl;
         at_end = λ c a n at. so_not _ n (ap (λ b. not b) (has_that_state c n (sound.ends_are_states c a n at)));
+        at_change = λ c a add m s at. refl;
         at_object = λ o at. refl;
         at_group = λ g at. refl;
       })
@@ -223,6 +231,7 @@ module _ (file : List ItemData) (sound : IsSound file) where
             (λ o asked. so_not _ o (other_object c o (sound.tests_ask_others c a t at o (spoken file (of_set t.scope) t.name o asked))));
         at_set = λ c a n v at. refl;
         at_end = λ c a n at. refl;
+        at_change = λ c a add m s at. refl;
         at_object = λ o at. refl;
         at_group = λ g at. refl;
       })

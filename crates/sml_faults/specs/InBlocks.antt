@@ -1,10 +1,10 @@
 -- Whether a file has a fault of a kind that stands in blocks alone, all such kinds in one.
-use Rattle.std.specs.Prelude.{ℕ, Bool, false, ◌||◌, List, [], ◌∷◌, is_some, flat_map}
+use Rattle.std.specs.Prelude.{ℕ, Bool, true, false, ◌||◌, List, [], ◌∷◌, is_some, flat_map}
 use Rattle.std.specs.List.{list_any}
 use Rattle.sml_tree.specs.Syntax.{ItemData, class, object, group, ClassData, ActionData, SendData}
 use Rattle.sml_faults.specs.declared.kind.CheckKind.{CheckKind}
 use Rattle.sml_faults.specs.declared.kind.CheckKind.TheVariants.{Duplicate, NoState, TwoInitial, TwoDead, UnknownClass, UnknownObject, KindMismatch, ParamsDiffer, AssociatedBody}
-use Rattle.sml_faults.specs.Sites.{Site, asks, tests, sets, ends, block_sites}
+use Rattle.sml_faults.specs.Sites.{Site, asks, tests, sets, ends, changes, block_sites}
 use Rattle.sml_faults.specs.Lookup.{first, actions, objects_meant, of_set}
 use Rattle.sml_faults.specs.Faults.{unknown_set, states_of_none, unknown_end, unknown_action, unknown_passed, set_unknown_param, missing_at, own_object}
 
@@ -31,6 +31,7 @@ is_faulty_site file c a (asks s) = is_faulty_send file c a s (objects_meant file
 is_faulty_site file c a (tests t) = is_faulty_test file c (of_set t.scope) t.name t.states (objects_meant file (of_set t.scope) t.name)
 is_faulty_site file c a (sets n v) = has_some (set_unknown_param c a n v)
 is_faulty_site file c a (ends s) = has_some (unknown_end c s)
+is_faulty_site file c a (changes add member set) = has_some (unknown_set file true set)
 
 -- whether the block of an action is
 abbrev pub is_faulty_action : List ItemData → ClassData → ActionData → Bool

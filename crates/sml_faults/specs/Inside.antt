@@ -1,8 +1,8 @@
 -- What stands in a list and in a file.
-use Rattle.std.specs.Prelude.{◌≡◌, ℕ, Bool, true, false, List, ◌∷◌, ◌++◌}
+use Rattle.std.specs.Prelude.{◌≡◌, ◌⊎◌, ℕ, Bool, true, false, List, ◌∷◌, ◌++◌}
 use Rattle.std.specs.List.{Contains}
 use Rattle.sml_tree.specs.Syntax.{ItemData, class, object, group, ClassData, ObjectData, GroupData, StateData, ActionData, SendData}
-use Rattle.sml_faults.specs.Sites.{Site, asks, block_sites}
+use Rattle.sml_faults.specs.Sites.{Site, asks, changes, block_sites}
 use Rattle.sml_faults.specs.Lookup.{actions}
 
 -- something stands in a list before something
@@ -45,10 +45,18 @@ abbrev pub Declares : List ItemData → Bool → List ℕ → Type 0
 Declares file false n = DeclaresObject file n
 Declares file true n = DeclaresSet file n
 
--- an object that a name speaks of: behind `all_in` or `any_in` a member of the set, else the one of this name
+-- an `insert` of a file puts this object, which is declared, into a set of this name
+pub record IsInserted (file : List ItemData) (n o : List ℕ) : Type 0 where
+  pub own_class : ClassData
+  pub own_action : ActionData
+  pub site : HasSite file own_class own_action (changes true o n)
+  pub declared : DeclaresObject file o
+
+-- an object that a name speaks of: behind `all_in` or `any_in` one that the set may come to have, else the one named so
 abbrev pub SpeaksOf : List ItemData → Bool → List ℕ → List ℕ → Type 0
 SpeaksOf file false n o = o ≡ n
-SpeaksOf file true n o = (g : GroupData) × Contains file (group g) × (g.name ≡ n) × Contains g.members o
+SpeaksOf file true n o = (g : GroupData) × Contains file (group g) × (g.name ≡ n)
+    × (Contains g.members o ⊎ IsInserted file n o)
 
 -- a file declares an object of this name, of this class
 pub record IsOfClass (file : List ItemData) (n : List ℕ) (c : ClassData) : Type 0 where

@@ -3,7 +3,7 @@ use Rattle.std.specs.Prelude.{◌≡◌, ℕ, Bool, true, false, List, [], ◌�
 use Rattle.sml_tree.specs.Syntax.{ItemData, class, object, group, ClassData, ObjectData, GroupData, ActionData, SendData, ArgData}
 use Rattle.sml_faults.specs.declared.kind.CheckKind.{CheckKind}
 use Rattle.sml_faults.specs.declared.kind.CheckKind.TheVariants.{Duplicate, NoState, TwoInitial, TwoDead, UnknownClass, UnknownObject, UnknownSet, UnknownState, UnknownAction, UnknownParam, KindMismatch, MissingArg, ParamsDiffer, SelfInCondition, AssociatedBody, Memory}
-use Rattle.sml_faults.specs.Sites.{Site, asks, tests, sets, ends, block_sites}
+use Rattle.sml_faults.specs.Sites.{Site, asks, tests, sets, ends, changes, block_sites}
 use Rattle.sml_faults.specs.Lookup.{actions, objects_meant, of_set}
 use Rattle.sml_faults.specs.Repeats.{each_after, repeated_item, repeated_passed}
 use Rattle.sml_faults.specs.Faults.{unknown_object, unknown_set, states_of_none, unknown_end, unknown_action, unknown_passed, set_unknown_param, mismatched, set_mismatch, missing_at, own_object}
@@ -41,12 +41,19 @@ abbrev pub end_faults : CheckKind → ClassData → List ℕ → List (List ℕ)
 end_faults UnknownState c s = unknown_end c s
 end_faults kind c s = []
 
+-- the faults of a kind at an `insert` or a `remove`
+abbrev pub change_faults : CheckKind → List ItemData → List ℕ → List ℕ → List (List ℕ)
+change_faults UnknownObject file member set = unknown_object file false member
+change_faults UnknownSet file member set = unknown_set file true set
+change_faults kind file member set = []
+
 -- the faults of a kind at one place of a block
 abbrev pub site_faults : CheckKind → List ItemData → ClassData → ActionData → Site → List (List ℕ)
 site_faults kind file c a (asks s) = send_faults kind file c a s (objects_meant file s.all s.target)
 site_faults kind file c a (tests t) = test_faults kind file c (of_set t.scope) t.name t.states
 site_faults kind file c a (sets n v) = set_faults kind c a n v
 site_faults kind file c a (ends s) = end_faults kind c s
+site_faults kind file c a (changes add member set) = change_faults kind file member set
 
 -- whether a kind has faults in blocks
 abbrev pub stands_in_blocks : CheckKind → Bool

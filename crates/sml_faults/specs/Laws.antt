@@ -1,13 +1,13 @@
 -- What holds of well-formed files, in the words of the language.
-use Rattle.std.specs.Prelude.{◌≡◌, ◌≢◌, ◌⊎◌, ℕ, true, List, [], IsSome}
+use Rattle.std.specs.Prelude.{◌≡◌, ◌≢◌, ◌⊎◌, ℕ, Bool, true, List, [], IsSome}
 use Rattle.std.specs.List.{Contains}
 use Rattle.std.specs.Bool.{Decides}
 use Rattle.sml_tree.specs.Syntax.{ItemData, class, object, group, ClassData, ObjectData, GroupData, StateData, ActionData, ActionParamData, PassedData, SendData, TestData, done}
-use Rattle.sml_faults.specs.Sites.{asks, tests}
+use Rattle.sml_faults.specs.Sites.{asks, tests, changes}
 use Rattle.sml_faults.specs.Lookup.{actions, of_set}
 use Rattle.sml_faults.specs.Heads.{same_params}
 use Rattle.sml_faults.specs.Kinds.{IsWellFormed}
-use Rattle.sml_faults.specs.Inside.{StandsBefore, HasAction, HasSite, DeclaresClass, DeclaresObject, Declares, SpeaksOf, IsOfClass, Sends, AsksFor}
+use Rattle.sml_faults.specs.Inside.{StandsBefore, HasAction, HasSite, DeclaresClass, DeclaresObject, DeclaresSet, Declares, SpeaksOf, IsOfClass, Sends, AsksFor}
 
 -- every well-formed file is so
 abbrev pub OfWellFormed : (List ItemData → Type 0) → Type 0
@@ -30,6 +30,12 @@ TargetsAreDeclared file = (c : ClassData) (a : ActionData) (s : SendData) → Ha
 -- a test asks, and a `wait` waits for, a declared object or set
 abbrev pub TestsAreDeclared : List ItemData → Type 0
 TestsAreDeclared file = (c : ClassData) (a : ActionData) (t : TestData) → HasSite file c a (tests t) → Declares file (of_set t.scope) t.name
+
+-- an `insert` or a `remove` names a declared object and a declared set
+abbrev pub ChangesAreDeclared : List ItemData → Type 0
+ChangesAreDeclared file =
+    (c : ClassData) (a : ActionData) (add : Bool) (member set : List ℕ) → HasSite file c a (changes add member set)
+    → DeclaresObject file member × DeclaresSet file set
 
 -- ---- requests
 
@@ -67,7 +73,7 @@ OneIsDead file = (c : ClassData) → Contains file (class c) → (s t : StateDat
 abbrev pub AssociatedAreEmpty : List ItemData → Type 0
 AssociatedAreEmpty file = (c : ClassData) (a : ActionData) → HasAction file c a → c.associated ≡ true → a.body ≡ done
 
--- no condition and no `wait` in a class asks an object of that class
+-- no condition and no `wait` in a class can come to ask an object of that class
 abbrev pub TestsAskOthers : List ItemData → Type 0
 TestsAskOthers file =
     (c : ClassData) (a : ActionData) (t : TestData) → HasSite file c a (tests t) → (n : List ℕ) → SpeaksOf file (of_set t.scope) t.name n → (d : ClassData) → IsOfClass file n d → d.name ≢ c.name

@@ -1,10 +1,11 @@
 -- What names stand for in a file.
-use Rattle.std.specs.Prelude.{ℕ, Bool, true, false, ◌&&◌, ◌||◌, not, List, [], ◌∷◌, Option, None, Some, if◌then◌else◌, codes, flat_map, nat_eq}
+use Rattle.std.specs.Prelude.{ℕ, Bool, true, false, ◌&&◌, ◌||◌, not, List, [], ◌∷◌, ◌++◌, Option, None, Some, is_some, if◌then◌else◌, codes, flat_map, fold, nat_eq}
 use Rattle.std.specs.List.{list_any, find}
 use Rattle.std.specs.Cmp.Lexicographic.{pointwise}
 use Rattle.sml_tree.specs.declared.cond.Scope.{Scope}
 use Rattle.sml_tree.specs.declared.cond.Scope.TheVariants.{One, All, Any}
 use Rattle.sml_tree.specs.Syntax.{ItemData, class, object, group, ClassData, ObjectData, GroupData, StateData, ActionData, ActionParamData, ClassParamData, PassedData}
+use Rattle.sml_faults.specs.Sites.{Site, changes, block_sites}
 
 -- whether two names are the same
 abbrev pub named : List ℕ → List ℕ → Bool
@@ -60,11 +61,6 @@ abbrev pub members_of : Option GroupData → List (List ℕ)
 members_of None = []
 members_of (Some g) = g.members
 
--- the objects that a name with or without `all_in` or `any_in` speaks of, in the order of the members
-abbrev pub objects_meant : List ItemData → Bool → List ℕ → List (List ℕ)
-objects_meant file false n = n ∷ []
-objects_meant file true n = members_of (group_named file n)
-
 -- whether a test asks a set
 abbrev pub of_set : Scope → Bool
 of_set One = false
@@ -119,6 +115,49 @@ action_in (Some c) n = action_named c n
 -- an action of an object's class
 abbrev pub action_of : List ItemData → List ℕ → List ℕ → Option ActionData
 action_of file n o = action_in (class_of file o) n
+
+-- ---- what sets may come to have
+
+-- what an action names
+abbrev pub action_sites : ActionData → List Site
+action_sites a = block_sites a.body
+
+-- what the actions of an item name
+abbrev pub item_sites : ItemData → List Site
+item_sites (class c) = flat_map action_sites (actions c)
+item_sites (object o) = []
+item_sites (group g) = []
+
+-- what all actions of some items name, in the order of the text
+abbrev pub sites_in : List ItemData → List Site
+sites_in items = flat_map item_sites items
+
+-- whether a file declares an object of this name
+abbrev pub has_object : List ItemData → List ℕ → Bool
+has_object file n = is_some (object_named file n)
+
+-- the object that a place of a block adds to a set of this name: that of an `insert` into it, where it is declared
+abbrev pub inserted_at : List ItemData → List ℕ → Site → List (List ℕ)
+inserted_at file n (changes true member set) = where_so (has_object file member && named n set) member
+inserted_at file n site = []
+
+-- those that an `insert` anywhere adds to a set of this name, in the order of the text
+abbrev pub inserted_in : List ItemData → List ℕ → List (List ℕ)
+inserted_in file n = flat_map (inserted_at file n) (sites_in file)
+
+-- some names and one more, unless it is among them
+abbrev pub with_name : List (List ℕ) → List ℕ → List (List ℕ)
+with_name names n = if among names n then names else names ++ n ∷ []
+
+-- the objects that a set of this name may come to have: its members, then those that are inserted anywhere, each once
+abbrev pub may_have : List ItemData → List ℕ → Option GroupData → List (List ℕ)
+may_have file n None = []
+may_have file n (Some g) = fold with_name g.members (inserted_in file n)
+
+-- the objects that a name speaks of: behind `all_in` or `any_in` all that the set may come to have, else the one named so
+abbrev pub objects_meant : List ItemData → Bool → List ℕ → List (List ℕ)
+objects_meant file false n = n ∷ []
+objects_meant file true n = may_have file n (group_named file n)
 
 -- ---- parameters
 

@@ -2,7 +2,7 @@
 use Rattle.std.specs.Prelude.{ℕ, Bool, false, ◌||◌, List, [], ◌∷◌, ◌++◌, is_some, flat_map}
 use Rattle.std.specs.List.{list_any}
 use Rattle.sml_tree.specs.Syntax.{PassedData, ItemData, class, object, group, ClassData, StateData, ActionData, ActionParamData, ClassParamData}
-use Rattle.sml_faults.specs.Sites.{Site, asks, tests, sets, ends, block_sites}
+use Rattle.sml_faults.specs.Sites.{Site, asks, tests, sets, ends, changes, block_sites}
 use Rattle.sml_faults.specs.Lookup.{named, among, where_so, is_state, is_action, is_class_param, is_action_param, is_passed, class_param}
 
 -- what each of some things has, where those before it count too
@@ -24,6 +24,7 @@ repeated_site (asks s) = each_after repeated_passed [] s.args
 repeated_site (tests t) = []
 repeated_site (sets n v) = []
 repeated_site (ends s) = []
+repeated_site (changes add member set) = []
 
 -- a parameter of a class that has one of its name before it
 abbrev pub repeated_class_param : List ClassParamData → ClassParamData → List (List ℕ)

@@ -1,14 +1,15 @@
 -- What a block names, in the order of the text.
-use Rattle.std.specs.Prelude.{List, [], ◌∷◌, ◌++◌, ℕ, false, map, if◌then◌else◌}
-use Rattle.sml_tree.specs.Syntax.{ArgData, CondData, both, either, neither, test, TestData, SendData, WaitedData, InstrData, send, choose, assign, move_to, terminate, wait_for, BlockData, done, step}
+use Rattle.std.specs.Prelude.{List, [], ◌∷◌, ◌++◌, ℕ, Bool, true, false, map, if◌then◌else◌}
+use Rattle.sml_tree.specs.Syntax.{ArgData, CondData, both, either, neither, test, TestData, SendData, WaitedData, InstrData, send, choose, assign, move_to, terminate, wait_for, insert_in, remove_from, BlockData, done, step}
 use Rattle.sml_tree.specs.declared.cond.Scope.TheVariants.{One, All}
 
--- a request, a test of a condition or what is waited for, a `set`, or the state in which an action ends
+-- a request, a test of a condition or of a `wait`, a `set`, the state in which an action ends, or a change of a set
 pub data Site : Type 0 where
   asks : SendData → Site
   tests : TestData → Site
   sets : List ℕ → ArgData → Site
   ends : List ℕ → Site
+  changes : (add : Bool) (member set : List ℕ) → Site
 
 -- the tests of a condition
 abbrev pub cond_sites : CondData → List Site
@@ -34,6 +35,8 @@ abbrev mutual
   instr_sites (move_to state) = ends state ∷ []
   instr_sites (terminate state) = ends state ∷ []
   instr_sites (wait_for waited) = map waited_site waited
+  instr_sites (insert_in member set) = changes true member set ∷ []
+  instr_sites (remove_from member set) = changes false member set ∷ []
 
   -- what the instructions of a block name, one after another
   pub block_sites : BlockData → List Site

@@ -3,7 +3,7 @@ use Rattle.std.specs.Prelude.{List}
 use Rattle.sml_tree.specs.Syntax.{ItemData}
 use Rattle.sml_faults.specs.Kinds.{IsWellFormed}
 use Rattle.sml_faults.specs.PairLaws.{AreDifferent}
-use Rattle.sml_faults.specs.Laws.{ObjectsHaveClasses, MembersAreObjects, TargetsAreDeclared, TestsAreDeclared, TargetsHaveActions, ArgumentsAreComplete, ClassesHaveStates, OneIsInitial, OneIsDead, AssociatedAreEmpty, TestsAskOthers, ParamsAgree}
+use Rattle.sml_faults.specs.Laws.{ObjectsHaveClasses, MembersAreObjects, TargetsAreDeclared, TestsAreDeclared, ChangesAreDeclared, TargetsHaveActions, ArgumentsAreComplete, ClassesHaveStates, OneIsInitial, OneIsDead, AssociatedAreEmpty, TestsAskOthers, ParamsAgree}
 use Rattle.sml_faults.specs.ValueLaws.{EndsAreStates, TestsNameStates, ArgumentsHaveKinds, ArgumentsFit, SetsFit, ClassDefaultsFit, ActionDefaultsFit}
 
 -- a file that keeps all rules
@@ -13,6 +13,7 @@ pub record IsSound (file : List ItemData) : Type 0 where
   pub members_are_objects : MembersAreObjects file
   pub targets_are_declared : TargetsAreDeclared file
   pub tests_are_declared : TestsAreDeclared file
+  pub changes_are_declared : ChangesAreDeclared file
   pub targets_have_actions : TargetsHaveActions file
   pub arguments_are_complete : ArgumentsAreComplete file
   pub arguments_have_kinds : ArgumentsHaveKinds file

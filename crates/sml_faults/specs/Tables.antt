@@ -1,5 +1,5 @@
 -- What the look-up tables of a file say.
-use Rattle.std.specs.Prelude.{◌≡◌, ℕ, suc, Bool, false, List, [], ◌∷◌, Option, None, Some, option_map, flat_map, nat_eq, nat_lt, if◌then◌else◌}
+use Rattle.std.specs.Prelude.{◌≡◌, ℕ, suc, Bool, true, false, List, [], ◌∷◌, Option, None, Some, is_some, option_map, flat_map, fold, slice_index_or, slice_set, Vec, nat_eq, nat_lt, if◌then◌else◌}
 use Rattle.std.specs.List.{slice_get}
 use Rattle.std.specs.Option.{option_and_then, option_map_or}
 use Rattle.std.specs.Cmp.Lexicographic.{pointwise}
@@ -8,7 +8,8 @@ use Rattle.sml_tree.specs.Syntax.{ItemData, class, object, group, ClassData, Obj
 use Rattle.sml_faults.specs.declared.actions.ActionPlace.{ActionPlace}
 use Rattle.sml_faults.specs.declared.tables.ItemKind.{ItemKind}
 use Rattle.sml_faults.specs.declared.tables.ItemKind.TheVariants.{Class, Object, Group}
-use Rattle.sml_faults.specs.Lookup.{is_action, actions}
+use Rattle.sml_faults.specs.Sites.{Site, changes}
+use Rattle.sml_faults.specs.Lookup.{is_action, actions, with_name, may_have, group_named}
 use Rattle.sml_faults.specs.Heads.{other_params}
 use Rattle.sml_faults.specs.Repeats.{is_class, is_object, is_group}
 
@@ -144,3 +145,52 @@ abbrev pub differing_at : Option ClassData → ItemData → List (List ℕ)
 differing_at k (class c) = flat_map (other_params k) (actions c)
 differing_at k (object o) = []
 differing_at k (group g) = []
+
+-- ---- what sets may come to have
+
+-- the declared members of an item, where it is a set
+abbrev pub declared_members : ItemData → List (List ℕ)
+declared_members (class c) = []
+declared_members (object o) = []
+declared_members (group g) = g.members
+
+-- the names of a list in memory
+abbrev pub names_in : {S : Type 0} → Vec (List ℕ) S → List (List ℕ)
+names_in v = v.items
+
+-- whether a table gives a name a place
+abbrev pub has_place : {S : Type 0} → IndexMap (List ℕ) ℕ S → List ℕ → Bool
+has_place m q = is_some (get (pointwise nat_eq) m q)
+
+-- the place that a table gives a name
+abbrev pub place_in : {S : Type 0} → IndexMap (List ℕ) ℕ S → List ℕ → Option ℕ
+place_in m q = get (pointwise nat_eq) m q
+
+-- lists, where the one at a place has a name too
+abbrev pub added_at : List (List (List ℕ)) → List ℕ → Option ℕ → List (List (List ℕ))
+added_at lists n None = lists
+added_at lists n (Some k) = slice_set lists k (with_name (slice_index_or lists k []) n)
+
+-- the same, if the name is known
+abbrev pub added_if : Bool → List (List (List ℕ)) → List ℕ → Option ℕ → List (List (List ℕ))
+added_if false lists n place = lists
+added_if true lists n place = added_at lists n place
+
+-- lists of what sets may come to have, behind one more place of a block, by the known objects and the places of sets
+abbrev pub lists_next : (List ℕ → Bool) → (List ℕ → Option ℕ) → List (List (List ℕ)) → Site → List (List (List ℕ))
+lists_next known place lists (changes true member set) = added_if (known member) lists member (place set)
+lists_next known place lists site = lists
+
+-- the same, behind some places, by the tables of objects and sets
+abbrev pub lists_after : {S T : Type 0} → IndexMap (List ℕ) ℕ S → IndexMap (List ℕ) ℕ T → List (List (List ℕ))
+    → List Site → List (List (List ℕ))
+lists_after objects groups lists sites = fold (lists_next (has_place objects) (place_in groups)) lists sites
+
+-- the list at a place, if there is a place
+abbrev pub listed_at : List (List (List ℕ)) → Option ℕ → List (List ℕ)
+listed_at lists None = []
+listed_at lists (Some k) = slice_index_or lists k []
+
+-- at the place of each set stands what it may come to have
+abbrev pub HasMay : List ItemData → List (List (List ℕ)) → Type 0
+HasMay file lists = (n : List ℕ) → listed_at lists (place_of (is_group n) file) ≡ may_have file n (group_named file n)

@@ -104,6 +104,9 @@ impl<'a, A: Allocator + Clone> Tables<'a, A> {
             }
             Instr::MoveTo(state) | Instr::Terminate(state) => unknown_end(class, state).is_some(),
             Instr::Wait(waited) => self.is_faulty_wait(class, waited),
+            Instr::Insert { set, .. } | Instr::Remove { set, .. } => {
+                self.unknown_set(true, set).is_some()
+            }
         }
     }
 

@@ -20,13 +20,13 @@ pub enum CheckKind {
     TwoDead,
     /// An object is of no declared class.
     UnknownClass,
-    /// A member, a target, or an object that a test or a `wait` names is not declared.
+    /// A member, a target, or an object that a test, a `wait`, an `insert` or a `remove` names is not declared.
     UnknownObject,
-    /// A name behind `all_in` or `any_in` is no set's.
+    /// A name behind `all_in` or `any_in`, or of what an `insert` or a `remove` changes, is no set's.
     UnknownSet,
     /// A state is named that is none there.
     UnknownState,
-    /// A target of a `do` does not have the action.
+    /// A target of a `do`, or something that its set may come to have, does not have the action.
     UnknownAction,
     /// A name is no parameter's there.
     UnknownParam,
@@ -36,7 +36,7 @@ pub enum CheckKind {
     MissingArg,
     /// An action has two lists of parameters in one class.
     ParamsDiffer,
-    /// A condition or a `wait` names an object of its own class.
+    /// A condition or a `wait` names an object of its own class, or a set that may come to have one.
     SelfInCondition,
     /// An action of an associated class has instructions.
     AssociatedBody,

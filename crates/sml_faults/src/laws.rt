@@ -1,6 +1,6 @@
 //! What the definitions of faults come to, as contracts of functions that do nothing.
 ghost use Rattle.sml_faults.specs.PairLaws.{NoPairs, OnlyPairs};
-ghost use Rattle.sml_faults.specs.Laws.{OfWellFormed, ObjectsHaveClasses, MembersAreObjects, TargetsAreDeclared, TestsAreDeclared, TargetsHaveActions, ArgumentsAreComplete, ArgumentsAreParams, ClassesHaveStates, OneIsInitial, OneIsDead, AssociatedAreEmpty, TestsAskOthers, ParamsAgree, SameParams};
+ghost use Rattle.sml_faults.specs.Laws.{OfWellFormed, ObjectsHaveClasses, MembersAreObjects, TargetsAreDeclared, TestsAreDeclared, ChangesAreDeclared, TargetsHaveActions, ArgumentsAreComplete, ArgumentsAreParams, ClassesHaveStates, OneIsInitial, OneIsDead, AssociatedAreEmpty, TestsAskOthers, ParamsAgree, SameParams};
 ghost use Rattle.sml_faults.specs.ValueLaws.{EndsAreStates, TestsNameStates, ArgumentsHaveKinds, ArgumentsFit, SetsFit, ClassDefaultsFit, ActionDefaultsFit};
 ghost use Rattle.sml_faults.specs.Sound.{IsSound, SoundIsWellFormed};
 
@@ -16,6 +16,7 @@ pub fn declared_names()
     ensures members { OfWellFormed MembersAreObjects }
     ensures targets { OfWellFormed TargetsAreDeclared }
     ensures tests { OfWellFormed TestsAreDeclared }
+    ensures changes { OfWellFormed ChangesAreDeclared }
 {}
 
 /// A `do` of a well-formed file asks for an action that each of its targets has, with arguments that are

@@ -8,6 +8,7 @@ mod in_blocks;
 mod kind;
 mod laws;
 mod lookup;
+mod may;
 mod param;
 mod repeated;
 mod site;

@@ -33,17 +33,12 @@ impl<'a, A: Allocator + Clone> Tables<'a, A> {
         }
     }
 
-    /// The objects that a name speaks of: itself, or the members of the set.
-    pub(crate) fn objects_meant<'b>(&self, set: bool, name: &'b Name) -> &'b [Name]
-    where
-        'a: 'b,
+    /// The objects that a name speaks of: itself, or all that the set may come to have.
+    pub fn objects_meant<'b>(&'b self, set: bool, name: &'b Name) -> &'b [Name]
         ensures { result.now ≡ look.objects_meant (file_content self.now.file.now) set name.now }
     {
         if set {
-            match self.group(name) {
-                Some(group) => &group.members,
-                None => &[],
-            }
+            self.may_have(name)
         } else {
             from_ref(name)
         }

@@ -5,34 +5,38 @@ ghost use Rattle.std.specs.Cmp.Lexicographic.{pointwise};
 ghost use Rattle.indexmap.specs.IndexMap.{get};
 ghost use Rattle.sml_tree.specs.Content.{file_content, item_content, class_content, object_content, group_content, action_content};
 ghost use Rattle.sml_faults.specs.Lookup.{named, class_named, object_named, group_named, action_in};
+ghost use Rattle.sml_faults.specs.Lookup as look;
 ghost use Rattle.sml_faults.specs.Tables as spec;
 ghost use Rattle.sml_faults.specs.Repeats.{is_class, is_object, is_group};
-ghost use Rattle.sml_faults.specs.Tables.{HasTables, IsNoted, ActionTables, or_else, place_of, item_at};
+ghost use Rattle.sml_faults.specs.Tables.{HasTables, IsNoted, ActionTables, HasMay, names_in, or_else, place_of, item_at};
 
 use crate::actions::{ActionPlace, item_tables};
+use crate::may::may_lists;
 use indexmap::IndexMap;
 use sml_tree::file::{Action, Class, Group, Item, Object, SmlFile};
 use sml_tree::name::Name;
 use std::alloc::{AllocError, Allocator, Global};
 
-/// A file, with the places of its items and actions by their names: what faults are looked for with. It takes the memory
-/// of these tables, and gives it back when it is let go.
+/// A file, with the places of its items and actions by their names, and all that its sets may come to have: what faults
+/// are looked for with. It takes the memory of these tables, and gives it back when it is let go.
 #[derive(Drop)]
 pub struct Tables<'a, A: Allocator + Clone> {
     pub file: &'a SmlFile<A>,
     names: NameTables,
     pub(crate) actions: Vec<IndexMap<Name, ActionPlace>>,
+    may: Vec<Vec<Name>>,
     ghost places: { HasTables (file_content file.now) names.classes names.objects names.groups },
     ghost declared: { ActionTables (file_content file.now) actions.items },
+    ghost comes: { HasMay (file_content file.now) (map names_in may.items) },
 }
 
 // The places of items by their names, kind by kind: one value, so that there is one to give back where
 // memory ends.
 #[derive(Drop)]
-struct NameTables {
+pub(crate) struct NameTables {
     classes: IndexMap<Name, usize>,
-    objects: IndexMap<Name, usize>,
-    groups: IndexMap<Name, usize>,
+    pub(crate) objects: IndexMap<Name, usize>,
+    pub(crate) groups: IndexMap<Name, usize>,
 }
 
 // The kinds of items.
@@ -152,15 +156,51 @@ impl<'a, A: Allocator + Clone> Tables<'a, A> {
     {
         let names = NameTables::new(alloc, &file.items)?;
         match item_tables(alloc, &file.items) {
-            Ok(actions) => Ok(Tables {
-                file,
-                names,
-                actions,
-            }),
+            Ok(actions) => Tables::filled(alloc, file, names, actions),
             Err(error) => {
                 names.give_back();
                 Err(error)
             }
+        }
+    }
+
+    // The tables of a file, of which two are made.
+    fn filled(
+        alloc: Global,
+        file: &'a SmlFile<A>,
+        names: NameTables,
+        actions: Vec<IndexMap<Name, ActionPlace>>,
+    ) -> Result<Self, AllocError>
+        requires places { HasTables (file_content file.now) names.classes names.objects names.groups }
+        requires declared { ActionTables (file_content file.now) actions.items }
+        ensures { IfOk result (λ t. t.file.now ≡ file.now) }
+    {
+        match may_lists(alloc, &names, &file.items) {
+            Ok(may) => Ok(Tables {
+                file,
+                names,
+                actions,
+                may,
+            }),
+            Err(error) => {
+                names.give_back();
+                drop(actions);
+                Err(error)
+            }
+        }
+    }
+
+    /// What a set of a name may come to have.
+    pub(crate) fn may_have(&self, name: &Name) -> &[Name]
+        ensures { result.now ≡ look.may_have (file_content self.now.file.now) name.now
+            (group_named (file_content self.now.file.now) name.now) }
+    {
+        match self.names.groups.get(name) {
+            Some(place) => match self.may.get(*place) {
+                Some(list) => list,
+                None => &[],
+            },
+            None => &[],
         }
     }
 

@@ -144,6 +144,30 @@ impl<'a, A: Allocator + Clone> Tables<'a, A> {
         None
     }
 
+    // The first fault of a kind at an `insert` or a `remove`.
+    fn change_fault(&self, kind: CheckKind, member: &Name, set: &Name) -> Option<Name>
+        ensures { result ≡ look.first (kinds.change_faults kind (file_content self.now.file.now) member.now set.now) }
+    {
+        match kind {
+            CheckKind::UnknownObject => self.unknown_object(false, member),
+            CheckKind::UnknownSet => self.unknown_set(true, set),
+            CheckKind::Duplicate
+            | CheckKind::NoState
+            | CheckKind::TwoInitial
+            | CheckKind::TwoDead
+            | CheckKind::UnknownClass
+            | CheckKind::UnknownState
+            | CheckKind::UnknownAction
+            | CheckKind::UnknownParam
+            | CheckKind::KindMismatch
+            | CheckKind::MissingArg
+            | CheckKind::ParamsDiffer
+            | CheckKind::SelfInCondition
+            | CheckKind::AssociatedBody
+            | CheckKind::Memory => None,
+        }
+    }
+
     // The first fault of a kind at a `do`.
     fn send_fault(
         &self,
@@ -240,6 +264,9 @@ impl<'a, A: Allocator + Clone> Tables<'a, A> {
             Instr::Set { param, value } => set_fault(kind, class, action, param, value),
             Instr::MoveTo(state) | Instr::Terminate(state) => end_fault(kind, class, state),
             Instr::Wait(waited) => self.wait_fault(kind, class, waited),
+            Instr::Insert { member, set } | Instr::Remove { member, set } => {
+                self.change_fault(kind, member, set)
+            }
         }
     }
 

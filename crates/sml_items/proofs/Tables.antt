@@ -1,7 +1,7 @@
 -- What the table of the grammar has: one token tells the rules of a part apart, and no token that may follow a part begins it.
 use Rattle.std.proofs.Common.{◌≡◌, ℕ, zero, suc, List, [], ◌∷◌, refl, sym, subst, get_or, Option, Some, None, Bool, true, false, nat_eq, ◌&&◌, ◌||◌, not}
 use Rattle.sml_tree.specs.declared.token_kind.TokenKind.{TokenKind}
-use Rattle.sml_tree.specs.declared.token_kind.TokenKind.TheVariants.{Class, Object, ObjectSet, State, Action, Parameters, IntKind, StringKind, Do, If, Then, Else, Endif, Set, MoveTo, TerminateAction, Wait, InState, NotInState, AllIn, AnyIn, And, Or, Not, InitialState, DeadState, Comma, Equals, OpenBracket, CloseBracket, OpenBrace, CloseBrace, Slash, Name, Int, Str}
+use Rattle.sml_tree.specs.declared.token_kind.TokenKind.TheVariants.{Class, Object, ObjectSet, State, Action, Parameters, IntKind, StringKind, Do, If, Then, Else, Endif, Set, MoveTo, TerminateAction, Wait, Insert, Remove, InState, NotInState, AllIn, AnyIn, And, Or, Not, InitialState, DeadState, Comma, Equals, OpenBracket, CloseBracket, OpenBrace, CloseBrace, Slash, Name, Int, Str}
 use Rattle.sml_tree.specs.Form as of
 use Rattle.sml_tree.specs.Form.{Bone, B, P, Form, Mark, Part, Family, family, Value, Files, ClassMarks, ClassParamLists, Sorts, ClassParams, MoreClassParams, Literals, States, StateMarks, FirstMarks, InitialMarks, DeadMarks, Actions, ActionParamLists, ActionParams, MoreActionParams, Defaults, Blocks, ArgLists, PassedArgs, MorePassed, Waiteds, MoreWaiteds, Everys, Args, Branches, Arms, Elses, Conds, Conjs, Units, MoreAnds, MoreOrs, Senses, StateLists, NameLists, MoreNames, MemberLists, MoreMembers}
 use Rattle.sml_tree.specs.Grammar.{Rule, rules, empty}
@@ -35,7 +35,7 @@ begins ActionParamLists c = among c (OpenBracket ∷ [])
 begins ActionParams c = among c (IntKind ∷ StringKind ∷ [])
 begins MoreActionParams c = among c (Comma ∷ [])
 begins Defaults c = among c (Equals ∷ [])
-begins Blocks c = among c (Do ∷ If ∷ Set ∷ MoveTo ∷ TerminateAction ∷ Wait ∷ [])
+begins Blocks c = among c (Do ∷ If ∷ Set ∷ MoveTo ∷ TerminateAction ∷ Wait ∷ Insert ∷ Remove ∷ [])
 begins ArgLists c = among c (OpenBracket ∷ [])
 begins PassedArgs c = among c (Name ∷ [])
 begins MorePassed c = among c (Comma ∷ [])
@@ -115,7 +115,8 @@ follows FirstMarks c = among c (Class ∷ Object ∷ ObjectSet ∷ State ∷ Act
 follows InitialMarks c = among c (Class ∷ Object ∷ ObjectSet ∷ State ∷ Action ∷ [])
 follows DeadMarks c = among c (Class ∷ Object ∷ ObjectSet ∷ State ∷ Action ∷ [])
 follows Actions c = among c (Class ∷ Object ∷ ObjectSet ∷ State ∷ [])
-follows ActionParamLists c = among c (Class ∷ Object ∷ ObjectSet ∷ State ∷ Action ∷ Do ∷ If ∷ Set ∷ MoveTo ∷ TerminateAction ∷ Wait ∷ [])
+follows ActionParamLists c = among c (Class ∷ Object ∷ ObjectSet ∷ State ∷ Action ∷ Do ∷ If ∷ Set ∷ MoveTo
+    ∷ TerminateAction ∷ Wait ∷ Insert ∷ Remove ∷ [])
 follows ActionParams c = among c (Comma ∷ CloseBracket ∷ [])
 follows MoreActionParams c = among c (CloseBracket ∷ [])
 follows Defaults c = among c (Comma ∷ CloseBracket ∷ [])
@@ -126,9 +127,12 @@ follows MorePassed c = among c (CloseBracket ∷ [])
 follows Waiteds c = among c (Comma ∷ CloseBracket ∷ [])
 follows MoreWaiteds c = among c (CloseBracket ∷ [])
 follows Everys c = among c (Name ∷ [])
-follows Args c = among c (Class ∷ Object ∷ ObjectSet ∷ State ∷ Action ∷ Do ∷ If ∷ Else ∷ Endif ∷ Set ∷ MoveTo ∷ TerminateAction ∷ Wait ∷ Comma ∷ CloseBracket ∷ [])
-follows Branches c = among c (Class ∷ Object ∷ ObjectSet ∷ State ∷ Action ∷ Do ∷ If ∷ Else ∷ Endif ∷ Set ∷ MoveTo ∷ TerminateAction ∷ Wait ∷ [])
-follows Arms c = among c (Class ∷ Object ∷ ObjectSet ∷ State ∷ Action ∷ Do ∷ If ∷ Else ∷ Endif ∷ Set ∷ MoveTo ∷ TerminateAction ∷ Wait ∷ [])
+follows Args c = among c (Class ∷ Object ∷ ObjectSet ∷ State ∷ Action ∷ Do ∷ If ∷ Else ∷ Endif ∷ Set ∷ MoveTo
+    ∷ TerminateAction ∷ Wait ∷ Insert ∷ Remove ∷ Comma ∷ CloseBracket ∷ [])
+follows Branches c = among c (Class ∷ Object ∷ ObjectSet ∷ State ∷ Action ∷ Do ∷ If ∷ Else ∷ Endif ∷ Set ∷ MoveTo
+    ∷ TerminateAction ∷ Wait ∷ Insert ∷ Remove ∷ [])
+follows Arms c = among c (Class ∷ Object ∷ ObjectSet ∷ State ∷ Action ∷ Do ∷ If ∷ Else ∷ Endif ∷ Set ∷ MoveTo
+    ∷ TerminateAction ∷ Wait ∷ Insert ∷ Remove ∷ [])
 follows Elses c = among c (Endif ∷ [])
 follows Conds c = among c (CloseBracket ∷ [])
 follows Conjs c = among c (Or ∷ CloseBracket ∷ [])

@@ -1,20 +1,21 @@
 -- The programs of a file's domain fit their classes, and none asks an object of its class.
-use Rattle.std.proofs.Common.{◌≡◌, ◌∙◌, sym, ap, refl, subst, ℕ, ◌<◌, Bool, true, false, List, [], ◌∷◌, ◌++◌, length, map, Option, None, Some, is_some, All, arith}
+use Rattle.std.proofs.Common.{◌≡◌, ◌∙◌, sym, ap, refl, subst, ℕ, ◌<◌, Bool, true, false, List, [], ◌∷◌, ◌++◌, length, map, Option, None, Some, is_some, All, inr, arith}
 use Rattle.std.specs.Prelude.{◌≢◌, option_to_list}
 use Rattle.std.specs.List.{Contains}
 use Rattle.std.proofs.lemmas.List.Elements.{Contains-append_left, Contains-append_right}
 use Rattle.sml_tree.specs.declared.cond.Scope.{Scope}
 use Rattle.sml_tree.specs.declared.cond.Scope.TheVariants.{One, All as AllOf, Any}
-use Rattle.sml_tree.specs.Syntax.{ArgData, SendData, CondData, both, either, neither, test, TestData, WaitedData, InstrData, send, choose, assign, move_to, terminate, wait_for, BlockData, done, step, ItemData, class, object, ClassData, ObjectData, ActionData}
-use Rattle.sml_faults.specs.Sites.{Site, asks, tests, sets, ends, waited_test, waited_site, cond_sites, instr_sites, block_sites}
-use Rattle.sml_faults.specs.Lookup.{of_set}
+use Rattle.sml_tree.specs.Syntax.{ArgData, SendData, CondData, both, either, neither, test, TestData, WaitedData, InstrData, send, choose, assign, move_to, terminate, wait_for, insert_in, remove_from, BlockData, done, step, ItemData, class, object, ClassData, ObjectData, ActionData}
+use Rattle.sml_faults.specs.Sites.{Site, asks, tests, sets, ends, changes, waited_test, waited_site, cond_sites, instr_sites, block_sites}
+use Rattle.sml_faults.specs.Lookup.{of_set, objects_meant}
 use Rattle.sml_faults.specs.Inside.{HasAction, HasSite, DeclaresObject, DeclaresSet, Declares, SpeaksOf}
 use Rattle.sml_faults.specs.Sound.{IsSound}
+use Rattle.sml_faults.proofs.Named.{meant, spoken}
 use Rattle.sml_faults.proofs.Pairs.{contains_here, contains_one, not_false}
 use Rattle.sml_domain.specs.Domain.{Domain, Class, Param}
 use Rattle.sml_domain.specs.Program.{Asked, Program}
-use Rattle.sml_domain.specs.Fits.{kind_at, HasKindOf, DoFits, AskedFits, IsStateName, FormulaFits, ProgramFits}
-use Rattle.sml_domain.specs.Lookups.{members_at}
+use Rattle.sml_domain.specs.Fits.{kind_at, HasKindOf, DoFits, AskedFits, IsStateName, FormulaFits, ChangeFits, ProgramFits}
+use Rattle.sml_domain.specs.Lookups.{may_at}
 use Rattle.sml_domain.specs.Asking.{asked_of, AskedSpares, FormulaSpares, ProgramSpares}
 use Rattle.sml_domain.specs.Trees.{trees_of}
 use Rattle.sml_layout.specs.Numbers.{Names, names_of, place, place_or, number}
@@ -28,7 +29,8 @@ use Rattle.sml_layout.proofs.ObjectRows.{one_name}
 use Rattle.sml_layout.proofs.Places.{own_kind, value_kind}
 use Rattle.sml_layout.proofs.Ranges.{number_within}
 use Rattle.sml_layout.proofs.ClassRanges.{own_params, end_is}
-use Rattle.sml_layout.proofs.RequestRanges.{has_number, do_fits, members_there, object_within, group_within}
+use Rattle.sml_layout.proofs.RequestRanges.{has_number, do_fits, may_there, object_within, group_within}
+use Rattle.sml_layout.proofs.Mays.{may_declared}
 
 none_mapped : {X Y : Type 0} (f : X → Y) (xs : List X) → ((x : X) → Contains xs x → ⊥) → map f xs ≡ []
 none_mapped f [] none = refl
@@ -94,15 +96,18 @@ module _ (file : List ItemData) (d : Domain) (is : IsDomainOf file d) (ok : IsSo
   -- ---- requests
 
   no_targets : (s : SendData) → HasSite file c a (asks s) → place n.actions s.action ≡ None → (all : Bool) → s.all ≡ all → Declares file all s.target →
-      (number n.groups s.target < length d.groups) × (members_at d (number n.groups s.target) ≡ [])
+      (number n.groups s.target < length d.groups) × (may_at d (number n.groups s.target) ≡ [])
   no_targets s site none false all o =
       let some = has_number file d is ok c at a has s site s.target (subst (λ b. SpeaksOf file b s.target s.target) (sym all) refl) o in
       absurd (not_false (sym some ∙ ap is_some none))
   no_targets s site none true all g = (
     group_within file d is ok c at a has s.target g,
-    members_there file d is ok c at a has s.target g
-        ∙ none_mapped (number n.objects) g.0.members
-        (λ t t_at. not_false (sym (has_number file d is ok c at a has s site t (subst (λ b. SpeaksOf file b s.target t) (sym all) (g.0, g.1, g.2, t_at)) (ok.members_are_objects g.0 g.1 t t_at)) ∙ ap is_some none)),
+    may_there file d is ok c at a has s.target g
+        ∙ none_mapped (number n.objects) (objects_meant file true s.target)
+        (λ t t_at.
+        let spoken_of = spoken file true s.target t t_at in
+        not_false (sym (has_number file d is ok c at a has s site t (subst (λ b. SpeaksOf file b s.target t)
+        (sym all) spoken_of) (may_declared file ok s.target t spoken_of)) ∙ ap is_some none)),
   )
 
   request_then : (s : SendData) → HasSite file c a (asks s) → (o : Option ℕ) → place n.actions s.action ≡ o → (rest : Program) → ProgramFits d x given rest → ProgramFits d x given (request n c a s o rest)
@@ -121,6 +126,27 @@ module _ (file : List ItemData) (d : Domain) (is : IsDomainOf file d) (ok : IsSo
       let fits : HasKindOf own given (kind_at own (place_or (class_place c y))) (operand c a v) = record { kind = p.0.kind; param_is = own_kind file ok c at y p.0 p.1 p.2; value_is = value_kind file ok c at a has v p.0.kind p.3 } in
       subst (λ ps. HasKindOf ps given (kind_at ps (place_or (class_place c y))) (operand c a v)) (sym (own_params file d is ok c at x e)) fits
 
+  -- ---- changes of sets
+
+  -- what is inserted is among those that the set may come to have
+  inserted_may : (m s : List ℕ) → HasSite file c a (changes true m s) → DeclaresObject file m
+      → (g : DeclaresSet file s) → Contains (may_at d (number n.groups s)) (number n.objects m)
+  inserted_may m s site o g =
+      subst (λ ks. Contains ks (number n.objects m)) (sym (may_there file d is ok c at a has s g))
+      (contains_map (number n.objects) (objects_meant file true s) m
+      (meant file ok.different true s m
+      (g.0, g.1, g.2, inr (record { own_class = c; own_action = a; site = site; declared = o }))))
+
+  change_fits : (add : Bool) (m s : List ℕ) → HasSite file c a (changes add m s)
+      → ChangeFits d add (number n.objects m) (number n.groups s)
+  change_fits add m s site =
+      let known = ok.changes_are_declared c a add m s site in
+      record {
+        member_is = object_within file d is ok c at a has m known.0;
+        set_is = group_within file d is ok c at a has s known.1;
+        may = λ adds. inserted_may m s (subst (λ b. HasSite file c a (changes b m s)) adds site) known.0 known.1;
+      }
+
   -- ---- blocks
 
   mutual
@@ -133,6 +159,10 @@ module _ (file : List ItemData) (d : Domain) (is : IsDomainOf file d) (ok : IsSo
     instr_fits (move_to s) each rest fits = end_is file d is ok c at x e s (ok.ends_are_states c a s (each (ends s) (contains_here (ends s) [])))
     instr_fits (terminate s) each rest fits = end_is file d is ok c at x e s (ok.ends_are_states c a s (each (ends s) (contains_here (ends s) [])))
     instr_fits (wait_for ws) each rest fits = (waits_fit ws each, fits)
+    instr_fits (insert_in m s) each rest fits =
+        (change_fits true m s (each (changes true m s) (contains_here (changes true m s) [])), fits)
+    instr_fits (remove_from m s) each rest fits =
+        (change_fits false m s (each (changes false m s) (contains_here (changes false m s) [])), fits)
 
     pub block_fits : (b : BlockData) → AreHere (block_sites b) → ProgramFits d x given (program n c a b)
     block_fits done each = tt
@@ -149,7 +179,7 @@ module _ (file : List ItemData) (d : Domain) (is : IsDomainOf file d) (ok : IsSo
     itself = number n.objects o.name
 
     abbrev Spares : Program → Type 0
-    Spares p = ProgramSpares (members_at d) itself p
+    Spares p = ProgramSpares (may_at d) itself p
 
     -- an object that a test speaks of has another number
     other : (t : TestData) → HasSite file c a (tests t) → (y : List ℕ) → SpeaksOf file (of_set t.scope) t.name y → DeclaresObject file y → number n.objects y ≢ itself
@@ -161,26 +191,29 @@ module _ (file : List ItemData) (d : Domain) (is : IsDomainOf file d) (ok : IsSo
     one_spares t site one p asks_it =
         other t site t.name (subst (λ b. SpeaksOf file b t.name t.name) (sym one) refl) p (only (number n.objects t.name) itself asks_it)
 
-    set_spares : (t : TestData) → HasSite file c a (tests t) → of_set t.scope ≡ true → (g : DeclaresSet file t.name) → ¬ Contains (members_at d (number n.groups t.name)) itself
+    set_spares : (t : TestData) → HasSite file c a (tests t) → of_set t.scope ≡ true → (g : DeclaresSet file t.name) → ¬ Contains (may_at d (number n.groups t.name)) itself
     set_spares t site set g asks_it =
-        let m = contains_unmap (number n.objects) g.0.members itself (subst (λ ms. Contains ms itself) (members_there file d is ok c at a has t.name g) asks_it) in
-        other t site m.0 (subst (λ b. SpeaksOf file b t.name m.0) (sym set) (g.0, g.1, g.2, m.1)) (ok.members_are_objects g.0 g.1 m.0 m.1) m.2
+        let m = contains_unmap (number n.objects) (objects_meant file true t.name) itself
+        (subst (λ ms. Contains ms itself) (may_there file d is ok c at a has t.name g) asks_it) in
+        let spoken_of = spoken file true t.name m.0 m.1 in
+        other t site m.0 (subst (λ b. SpeaksOf file b t.name m.0) (sym set) spoken_of)
+        (may_declared file ok t.name m.0 spoken_of) m.2
 
     test_spares : (t : TestData) → HasSite file c a (tests t) → (scope : Scope) → of_set t.scope ≡ of_set scope → Declares file (of_set scope) t.name →
-        ¬ Contains (asked_of (members_at d) (asked n scope t.name)) itself
+        ¬ Contains (asked_of (may_at d) (asked n scope t.name)) itself
     test_spares t site One is_one p = one_spares t site is_one p
     test_spares t site AllOf is_set g = set_spares t site is_set g
     test_spares t site Any is_set g = set_spares t site is_set g
 
-    formula_spares : (f : CondData) → AreHere (cond_sites f) → FormulaSpares (members_at d) itself (formula n f)
+    formula_spares : (f : CondData) → AreHere (cond_sites f) → FormulaSpares (may_at d) itself (formula n f)
     formula_spares (both f g) each = (formula_spares f (left (cond_sites f) (cond_sites g) each), formula_spares g (right (cond_sites f) (cond_sites g) each))
     formula_spares (either f g) each = (formula_spares f (left (cond_sites f) (cond_sites g) each), formula_spares g (right (cond_sites f) (cond_sites g) each))
     formula_spares (neither f) each = formula_spares f each
     formula_spares (test t) each = let site = each (tests t) (contains_here (tests t) []) in test_spares t site t.scope refl (ok.tests_are_declared c a t site)
 
-    waits_spare : (ws : List WaitedData) → AreHere (map waited_site ws) → All (AskedSpares (members_at d) itself) (map (waited_asked n) ws)
+    waits_spare : (ws : List WaitedData) → AreHere (map waited_site ws) → All (AskedSpares (may_at d) itself) (map (waited_asked n) ws)
     waits_spare ws each =
-        each_waited (AskedSpares (members_at d) itself) ws each (λ t site. test_spares t site t.scope refl (ok.tests_are_declared c a t site))
+        each_waited (AskedSpares (may_at d) itself) ws each (λ t site. test_spares t site t.scope refl (ok.tests_are_declared c a t site))
 
     request_spares : (s : SendData) (k : Option ℕ) (rest : Program) → Spares rest → Spares (request n c a s k rest)
     request_spares s None rest spares = spares
@@ -196,6 +229,8 @@ module _ (file : List ItemData) (d : Domain) (is : IsDomainOf file d) (ok : IsSo
       instr_spares (move_to s) each rest spares = tt
       instr_spares (terminate s) each rest spares = tt
       instr_spares (wait_for ws) each rest spares = (waits_spare ws each, spares)
+      instr_spares (insert_in m s) each rest spares = spares
+      instr_spares (remove_from m s) each rest spares = spares
 
       block_spares : (b : BlockData) → AreHere (block_sites b) → Spares (program n c a b)
       block_spares done each = tt

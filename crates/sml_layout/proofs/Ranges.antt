@@ -7,7 +7,8 @@ use Rattle.std.proofs.lemmas.Simd.{map-map}
 use Rattle.std.proofs.lemmas.List.Elements.{All-map}
 use Rattle.sml_tree.specs.Syntax.{ItemData, class, object, group, ClassData, ObjectData, GroupData}
 use Rattle.sml_faults.specs.Sound.{IsSound}
-use Rattle.sml_faults.specs.Inside.{StandsBefore}
+use Rattle.sml_faults.specs.Lookup.{objects_meant}
+use Rattle.sml_faults.specs.Inside.{StandsBefore, DeclaresObject}
 use Rattle.sml_faults.proofs.Pairs.{contains_one}
 use Rattle.sml_domain.specs.Domain.{Domain}
 use Rattle.sml_domain.specs.Names.{same_name, AreDistinct}
@@ -18,7 +19,8 @@ use Rattle.sml_layout.specs.Numbers.{Names, class_list, object_list, group_list,
 use Rattle.sml_layout.specs.Placed.{HasNumber}
 use Rattle.sml_layout.specs.Rows.{ClassRow, class_row, class_shown, object_row, group_row}
 use Rattle.sml_layout.specs.FileDomain.{IsDomainOf}
-use Rattle.sml_layout.proofs.Numbered.{all_from}
+use Rattle.sml_layout.proofs.Numbered.{all_from, contains_map}
+use Rattle.sml_layout.proofs.Mays.{all_declared, members_may}
 use Rattle.sml_layout.proofs.Apart.{only, distinct_apart, apart_flat}
 use Rattle.sml_layout.proofs.PlacedFiles.{class_number, object_number}
 
@@ -79,11 +81,22 @@ module _ (file : List ItemData) (d : Domain) (is : IsDomainOf file d) (ok : IsSo
   pub groups_fit : All (GroupFits d) d.groups
   groups_fit =
       subst (All (GroupFits d)) (sym is.groups)
-      (All-map (GroupFits d) (group_row names) (groups_in file)
-      (all_from (λ g. GroupFits d (group_row names g)) (groups_in file)
-      (λ g at. All-map (IsObject d) (number names.objects) g.members
-      (all_from (λ x. IsObject d (number names.objects x)) g.members
-      (λ x in_it. subst (λ k. number names.objects x < k) object_count (number_within names.objects x (object_number file x (ok.members_are_objects g (group_in file g at) x in_it))))))))
+      (All-map (GroupFits d) (group_row file names) (groups_in file)
+      (all_from (λ g. GroupFits d (group_row file names g)) (groups_in file)
+      (λ g at.
+      let n = number names.objects in
+      let may = objects_meant file true g.name in
+      let object_fits : (x : List ℕ) → DeclaresObject file x
+      → IsObject d (n x) = λ x o. subst (λ k. n x < k) object_count
+      (number_within names.objects x (object_number file x o)) in
+      record {
+        members = All-map (IsObject d) n g.members (all_from (λ x. IsObject d (n x)) g.members
+            (λ x in_it. object_fits x (ok.members_are_objects g (group_in file g at) x in_it)));
+        may = All-map (IsObject d) n may (all_from (λ x. IsObject d (n x)) may
+            (λ x in_it. object_fits x (all_declared file ok g.name x in_it)));
+        some = All-map (Contains (map n may)) n g.members (all_from (λ x. Contains (map n may) (n x)) g.members
+            (λ x in_it. contains_map n may x (members_may file ok g (group_in file g at) x in_it)));
+      })))
 
   one_object : (i : ItemData) → AreDistinct (map object_name (object_list i))
   one_object (class c) = tt
@@ -128,7 +141,8 @@ module _ (file : List ItemData) (d : Domain) (is : IsDomainOf file d) (ok : IsSo
   groups_apart = apart_flat group_name group_list file one_group two_groups
 
   pub group_count : length names.groups ≡ length d.groups
-  group_count = length-map (groups_in file) group_name ∙ sym (length-map (groups_in file) (group_row names)) ∙ sym (ap length is.groups)
+  group_count = length-map (groups_in file) group_name ∙ sym (length-map (groups_in file) (group_row file names))
+      ∙ sym (ap length is.groups)
 
   pub classes_apart : AreDistinct (map class_name (classes_in file))
   classes_apart = apart_flat class_name class_list file one_class two_classes
@@ -145,7 +159,8 @@ module _ (file : List ItemData) (d : Domain) (is : IsDomainOf file d) (ok : IsSo
   one_number = record {
     objects = subst AreDistinct (sym (ap (map name_of_object) is.objects ∙ map-map name_of_object (object_row names) (objects_in file))) objects_apart;
     classes = subst AreDistinct (sym class_names) classes_apart;
-    groups = subst AreDistinct (sym (ap (map name_of_group) is.groups ∙ map-map name_of_group (group_row names) (groups_in file))) groups_apart;
+    groups = subst AreDistinct (sym (ap (map name_of_group) is.groups
+        ∙ map-map name_of_group (group_row file names) (groups_in file))) groups_apart;
     states = subst AreDistinct (sym is.states) (distinct_apart (flat_map names_of_states (classes_in file) ++ added_names (classes_in file)));
     actions = subst AreDistinct (sym is.actions) (distinct_apart (flat_map names_of_actions (classes_in file)));
   }

@@ -8,16 +8,16 @@ use Rattle.std.proofs.lemmas.Simd.{map-map}
 use Rattle.std.proofs.lemmas.List.Elements.{All-map}
 use Rattle.sml_tree.specs.Syntax.{PassedData, SendData, ItemData, class, group, ClassData, ActionData, ActionParamData}
 use Rattle.sml_faults.specs.Sites.{asks}
-use Rattle.sml_faults.specs.Lookup.{actions, is_action, is_action_param}
+use Rattle.sml_faults.specs.Lookup.{actions, is_action, is_action_param, objects_meant}
 use Rattle.sml_faults.specs.Inside.{HasAction, HasSite, DeclaresObject, DeclaresSet, Declares, SpeaksOf, Sends, AsksFor}
 use Rattle.sml_faults.specs.Laws as laws
 use Rattle.sml_faults.specs.Sound.{IsSound}
 use Rattle.sml_faults.proofs.Pairs.{any_at, named_same, not_named, same_names, or_true, contains_all, contains_here}
-use Rattle.sml_faults.proofs.Named.{finds, found_there, Found}
+use Rattle.sml_faults.proofs.Named.{finds, found_there, Found, spoken}
 use Rattle.sml_domain.specs.Domain.{Domain, Param}
 use Rattle.sml_domain.specs.Names.{AreDistinct}
 use Rattle.sml_domain.specs.Fits.{param_kind, kind_named, names_param, names_argument, ArgumentFits, ArgumentsFit, IsGiven, RequestFits, SendFits, name_of_argument, ArgumentHasKind, DoFits}
-use Rattle.sml_domain.specs.Lookups.{params_at, members_at, members_of_group}
+use Rattle.sml_domain.specs.Lookups.{params_at, may_at, may_of_group}
 use Rattle.sml_domain.specs.Values.{value_of}
 use Rattle.sml_domain.proofs.Finds.{find_map}
 use Rattle.sml_layout.specs.Numbers.{Names, names_of, names_of_actions, action_name, group_name, group_list, groups_in, place, number}
@@ -28,6 +28,7 @@ use Rattle.sml_layout.specs.FileDomain.{IsDomainOf}
 use Rattle.sml_layout.proofs.Alike.{got_map, some_map}
 use Rattle.sml_layout.proofs.Numbered.{contains_map, all_from}
 use Rattle.sml_layout.proofs.Apart.{apart_map}
+use Rattle.sml_layout.proofs.Mays.{may_declared}
 use Rattle.sml_layout.proofs.Places.{value_kind}
 use Rattle.sml_layout.proofs.ObjectRows.{params_there, stands_there}
 use Rattle.sml_layout.proofs.PlacedFiles.{object_number, group_number, action_number}
@@ -109,14 +110,17 @@ module _ (file : List ItemData) (d : Domain) (is : IsDomainOf file d) (ok : IsSo
 
   -- ---- sets
 
-  -- the members of a set, by the number of its name
-  pub members_there : (x : List ℕ) (g : DeclaresSet file x) → members_at d (number n.groups x) ≡ map (number n.objects) g.0.members
-  members_there x g =
-      ap (λ y. members_at d (number n.groups y)) (sym g.2)
-      ∙ ap (λ gs. option_map_or members_of_group (slice_get gs (number n.groups g.0.name)) []) is.groups
-      ∙ ap (λ r. option_map_or members_of_group r [])
-      (got_map (group_row n) (groups_in file) (number n.groups g.0.name)
-      ∙ ap (option_map (group_row n)) (stands_there group_name (groups_in file) g.0 (groups_apart file d is ok) (contains_all group_list file (group g.0) g.0 g.1 (contains_here g.0 []))))
+  -- what a set may come to have, by the number of its name
+  pub may_there : (x : List ℕ) (g : DeclaresSet file x) → may_at d (number n.groups x)
+      ≡ map (number n.objects) (objects_meant file true x)
+  may_there x g =
+      ap (λ y. may_at d (number n.groups y)) (sym g.2)
+      ∙ ap (λ gs. option_map_or may_of_group (slice_get gs (number n.groups g.0.name)) []) is.groups
+      ∙ ap (λ r. option_map_or may_of_group r [])
+      (got_map (group_row file n) (groups_in file) (number n.groups g.0.name)
+      ∙ ap (option_map (group_row file n)) (stands_there group_name (groups_in file) g.0 (groups_apart file d is ok)
+      (contains_all group_list file (group g.0) g.0 g.1 (contains_here g.0 []))))
+      ∙ ap (λ y. map (number n.objects) (objects_meant file true y)) g.2
 
   pub object_within : (x : List ℕ) → DeclaresObject file x → number n.objects x < length d.objects
   object_within x o = subst (λ k. number n.objects x < k) (object_count file d is ok) (number_within n.objects x (object_number file x o))
@@ -129,10 +133,15 @@ module _ (file : List ItemData) (d : Domain) (is : IsDomainOf file d) (ok : IsSo
   send_fits s site false e o = (object_within s.target o, request_fits s site s.target (subst (λ b. SpeaksOf file b s.target s.target) (sym e) refl) o)
   send_fits s site true e g = (
     group_within s.target g,
-    subst (All (RequestFits d own given (number n.actions s.action) (map (argument c a) s.args))) (sym (members_there s.target g))
-        (All-map (RequestFits d own given (number n.actions s.action) (map (argument c a) s.args)) (number n.objects) g.0.members
-        (all_from (λ t. RequestFits d own given (number n.actions s.action) (map (argument c a) s.args) (number n.objects t)) g.0.members
-        (λ t t_at. request_fits s site t (subst (λ b. SpeaksOf file b s.target t) (sym e) (g.0, g.1, g.2, t_at)) (ok.members_are_objects g.0 g.1 t t_at)))),
+    subst (All (RequestFits d own given (number n.actions s.action) (map (argument c a) s.args)))
+        (sym (may_there s.target g))
+        (All-map (RequestFits d own given (number n.actions s.action) (map (argument c a) s.args)) (number n.objects)
+        (objects_meant file true s.target)
+        (all_from (λ t. RequestFits d own given (number n.actions s.action) (map (argument c a) s.args)
+        (number n.objects t)) (objects_meant file true s.target)
+        (λ t t_at. let spoken_of = spoken file true s.target t t_at in request_fits s site t
+        (subst (λ b. SpeaksOf file b s.target t) (sym e) spoken_of)
+        (may_declared file ok s.target t spoken_of)))),
   )
 
   -- a request whose action has a number

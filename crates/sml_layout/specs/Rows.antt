@@ -1,7 +1,7 @@
 -- The parts of a domain that the items of a file say, with programs for the numbers of blocks.
-use Rattle.std.specs.Prelude.{ℕ, Bool, List, [], ◌∷◌, ◌++◌, Option, Some, None, map, option_map, find, if◌then◌else◌}
-use Rattle.sml_tree.specs.Syntax.{ClassData, ObjectData, GroupData, StateData, ActionData, ClassParamData, ActionParamData}
-use Rattle.sml_faults.specs.Lookup.{first, dead_name, adds_dead, action_named}
+use Rattle.std.specs.Prelude.{ℕ, Bool, true, List, [], ◌∷◌, ◌++◌, Option, Some, None, map, option_map, find, if◌then◌else◌}
+use Rattle.sml_tree.specs.Syntax.{ItemData, ClassData, ObjectData, GroupData, StateData, ActionData, ClassParamData, ActionParamData}
+use Rattle.sml_faults.specs.Lookup.{first, dead_name, adds_dead, action_named, objects_meant}
 use Rattle.sml_faults.specs.Heads.{is_initial, is_marked_dead}
 use Rattle.sml_domain.specs.Values.{value_of}
 use Rattle.sml_domain.specs.Names.{distinct}
@@ -139,6 +139,11 @@ class_shown known x = record {
 abbrev pub object_row : Names → ObjectData → Object
 object_row n o = record { name = o.name; class = number n.classes o.class }
 
--- a set with the numbers of its members
-abbrev pub group_row : Names → GroupData → Group
-group_row n g = record { name = g.name; members = map (number n.objects) g.members }
+-- a set of a file with the numbers of its members, and of all that it may come to have
+abbrev pub group_row : List ItemData → Names → GroupData → Group
+group_row file n g = record {
+  name = g.name;
+  members = map (number n.objects) g.members;
+  may =
+      map (number n.objects) (objects_meant file true g.name);
+}

@@ -1,13 +1,14 @@
 //! The objects and the sets of a domain.
 ghost use Rattle.std.specs.Prelude.{◌≡◌, ◌++◌, All, IfOk, OnOk, map};
-ghost use Rattle.sml_tree.specs.Content.{item_content};
+ghost use Rattle.sml_tree.specs.Content.{file_content, item_content};
 ghost use Rattle.sml_layout.specs.Numbers.{number, object_list, objects_in, group_list, groups_in};
-ghost use Rattle.sml_layout.specs.Placed.{HasNumber, ItemPlaced, FilePlaced};
+ghost use Rattle.sml_layout.specs.Placed.{HasNumber, ItemPlaced, FilePlaced, MayPlaced};
 ghost use Rattle.sml_layout.specs.Rows.{object_row, group_row};
 
 use crate::names::Names;
 use sml_domain::ids::ObjId;
 use sml_domain::rows::{Group, Object};
+use sml_faults::Tables;
 use sml_tree::file::Item;
 use sml_tree::name::Name;
 use std::alloc::{AllocError, Allocator, Global};
@@ -47,54 +48,59 @@ pub fn object_rows<A: Allocator + Clone>(
     Ok(made)
 }
 
-// The numbers of the members of a set.
-fn members<A: Allocator + Clone>(
-    alloc: Global,
-    names: &Names,
-    members: &Vec<Name, A>,
-) -> Result<Vec<ObjId>, AllocError>
-    requires { All (HasNumber names.now.objects) members.now.items }
-    ensures { IfOk result (λ v. v.items ≡ map (number names.now.objects) members.now.items) }
+// The numbers of some objects.
+fn numbers(alloc: Global, names: &Names, objects: &[Name]) -> Result<Vec<ObjId>, AllocError>
+    requires { All (HasNumber names.now.objects) objects.now }
+    ensures { IfOk result (λ v. v.items ≡ map (number names.now.objects) objects.now) }
 {
     let mut made = Vec::new(alloc);
-    for member in members {
-        made.push(names.object(member))?;
+    for object in objects {
+        made.push(names.object(object))?;
     }
     Ok(made)
 }
 
-// Adds a set, where an item is one.
+// Adds a set of a file, where an item is one.
 fn add_group<A: Allocator + Clone>(
     alloc: Global,
     made: &mut Vec<Group>,
     names: &Names,
+    tables: &Tables<'_, A>,
     item: &Item<A>,
 ) -> Result<(), AllocError>
-    requires { ItemPlaced names.now (item_content item.now) }
-    ensures { OnOk result (made.new.items ≡ made.old.items ++ map (group_row names.now) (group_list (item_content item.now))) }
+    requires item { ItemPlaced names.now (item_content item.now) }
+    requires may { MayPlaced names.now (file_content tables.now.file.now) }
+    ensures { OnOk result (made.new.items ≡ made.old.items
+        ++ map (group_row (file_content tables.now.file.now) names.now) (group_list (item_content item.now))) }
 {
     if let Item::Group(group) = item {
-        let members = members(alloc, names, &group.members)?;
+        let members = numbers(alloc, names, &group.members)?;
+        let may = numbers(alloc, names, tables.objects_meant(true, &group.name))?;
         made.push(Group {
             name: group.name,
             members,
+            may,
         })?;
     }
     Ok(())
 }
 
-/// The sets with the numbers of their members. The cost is the count of members times that of objects.
+/// The sets of a file with the numbers of their members, and of all that they may come to have. The cost is the count
+/// of these times that of objects.
 pub fn group_rows<A: Allocator + Clone>(
     alloc: Global,
     names: &Names,
+    tables: &Tables<'_, A>,
     items: &[Item<A>],
 ) -> Result<Vec<Group>, AllocError>
-    requires { FilePlaced names.now (map item_content items.now) }
-    ensures { IfOk result (λ v. v.items ≡ map (group_row names.now) (groups_in (map item_content items.now))) }
+    requires items { FilePlaced names.now (map item_content items.now) }
+    requires may { MayPlaced names.now (file_content tables.now.file.now) }
+    ensures { IfOk result (λ v. v.items ≡ map (group_row (file_content tables.now.file.now) names.now)
+        (groups_in (map item_content items.now))) }
 {
     let mut made = Vec::new(alloc);
     for item in items {
-        add_group(alloc, &mut made, names, item)?;
+        add_group(alloc, &mut made, names, tables, item)?;
     }
     Ok(made)
 }

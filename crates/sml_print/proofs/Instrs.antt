@@ -1,14 +1,14 @@
 -- What instructions say.
 use Rattle.std.proofs.Common.{◌≡◌, ◌∙◌, sym, ap, Bool, Vec, map}
-use Rattle.sml_tree.specs.Syntax.{InstrData, BlockData, send, assign, move_to, terminate, wait_for}
+use Rattle.sml_tree.specs.Syntax.{InstrData, BlockData, send, assign, move_to, terminate, wait_for, insert_in, remove_from}
 use Rattle.sml_tree.specs.Content.{instr_content, arg_content, passed_content, waited_content, instr_step, block_step}
 use Rattle.sml_tree.specs.declared.literal.Arg.{Arg}
 use Rattle.sml_tree.specs.declared.literal.Passed.{Passed}
 use Rattle.sml_tree.specs.declared.name.Name.{Name}
 use Rattle.sml_tree.specs.declared.block.Waited.{Waited}
-use Rattle.sml_tree.specs.declared.block.Instr.{Do, Set, MoveTo, Terminate, Wait}
+use Rattle.sml_tree.specs.declared.block.Instr.{Do, Set, MoveTo, Terminate, Wait, Insert, Remove}
 use Rattle.sml_tree.specs.declared.block.Instr.TheOpen.{Instr-F}
-use Rattle.sml_tree.specs.declared.block.Instr.TheViews.{rolls-Do, rolls-Set, rolls-MoveTo, rolls-Terminate, rolls-Wait}
+use Rattle.sml_tree.specs.declared.block.Instr.TheViews.{rolls-Do, rolls-Set, rolls-MoveTo, rolls-Terminate, rolls-Wait, rolls-Insert, rolls-Remove}
 use Rattle.sml_tree.specs.declared.block.Instr.TheFolds.{fold-roll-Instr}
 
 pub says_Do : {A : Type 0} (action : Name) (args : Vec (Passed A) A) (all : Bool) (target : Name)
@@ -26,3 +26,11 @@ says_Terminate A s = ap (instr_content {A = A}) (sym (rolls-Terminate s)) ∙ fo
 
 pub says_Wait : {A : Type 0} (ws : Vec Waited A) → instr_content (Wait ws) ≡ wait_for (map waited_content ws.items)
 says_Wait {A} ws = ap (instr_content {A = A}) (sym (rolls-Wait ws)) ∙ fold-roll-Instr A InstrData BlockData instr_step block_step (Instr-F.Wait ws)
+
+pub says_Insert : (A : Type 0) (member set : Name) → instr_content {A = A} (Insert member set) ≡ insert_in member set
+says_Insert A member set = ap (instr_content {A = A}) (sym (rolls-Insert member set))
+    ∙ fold-roll-Instr A InstrData BlockData instr_step block_step (Instr-F.Insert member set)
+
+pub says_Remove : (A : Type 0) (member set : Name) → instr_content {A = A} (Remove member set) ≡ remove_from member set
+says_Remove A member set = ap (instr_content {A = A}) (sym (rolls-Remove member set))
+    ∙ fold-roll-Instr A InstrData BlockData instr_step block_step (Instr-F.Remove member set)

@@ -1,6 +1,6 @@
 -- The canonical text of instructions.
 use Rattle.std.specs.Prelude.{ℕ, Bool, true, false, List, [], ◌++◌, codes}
-use Rattle.sml_tree.specs.Syntax.{ArgData, SendData, WaitedData, InstrData, BlockData, send, choose, assign, move_to, terminate, wait_for, done, step}
+use Rattle.sml_tree.specs.Syntax.{ArgData, SendData, WaitedData, InstrData, BlockData, send, choose, assign, move_to, terminate, wait_for, insert_in, remove_from, done, step}
 use Rattle.sml_print.specs.Words.{indent, deeper, listed, bracket_list, passed_text, arg_text}
 use Rattle.sml_print.specs.Conditions.{cond_text}
 
@@ -29,6 +29,10 @@ waited_text w = every_text w.all ++ w.name
 abbrev pub wait_text : List WaitedData → List ℕ
 wait_text waited = codes "wait ( " ++ (listed waited_text waited ++ codes " )\n")
 
+-- an instruction that changes a set: its word, the object, the word between them, the set
+abbrev pub change_text : List ℕ → List ℕ → List ℕ → List ℕ → List ℕ
+change_text word member between set = word ++ (member ++ (between ++ (set ++ codes "\n")))
+
 -- the second block of an `if`, which is left out where it is empty
 abbrev pub else_text : ℕ → BlockData → List ℕ → List ℕ
 else_text level done text = []
@@ -45,6 +49,8 @@ abbrev mutual
   instr_text level (move_to state) = indent level ++ towards_text (codes "move_to ") state
   instr_text level (terminate state) = indent level ++ towards_text (codes "terminate_action /state=") state
   instr_text level (wait_for waited) = indent level ++ wait_text waited
+  instr_text level (insert_in member set) = indent level ++ change_text (codes "insert ") member (codes " in ") set
+  instr_text level (remove_from member set) = indent level ++ change_text (codes "remove ") member (codes " from ") set
 
   -- instructions, so many levels in
   pub block_text : ℕ → BlockData → List ℕ

@@ -116,6 +116,26 @@ fn tell_wait<S: Sink, A: Allocator + Clone>(
     tell(sink, failed, b" )\n");
 }
 
+// An instruction that changes a set: its word, the object, the word between them, the set.
+fn tell_change<S: Sink>(
+    sink: &mut S,
+    failed: &mut bool,
+    word: &[u8],
+    member: &Name,
+    between: &[u8],
+    set: &Name,
+)
+    ensures told { Told (S.contents sink.old) failed.old (S.contents sink.new) failed.new
+        (text.change_text word.now member.now between.now set.now) }
+    ensures due { StaysDue (S.has_refused sink.old) failed.old (S.has_refused sink.new) failed.new }
+{
+    tell(sink, failed, word);
+    tell_name(sink, failed, member);
+    tell(sink, failed, between);
+    tell_name(sink, failed, set);
+    tell(sink, failed, b"\n");
+}
+
 // An instruction, so many levels in.
 #[cycle(blocks)]
 fn tell_instr<S: Sink, A: Allocator + Clone>(
@@ -150,6 +170,12 @@ fn tell_instr<S: Sink, A: Allocator + Clone>(
             tell_towards(sink, failed, b"terminate_action /state=", state)
         }
         Instr::Wait(waited) => tell_wait(sink, failed, waited),
+        Instr::Insert { member, set } => {
+            tell_change(sink, failed, b"insert ", member, b" in ", set)
+        }
+        Instr::Remove { member, set } => {
+            tell_change(sink, failed, b"remove ", member, b" from ", set)
+        }
     }
 }
 

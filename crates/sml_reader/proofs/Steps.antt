@@ -1,9 +1,9 @@
 -- What is read of an instruction, by the tokens and parts that were read of it.
 use Rattle.std.proofs.Common.{◌≡◌, ◌<◌, ◌≤◌, ℕ, Bool, List, ◌∷◌, refl, ap, subst, ◌∙◌, length, arith}
 use Rattle.sml_tree.specs.declared.token_kind.TokenKind.{TokenKind}
-use Rattle.sml_tree.specs.declared.token_kind.TokenKind.TheVariants.{Do, Set, MoveTo, TerminateAction, Slash, State, Equals, Name}
+use Rattle.sml_tree.specs.declared.token_kind.TokenKind.TheVariants.{Do, Set, MoveTo, TerminateAction, Insert, Remove, In, From, Slash, State, Equals, Name}
 use Rattle.sml_tree.specs.Piece.{Piece}
-use Rattle.sml_tree.specs.Syntax.{InstrData, PassedData, ArgData, send, assign, move_to, terminate}
+use Rattle.sml_tree.specs.Syntax.{InstrData, PassedData, ArgData, send, assign, move_to, terminate, insert_in, remove_from}
 use Rattle.sml_tree.specs.Grammar.{name}
 use Rattle.sml_tree.specs.Form.{Block, ArgList, Every, Arg, Bone, P}
 use Rattle.sml_tree.specs.Form as of
@@ -48,4 +48,24 @@ sends d i action target args all t n m old u v x y new e sees read is passes eve
     let kind = seen Do t old u e sees in (
       omega (arith, ap length e, ap length read.0, passes.0, every.0, ap length aim.0),
       λ p more k. rw (e, read.0, kind, says, is, is') (rw read.1 (passes.1 p _ _ ∙ every.1 p _ _ ∙ rw aim.0 (rw aim.1 refl))),
+    )
+
+pub inserts : (d : ℕ) (i : InstrData) (member set : List ℕ) (t n a m : Piece) (old u v x new : List Piece) → old ≡ t
+    ∷ u → SeesKind Insert old
+    → Taken Name n u v → member ≡ name n → Taken In a v x → Taken Name m x new → set ≡ name m → i
+    ≡ insert_in member set → Front d i old new
+inserts d i member set t n a m old u v x new e sees read is word aim is' says =
+    let kind = seen Insert t old u e sees in (
+      omega (arith, ap length e, ap length read.0, ap length word.0, ap length aim.0),
+      λ p more k. rw (e, read.0, word.0, aim.0, kind, says, is, is') (rw (read.1, word.1, aim.1) refl),
+    )
+
+pub removes : (d : ℕ) (i : InstrData) (member set : List ℕ) (t n a m : Piece) (old u v x new : List Piece) → old ≡ t
+    ∷ u → SeesKind Remove old
+    → Taken Name n u v → member ≡ name n → Taken From a v x → Taken Name m x new → set ≡ name m → i
+    ≡ remove_from member set → Front d i old new
+removes d i member set t n a m old u v x new e sees read is word aim is' says =
+    let kind = seen Remove t old u e sees in (
+      omega (arith, ap length e, ap length read.0, ap length word.0, ap length aim.0),
+      λ p more k. rw (e, read.0, word.0, aim.0, kind, says, is, is') (rw (read.1, word.1, aim.1) refl),
     )

@@ -127,6 +127,20 @@ pub fn wait<A: Allocator + Clone>(waited: Vec<Waited, A>) -> Instr<A>
     Instr::Wait(waited)
 }
 
+/// An `insert`.
+pub fn insert<A: Allocator + Clone>(member: Name, set: Name) -> Instr<A>
+    ensures { instr_content result ≡ said.insert_in member set }
+{
+    Instr::Insert { member, set }
+}
+
+/// A `remove`.
+pub fn remove<A: Allocator + Clone>(member: Name, set: Name) -> Instr<A>
+    ensures { instr_content result ≡ said.remove_from member set }
+{
+    Instr::Remove { member, set }
+}
+
 /// Two conditions that stand in memory.
 #[derive(Drop)]
 struct Pair<A: Allocator + Clone> {

@@ -161,6 +161,30 @@ impl Reader<'_> {
         Ok(make::wait(waited))
     }
 
+    /// An `insert`, whose word stands in front.
+    fn insertion<A: Allocator + Clone>(&mut self, depth: u32) -> Result<Instr<A>, Stop>
+        requires { SeesKind kinds.Insert self.old }
+        ensures { ReadsFront (Block' depth) (Block' depth) (λ i v. instr_content i ∷ v) self.old self.new result }
+    {
+        self.take();
+        let member = self.named()?;
+        self.sign(TokenKind::In)?;
+        let set = self.named()?;
+        Ok(make::insert(member, set))
+    }
+
+    /// A `remove`, whose word stands in front.
+    fn removal<A: Allocator + Clone>(&mut self, depth: u32) -> Result<Instr<A>, Stop>
+        requires { SeesKind kinds.Remove self.old }
+        ensures { ReadsFront (Block' depth) (Block' depth) (λ i v. instr_content i ∷ v) self.old self.new result }
+    {
+        self.take();
+        let member = self.named()?;
+        self.sign(TokenKind::From)?;
+        let set = self.named()?;
+        Ok(make::remove(member, set))
+    }
+
     /// The next instruction of a block, where one stands there that is no `if`.
     pub fn plain<A: Allocator + Clone>(
         &mut self,
@@ -176,6 +200,8 @@ impl Reader<'_> {
             Some(TokenKind::MoveTo) => make::found(self.movement(depth)),
             Some(TokenKind::TerminateAction) => make::found(self.termination(depth)),
             Some(TokenKind::Wait) => make::found(self.waiting(alloc, depth)),
+            Some(TokenKind::Insert) => make::found(self.insertion(depth)),
+            Some(TokenKind::Remove) => make::found(self.removal(depth)),
             _ => Ok(None),
         }
     }

@@ -3,7 +3,7 @@ use Rattle.std.proofs.Common.{◌≡◌, ◌≤◌, ℕ, zero, suc, ◌+◌, Boo
 use Rattle.std.specs.List.{AllByRecursion}
 use Rattle.sml_text.specs.declared.source.Sign.TheVariants as sign
 use Rattle.sml_tree.specs.declared.token_kind.TokenKind.TheVariants as kind
-use Rattle.sml_tree.specs.Syntax.{ArgData, SendData, WaitedData, CondData, InstrData, BlockData, send, choose, assign, move_to, terminate, wait_for, done as no_more, step}
+use Rattle.sml_tree.specs.Syntax.{ArgData, SendData, WaitedData, CondData, InstrData, BlockData, send, choose, assign, move_to, terminate, wait_for, insert_in, remove_from, done as no_more, step}
 use Rattle.sml_tree.specs.Content.{block_of}
 use Rattle.sml_tree.specs.Form as of
 use Rattle.sml_tree.specs.Form.{Bone, Form, gives, Part, Value, Two}
@@ -12,7 +12,7 @@ use Rattle.sml_tree.specs.Inside.{block_conditions}
 use Rattle.sml_tree.proofs.Marks.{all_front, all_back}
 use Rattle.sml_print.specs.Words.{indent, deeper, comma_text, bracket_list, passed_text, arg_text}
 use Rattle.sml_print.specs.Conditions.{cond_text}
-use Rattle.sml_print.specs.Blocks.{every_text, send_text, assign_text, towards_text, waited_text, wait_text, else_text, instr_text, block_text}
+use Rattle.sml_print.specs.Blocks.{every_text, send_text, assign_text, towards_text, waited_text, wait_text, change_text, else_text, instr_text, block_text}
 use Rattle.sml_round_trip.specs.Writable.{IsName, IsArg, IsWaited, IsWritableCond, IsWritableSend, IsWritableBlock}
 use Rattle.sml_round_trip.proofs.Says.{Anywhere, Say, Wrote, say_end, say_blank, say_part, say_last, say_grouped, wrote_by, wrote_none, say_spelled}
 use Rattle.sml_round_trip.proofs.Words.{say_word, say_name, say_sign}
@@ -109,6 +109,36 @@ wait_wrote d level w ws text is h k b =
     (say_part (more_waited 1 ws k) (λ more e. refl)
     (say_blank refl refl (say_sign sign.CloseBracket tt (λ at. refl) (say_blank refl refl (say_last b refl)))))))))))))
 
+insert_wrote : (d level : ℕ) (member set text : List ℕ) (is : List InstrData) → IsName member → IsName set
+    → BlockWrote d text is
+    → BlockWrote d (instr_text level (insert_in member set) ++ text) (insert_in member set ∷ is)
+insert_wrote d level member set text is h k b =
+    wrote_by _ (inr (inr (inr (inr (inr (inr (inl refl)))))))
+    (say_grouped (indent level) (change_text (codes "insert ") member (codes " in ") set) text
+    (indented level
+    (say_word (codes "insert") kind.Insert refl refl tt (λ rest e. refl) (λ at. refl)
+    (say_blank refl refl
+    (say_spelled _ (member ++ (codes " in " ++ (set ++ (codes "\n" ++ text)))) (simp append_assoc)
+    (say_name member h (λ more e. refl) (λ at. refl)
+    (say_blank refl refl
+    (say_word (codes "in") kind.In refl refl tt (λ rest e. refl) (λ at. refl)
+    (say_blank refl refl (say_name set k (λ more e. refl) (λ at. refl) (say_blank refl refl (say_last b refl))))))))))))
+
+remove_wrote : (d level : ℕ) (member set text : List ℕ) (is : List InstrData) → IsName member → IsName set
+    → BlockWrote d text is
+    → BlockWrote d (instr_text level (remove_from member set) ++ text) (remove_from member set ∷ is)
+remove_wrote d level member set text is h k b =
+    wrote_by _ (inr (inr (inr (inr (inr (inr (inr (inl refl))))))))
+    (say_grouped (indent level) (change_text (codes "remove ") member (codes " from ") set) text
+    (indented level
+    (say_word (codes "remove") kind.Remove refl refl tt (λ rest e. refl) (λ at. refl)
+    (say_blank refl refl
+    (say_spelled _ (member ++ (codes " from " ++ (set ++ (codes "\n" ++ text)))) (simp append_assoc)
+    (say_name member h (λ more e. refl) (λ at. refl)
+    (say_blank refl refl
+    (say_word (codes "from") kind.From refl refl tt (λ rest e. refl) (λ at. refl)
+    (say_blank refl refl (say_name set k (λ more e. refl) (λ at. refl) (say_blank refl refl (say_last b refl))))))))))))
+
 else_wrote : (d level : ℕ) (b : BlockData) (text : List ℕ) → BlockWrote d text (instrs_of b) → Wrote false Anywhere (of.Else d) (else_text level b text) (instrs_of b)
 else_wrote d level no_more text h = wrote_none refl
 else_wrote d level (step i b) text h = wrote_by _ (inl refl) (indented level (say_word (codes "else") kind.Else refl refl tt (λ rest e. refl) (λ at. refl) (say_blank refl refl (say_last h refl))))
@@ -169,3 +199,7 @@ block_wrote d level (step (move_to state) b) h few = move_wrote d level state _ 
 block_wrote d level (step (terminate state) b) h few = terminate_wrote d level state _ _ h.0 (block_wrote d level b h.1 few)
 block_wrote d level (step (wait_for []) b) h few = let some = (h.0).0 in absurd (omega (arith, some))
 block_wrote d level (step (wait_for (w ∷ ws)) b) h few = let named = (h.0).1 in wait_wrote d level w ws _ _ named.0 named.1 (block_wrote d level b h.1 few)
+block_wrote d level (step (insert_in member set) b) h few = insert_wrote d level member set _ _ (h.0).0 (h.0).1
+    (block_wrote d level b h.1 few)
+block_wrote d level (step (remove_from member set) b) h few = remove_wrote d level member set _ _ (h.0).0 (h.0).1
+    (block_wrote d level b h.1 few)

@@ -97,6 +97,8 @@ all_writable (of.Block d) = (
       ⨾ (λ _ _ _ t e r block y. (name_real t e r, y))
       ⨾ (λ _ _ _ _ _ _ _ _ _ _ _ _ t e r block y. (name_real t e r, y))
       ⨾ (λ _ _ _ _ _ _ first x others y _ _ _ block z. ((omega arith, (x, y)), z))
+      ⨾ (λ _ _ _ t e r _ _ _ u i q block y. ((name_real t e r, name_real u i q), y))
+      ⨾ (λ _ _ _ t e r _ _ _ u i q block y. ((name_real t e r, name_real u i q), y))
       ⨾ tt,
 )
 all_writable of.ArgList = (tt, (λ _ _ _ first x others y _ _ _. (x, y), tt))

@@ -5,7 +5,7 @@ use Rattle.sml_text.specs.Bytes.{is_word, is_string_byte, folded}
 use Rattle.sml_text.specs.Tokens.{IsLong, Each}
 use Rattle.sml_tree.specs.declared.token_kind.TokenKind.TheVariants.{Name}
 use Rattle.sml_tree.specs.Piece.{word_kind}
-use Rattle.sml_tree.specs.Syntax.{LiteralData, int, str, ArgData, lit, param, PassedData, WaitedData, TestData, CondData, both, either, neither, test, SendData, InstrData, BlockData, send, choose, assign, move_to, terminate, wait_for, done, step, ClassParamData, ActionParamData, ActionData, StateData, ClassData, ItemData, class, object, group}
+use Rattle.sml_tree.specs.Syntax.{LiteralData, int, str, ArgData, lit, param, PassedData, WaitedData, TestData, CondData, both, either, neither, test, SendData, InstrData, BlockData, send, choose, assign, move_to, terminate, wait_for, insert_in, remove_from, done, step, ClassParamData, ActionParamData, ActionData, StateData, ClassData, ItemData, class, object, group}
 use Rattle.sml_text.specs.declared.limits.TheConstants.{LONGEST_STRING}
 
 -- a word in upper case that is not reserved
@@ -64,6 +64,8 @@ abbrev mutual
   IsWritableInstr (move_to state) = IsName state
   IsWritableInstr (terminate state) = IsName state
   IsWritableInstr (wait_for waited) = IsWritableWait waited
+  IsWritableInstr (insert_in member set) = IsName member × IsName set
+  IsWritableInstr (remove_from member set) = IsName member × IsName set
 
   -- a block, by its instructions
   pub IsWritableBlock : BlockData → Type 0

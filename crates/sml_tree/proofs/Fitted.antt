@@ -112,6 +112,8 @@ fitted (of.Block d) = (
       ⨾ (λ _ _ _ _ _ _ block _ y. let f = y.0 in (omega (arith, f), y.1, y.2, y.3))
       ⨾ (λ _ _ _ _ _ _ _ _ _ _ _ _ _ _ _ block _ y. let f = y.0 in (omega (arith, f), y.1, y.2, y.3))
       ⨾ (λ _ _ _ _ _ _ first _ p others _ q _ _ _ block _ y. let f = y.0 in (omega (arith, f), y.1, y.2, (omega (arith, q), y.3)))
+      ⨾ (λ _ _ _ _ _ _ _ _ _ _ _ _ block _ y. let f = y.0 in (omega (arith, f), y.1, y.2, y.3))
+      ⨾ (λ _ _ _ _ _ _ _ _ _ _ _ _ block _ y. let f = y.0 in (omega (arith, f), y.1, y.2, y.3))
       ⨾ tt,
 )
 fitted of.ArgList = (omega arith, (λ _ _ _ first _ x others _ y _ _ _. omega (arith, x, y), tt))

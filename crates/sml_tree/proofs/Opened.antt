@@ -83,6 +83,8 @@ opened (of.Block d) = (
       ⨾ (λ _ _ _ _ _ _ block _ y. y)
       ⨾ (λ _ _ _ _ _ _ _ _ _ _ _ _ _ _ _ block _ y. y)
       ⨾ (λ _ _ _ _ _ _ first _ _ others _ _ _ _ _ block _ y. y)
+      ⨾ (λ _ _ _ _ _ _ _ _ _ _ _ _ block _ y. y)
+      ⨾ (λ _ _ _ _ _ _ _ _ _ _ _ _ block _ y. y)
       ⨾ tt,
 )
 opened (of.Branch d) = (tt, (λ _ _ _ c _ x _ _ _ arms _ y. (let z = x (omega arith) in omega (arith, z), y), tt))

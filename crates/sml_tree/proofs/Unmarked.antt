@@ -96,6 +96,10 @@ owing (of.Block d) =
     ⨾ (λ _ _ _ _ _ _ _ _ _ _ _ _ _ _ _ block _ x. let f = x.0 in ((((((tt, refl), refl), refl), refl), refl), (omega (arith, f), x.1, x.2, x.3)))
     ⨾ (λ _ _ _ _ _ _ first _ others _ _ _ _ block _ x. let f = x.0 in let few = (x.3).0 in
     ((((((tt, refl), refl), omega arith), omega (arith, few)), refl), (omega (arith, f), x.1, x.2, (x.3).1)))
+    ⨾ (λ _ _ _ _ _ _ _ _ _ _ _ _ block _ x. let f =
+    x.0 in (((((tt, refl), refl), refl), refl), (omega (arith, f), x.1, x.2, x.3)))
+    ⨾ (λ _ _ _ _ _ _ _ _ _ _ _ _ block _ x. let f =
+    x.0 in (((((tt, refl), refl), refl), refl), (omega (arith, f), x.1, x.2, x.3)))
     ⨾ tt
 owing of.ArgList = (λ _ _ _ first _ others _ _ _ _ x. ((((tt, refl), omega arith), omega (arith, x)), refl), tt)
 owing (of.Passed n) = (λ _ _ _ _ _ _ value _ x. (((tt, not_reached MAX_ARGUMENTS n Many x), refl), tt), tt)

@@ -1,6 +1,6 @@
 -- What a tree in memory says.
 use Rattle.std.specs.Prelude.{List, [], ◌∷◌, map, option_map}
-use Rattle.sml_tree.specs.Syntax.{LiteralData, int, str, ArgData, lit, param, PassedData, WaitedData, CondData, both, either, neither, test, InstrData, BlockData, send, choose, assign, move_to, terminate, wait_for, done, step, ClassParamData, ActionParamData, ActionData, StateData, ClassData, ObjectData, GroupData, ItemData, class, object, group}
+use Rattle.sml_tree.specs.Syntax.{LiteralData, int, str, ArgData, lit, param, PassedData, WaitedData, CondData, both, either, neither, test, InstrData, BlockData, send, choose, assign, move_to, terminate, wait_for, insert_in, remove_from, done, step, ClassParamData, ActionParamData, ActionData, StateData, ClassData, ObjectData, GroupData, ItemData, class, object, group}
 use Rattle.sml_tree.specs.declared.literal.Literal.{Literal}
 use Rattle.sml_tree.specs.declared.literal.Literal.TheVariants.{Int, Str}
 use Rattle.sml_tree.specs.declared.literal.Arg.{Arg}
@@ -53,6 +53,8 @@ instr_step (Instr-F.Set name value) = assign name (arg_content value)
 instr_step (Instr-F.MoveTo state) = move_to state
 instr_step (Instr-F.Terminate state) = terminate state
 instr_step (Instr-F.Wait waited) = wait_for (map waited_content waited.items)
+instr_step (Instr-F.Insert member set) = insert_in member set
+instr_step (Instr-F.Remove member set) = remove_from member set
 
 abbrev pub block_step : {A : Type 0} → Block-F A InstrData BlockData → BlockData
 block_step b = block_of b.instrs.items

@@ -2,12 +2,12 @@
 -- `[x]` is x or nothing, `x*` any number of x, `x+,` one or more x with commas between them.
 use Rattle.std.specs.Prelude.{ℕ, ◌+◌, List, [], ◌∷◌, ◌++◌, Option, Some, None, nat_lt, true, false, map, if◌then◌else◌}
 use Rattle.sml_tree.specs.declared.token_kind.TokenKind.{TokenKind}
-use Rattle.sml_tree.specs.declared.token_kind.TokenKind.TheVariants.{Class, Object, ObjectSet, IsOfClass, State, Action, Parameters, IntKind, StringKind, Do, If, Then, Else, Endif, Set, MoveTo, TerminateAction, Wait, InState, NotInState, AllIn, AnyIn, And, Or, Not, Associated, InitialState, DeadState, Colon, Comma, Equals, OpenBracket, CloseBracket, OpenBrace, CloseBrace, Slash, Name, Int, Str}
+use Rattle.sml_tree.specs.declared.token_kind.TokenKind.TheVariants.{Class, Object, ObjectSet, IsOfClass, State, Action, Parameters, IntKind, StringKind, Do, If, Then, Else, Endif, Set, MoveTo, TerminateAction, Wait, Insert, Remove, In, From, InState, NotInState, AllIn, AnyIn, And, Or, Not, Associated, InitialState, DeadState, Colon, Comma, Equals, OpenBracket, CloseBracket, OpenBrace, CloseBrace, Slash, Name, Int, Str}
 use Rattle.sml_tree.specs.declared.file.Kind.{Kind}
 use Rattle.sml_tree.specs.declared.file.Kind.TheVariants as sort
 use Rattle.sml_tree.specs.declared.cond.Scope.{Scope}
 use Rattle.sml_tree.specs.declared.cond.Scope.TheVariants as scope
-use Rattle.sml_tree.specs.Syntax.{int, str, lit, param, both, either, neither, test, send, choose, assign, move_to, terminate, wait_for, class, object, group}
+use Rattle.sml_tree.specs.Syntax.{int, str, lit, param, both, either, neither, test, send, choose, assign, move_to, terminate, wait_for, insert_in, remove_from, class, object, group}
 use Rattle.sml_tree.specs.Content.{block_of}
 use Rattle.sml_tree.specs.Piece.{Piece, word_of, int_of, bytes_of}
 use Rattle.sml_tree.specs.Form as of
@@ -255,6 +255,8 @@ rules of.Default =
 --       | MOVE_TO name
 --       | TERMINATE_ACTION / STATE = name
 --       | WAIT ( waited+, )
+--       | INSERT name IN name
+--       | REMOVE name FROM name
 rules (of.Block depth) =
     way Do Fine (λ _. do
       action ← word Name
@@ -291,6 +293,18 @@ rules (of.Block depth) =
       word CloseBracket
       block ← part (of.Block depth)
       gives (wait_for (first ∷ others) ∷ block))
+    ∷ way Insert Fine (λ _. do
+      member ← word Name
+      word In
+      set ← word Name
+      block ← part (of.Block depth)
+      gives (insert_in (name member) (name set) ∷ block))
+    ∷ way Remove Fine (λ _. do
+      member ← word Name
+      word From
+      set ← word Name
+      block ← part (of.Block depth)
+      gives (remove_from (name member) (name set) ∷ block))
     ∷ []
 -- waited = name | ALL_IN name
 rules (of.Waited n) =

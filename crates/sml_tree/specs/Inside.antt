@@ -1,7 +1,7 @@
 -- What stands in a block, in a condition and in a file.
 use Rattle.std.specs.Prelude.{List, [], ◌∷◌, ◌++◌}
 use Rattle.std.specs.List.{flat_map}
-use Rattle.sml_tree.specs.Syntax.{TestData, CondData, both, either, neither, test, SendData, WaitedData, InstrData, BlockData, send, choose, assign, move_to, terminate, wait_for, done, step, ActionData, StateData, ItemData, class, object, group}
+use Rattle.sml_tree.specs.Syntax.{TestData, CondData, both, either, neither, test, SendData, WaitedData, InstrData, BlockData, send, choose, assign, move_to, terminate, wait_for, insert_in, remove_from, done, step, ActionData, StateData, ItemData, class, object, group}
 
 -- the tests of a condition
 abbrev pub tests : CondData → List TestData
@@ -19,6 +19,8 @@ abbrev mutual
   instr_conditions (move_to state) = []
   instr_conditions (terminate state) = []
   instr_conditions (wait_for waited) = []
+  instr_conditions (insert_in member set) = []
+  instr_conditions (remove_from member set) = []
 
   pub block_conditions : BlockData → List CondData
   block_conditions done = []
@@ -33,6 +35,8 @@ abbrev mutual
   instr_sends (move_to state) = []
   instr_sends (terminate state) = []
   instr_sends (wait_for waited) = []
+  instr_sends (insert_in member set) = []
+  instr_sends (remove_from member set) = []
 
   pub block_sends : BlockData → List SendData
   block_sends done = []
@@ -47,6 +51,8 @@ abbrev mutual
   instr_waits (move_to state) = []
   instr_waits (terminate state) = []
   instr_waits (wait_for waited) = waited ∷ []
+  instr_waits (insert_in member set) = []
+  instr_waits (remove_from member set) = []
 
   pub block_waits : BlockData → List (List WaitedData)
   block_waits done = []

@@ -1,7 +1,7 @@
 //! Instructions.
 ghost use Rattle.std.specs.Prelude.{◌≡◌, ◌↔◌, ◌<◌, ◌^◌, ◌-◌, min, map, IfOk, IsTrue, Ok};
 ghost use Rattle.sml_tree.specs.Content.{arg_content, passed_content, waited_content, cond_content, instr_content, block_content};
-ghost use Rattle.sml_tree.specs.Syntax.{WaitedData, send, choose, assign, move_to, terminate, wait_for, block_depth, instr_depth};
+ghost use Rattle.sml_tree.specs.Syntax.{WaitedData, send, choose, assign, move_to, terminate, wait_for, insert_in, remove_from, block_depth, instr_depth};
 
 use crate::cond::Cond;
 use crate::lists::{Part, add, copy_list, same_list};
@@ -67,6 +67,16 @@ pub enum Instr<A: Allocator + Clone> {
     Terminate(Name),
     /// At least one, and at most `MAX_WAITED`, where a text was read.
     Wait(Vec<Waited, A>),
+    /// Puts an object last into a set, where it is no member.
+    Insert {
+        member: Name,
+        set: Name,
+    },
+    /// Takes an object out of a set, where it is a member.
+    Remove {
+        member: Name,
+        set: Name,
+    },
 }
 
 /// Instructions, in their order.
@@ -112,6 +122,14 @@ impl<A: Allocator + Clone> Instr<A> {
             Instr::MoveTo(state) => Ok(Instr::MoveTo(*state)),
             Instr::Terminate(state) => Ok(Instr::Terminate(*state)),
             Instr::Wait(waited) => Ok(Instr::Wait(copy_list(waited, alloc)?)),
+            Instr::Insert { member, set } => Ok(Instr::Insert {
+                member: *member,
+                set: *set,
+            }),
+            Instr::Remove { member, set } => Ok(Instr::Remove {
+                member: *member,
+                set: *set,
+            }),
         }
     }
 
@@ -140,6 +158,8 @@ impl<A: Allocator + Clone> Instr<A> {
             Instr::MoveTo(state) => other.is_move_to(state),
             Instr::Terminate(state) => other.is_terminate(state),
             Instr::Wait(waited) => other.is_wait(waited),
+            Instr::Insert { member, set } => other.is_insert(member, set),
+            Instr::Remove { member, set } => other.is_remove(member, set),
         }
     }
 
@@ -210,6 +230,32 @@ impl<A: Allocator + Clone> Instr<A> {
         }
     }
 
+    // Whether it puts this object into this set.
+    fn is_insert(&self, member: &Name, set: &Name) -> bool
+        ensures { IsTrue result ↔ (insert_in member.now set.now ≡ instr_content self.now) }
+    {
+        match self {
+            Instr::Insert {
+                member: own_member,
+                set: own_set,
+            } => member == own_member && set == own_set,
+            _ => false,
+        }
+    }
+
+    // Whether it takes this object out of this set.
+    fn is_remove(&self, member: &Name, set: &Name) -> bool
+        ensures { IsTrue result ↔ (remove_from member.now set.now ≡ instr_content self.now) }
+    {
+        match self {
+            Instr::Remove {
+                member: own_member,
+                set: own_set,
+            } => member == own_member && set == own_set,
+            _ => false,
+        }
+    }
+
     /// How deep `if`s nest here, or `u32::MAX` where that is more.
     #[cycle(depth)]
     #[tactic(auto, using(crate::proofs::Blocks::instr_equations))]
@@ -222,7 +268,9 @@ impl<A: Allocator + Clone> Instr<A> {
             | Instr::Set { .. }
             | Instr::MoveTo(_)
             | Instr::Terminate(_)
-            | Instr::Wait(_) => 0,
+            | Instr::Wait(_)
+            | Instr::Insert { .. }
+            | Instr::Remove { .. } => 0,
         }
     }
 }

@@ -18,6 +18,8 @@ pub enum Made {
     Posted,
     /// Its objects are read.
     Seen,
+    /// Its set is changed.
+    Changed,
     /// It waits, and the board keeps it.
     Waiting,
     /// It ends.
@@ -37,6 +39,10 @@ fn leave(place: &mut Option<Task>, reply: Reply) -> Made
         Reply::Seen(task) => {
             drop(place.replace(task));
             Made::Seen
+        }
+        Reply::Changed(task) => {
+            drop(place.replace(task));
+            Made::Changed
         }
         Reply::Waiting => Made::Waiting,
         Reply::Ended => Made::Ended,

@@ -36,8 +36,9 @@ const CAPACITY: usize = 16;
 
 const MOST_STARTS: usize = 1_000;
 
-const JOURNAL: &[u8] = b"smi-journal 1
+const JOURNAL: &[u8] = b"smi-journal 2
 start RUN @1 0 CONFIGURE
+empty RUN SPARE
 post RUN HV1 0 SWITCH_ON
 post RUN HV2 0 SWITCH_ON
 wait RUN
@@ -49,12 +50,15 @@ seen RUN HV1=ON HV2=ON
 end RUN READY
 ";
 
+// Nobody is sent to first, and then both supplies.
+const MOVES: &[Made] = &[Made::Posted, Made::Posted, Made::Waiting];
+
 // Whether a board goes on so, once RUN is asked to configure.
 fn configures<M: Mail>(board: &mut Board<M>) -> bool
     requires { 2 < length board.old.domain.objects }
 {
     let on = StateId::new(ON);
-    acts(board, ObjId::new(RUN), &[Made::Posted, Made::Waiting])
+    acts(board, ObjId::new(RUN), MOVES)
         && performs(board, ObjId::new(FIRST), on)
         && performs(board, ObjId::new(SECOND), on)
         && resumes(board, &[Made::Seen, Made::Ended])

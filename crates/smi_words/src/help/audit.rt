@@ -16,15 +16,19 @@ byte order mark. What is written to standard output is one line:
   Illegal LINE RULE  LINE is the first line whose entry may not, and RULE the first rule that it
                      breaks; lines count from 1, and the first is the header
 
-The first line of a journal is `smi-journal 1`. Each further line is an entry; it has one blank between
-words, names in capitals, numbers without leading zeros, and ends with a line feed. The entries, and the
-rules that each is held to, in the order in which they are tried:
+The first line of a journal is `smi-journal 2`, or `smi-journal 1` in journals of earlier versions. Each
+further line is an entry; it has one blank between words, names in capitals, numbers without leading zeros,
+and ends with a line feed. The entries, and the rules that each is held to, in the order in which they are
+tried; Split is tried before them, of every entry:
 
   start OBJECT SENDER NUMBER ACTION ARGS         Killed, Open, Number; NotSent where SENDER is an
                                                  object, BadRequest where it is a session
   post OBJECT TARGET NUMBER ACTION ARGS          NotOpen, Meaning, Dead, Number
   post OBJECT TARGET refused full ACTION ARGS    NotOpen, Meaning, Dead
   post OBJECT TARGET refused dead ACTION ARGS    NotOpen, Meaning, Dead
+  empty OBJECT SET                               NotOpen, Meaning
+  insert OBJECT MEMBER SET                       NotOpen, Meaning
+  remove OBJECT MEMBER SET                       NotOpen, Meaning
   wait OBJECT                                    NotOpen, Meaning, Clear
   seen OBJECT OBJECT1=STATE1 OBJECT2=STATE2 ..   NotOpen, Meaning, Busy, Reading
   end OBJECT STATE                               NotOpen, Meaning; NotAState where a device ends it
@@ -34,6 +38,8 @@ rules that each is held to, in the order in which they are tried:
 
 What a rule says where it is broken; `now` means by the lines before:
 
+  Split       what a `do .. all_in` sends stands on lines one behind the other, from its first post to its
+              last; now one has begun, and this is not its next post
   Killed      the object is killed now
   Open        an action is open at the object now
   Number      NUMBER is not the next one: the count of starts of SENDER at OBJECT, or of the accepted
@@ -49,12 +55,18 @@ What a rule says where it is broken; `now` means by the lines before:
   Reading     a state is not the state of its object now
   NotAState   STATE is none of the class of OBJECT
 
+A set has its declared members, as the lines `insert` and `remove` before have changed them. A `do .. all_in`
+asks those who are members at its first post, an `if` or a `wait` those at its line `wait` or `seen`. The
+lines `empty`, `insert` and `remove` are of format 2 alone, behind `smi-journal 2`: in format 1 they are bad
+lines, a `do` to an empty set leaves no line, Split is not tried, and an action that comes to an `insert` or a
+`remove` has no further line, but for a kill.
+
 An object is busy for the `if` or `wait` of OBJECT while an action is open at it, or while a request that
 OBJECT has sent to it has not ended; a killed one is not busy. A journal does not hold how many requests a
 mailbox has room for, so that `refused full` is not judged; a second line `wait OBJECT` for one `if` or
 `wait` is legal. What `step --journal` writes is legal. For example, with the domain of `smirun step --help`,
 
-  smi-journal 1
+  smi-journal 2
   start RUN @1 0 CONFIGURE (VOLTS = 1500)
   post RUN HV 0 SWITCH_ON (VOLTS = 1500)
   seen RUN HV=OFF

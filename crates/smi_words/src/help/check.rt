@@ -45,6 +45,11 @@ A `wait` has one name or more in brackets, with commas between them:
 
   wait ( OBJECT, all_in SET )       waits for OBJECT and for each member of SET
 
+Sets change while a domain runs. Objects and sets are named, and need not be of this class:
+
+  insert OBJECT in SET              OBJECT becomes the last member of SET, unless it is a member
+  remove OBJECT from SET            OBJECT is no member of SET any more
+
 The kinds of `read`. The first three are looked for in this order over the whole text; then the first
 place in the text is told:
 
@@ -60,7 +65,8 @@ place in the text is told:
                     condition, 64 names of a `wait`
 
 The kinds of `check`. Of several faults the one of the lowest NO is told, and of these the first in the
-text:
+text. For 8 to 12 and 14 a set has its declared members, and behind them each object that an `insert`
+anywhere in the file may put into it; a `remove` takes nothing away from that:
 
   1 Duplicate       a name is declared twice: a class, object or set, a state of a class, an action of
                     a state, a parameter of a list, a member of a set, an argument of a `do`
@@ -68,8 +74,9 @@ text:
   3 TwoInitial      two states of a class are marked as initial
   4 TwoDead         two states of a class are marked as dead
   5 UnknownClass    an object is of no declared class
-  6 UnknownObject   a member, a target of `do`, or an object of a test or a `wait` is not declared
-  7 UnknownSet      the name after `all_in` or `any_in` is no set
+  6 UnknownObject   a member, a target of `do`, or an object of a test, a `wait`, an `insert` or a
+                    `remove` is not declared
+  7 UnknownSet      the name after `all_in`, `any_in`, `in` or `from` is no set
   8 UnknownState    an action ends in, or a test names, a state that is none there
   9 UnknownAction   a target of `do` does not have the action
   10 UnknownParam   a name is no parameter there

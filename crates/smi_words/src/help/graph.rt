@@ -27,7 +27,7 @@ and keeps its state where its instructions run out; whether a condition can hold
 Actions of a device may end in any state of their class: they stand in the boxes of the states that
 declare them. With `--objects` there is a frame of all objects and sets. An arrow from an object has
 what actions of its class send to the object or set to which it leads, and a broken line leads from a
-set to each of its members.
+set to each of its declared members.
 
 With JOURNAL a picture in SVG is written to standard output, which a browser shows:
 
@@ -40,6 +40,7 @@ with its number (its line in the journal is one more), and its line is shown whe
   an arrow          what an object posts, what a session asked for, or a kill by one; red where refused
   a ring            a wait
   a dotted line     what is read, with the state of each object that was read
+  insert, remove    who is put into which set, or taken out; `empty`: a set that is asked has no members
   a cross           a kill, behind which the line of life is broken
 
 `--from N` and `--count M` choose the entries that are shown, and the first line of the picture says

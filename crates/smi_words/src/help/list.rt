@@ -15,7 +15,7 @@ They stand in the order in which they are declared, and each line says all by it
                                  objects are in it; both, where no mark says so too
   action CLASS STATE ACTION      its parameters behind it in brackets, as (int VOLTS, int RAMP = 10)
   object OBJECT CLASS
-  set SET OBJECT ..              the members, as many as there are
+  set SET OBJECT ..              the declared members, as many as there are
 
 For example, `smirun list FILE | grep '^action PSU '` finds what a supply may be asked for, in each state:
 

@@ -37,7 +37,8 @@ order; requests of one session to one object are started in the order of its lin
 left and nothing can be done any more, the run ends, and the summary is written to standard output:
 
   end Quiet                      all that could be done was done
-  end Limit                      the same, but M requests were started, and no more may be
+  end Limit                      the same, but M requests were started, and no more may be; others may be
+                                 left, but need not
   end Memory                     memory was refused, and the rest was left undone
   state OBJECT STATE             the state of each object
   stalled OBJECT                 its action is still open: an `if` or `wait` waits for an object that is busy
@@ -81,7 +82,8 @@ accepted wait for it, and how many objects have an open action:
   starts 123456, waiting 12, open 3
 
 With `--journal PATH` the file PATH is made, or what stands there is deleted, once the summary is written, and
-the journal of the run is written to it: what was started, sent, seen, ended and killed, in its order.
+the journal of the run is written to it: what was started, sent, seen, put into sets, taken out of them,
+ended and killed, in its order.
 `smirun audit FILE PATH` judges it. A journal over 67108864 bytes is written, and `audit` and `graph` refuse it.
 Where PATH is FILE or SCRIPT, by this path or another, the command line is a wrong one, and nothing is read or
 written.

@@ -46,7 +46,10 @@ gives a parameter of the class a value. `do` sends a request and goes on; `do ..
 member of a set. An `if` waits while an action is open at one of the objects that it asks, or while what
 was sent to one of them by the object itself has not ended; then it reads all their states at once. A
 `wait`, as in wait ( HV, all_in SUPPLIES ), does the same for the objects that it names and the members of
-its sets, and goes on whatever their states are. `move_to` and `terminate_action /state=` end the action in
+its sets, and goes on whatever their states are. `insert HV in SUPPLIES` makes HV the last member of a set,
+unless it is a member, and `remove HV from SUPPLIES` takes it out: at once, for all objects, and for good. A `do`
+asks those who are members when it sends; an `if` and a `wait` those who are members when they read, so that
+one that waits may go on when a member is taken out. `move_to` and `terminate_action /state=` end the action in
 a state; one that runs off its end leaves the state as it was. The dead state of a class is the one that is
 marked `/dead_state`, or else DEAD.
 
@@ -59,7 +62,8 @@ blanks and a comment. Names may be written in capitals or not. The steps:
   start OBJECT                              OBJECT takes the request that waits longest and begins its
                                             action
   go OBJECT                                 the action that is open at OBJECT makes its next move: one
-                                            `set`, one `do`, one `if`, one `wait`, or its end
+                                            `set`, one `do`, one `if`, one `wait`, one `insert`, one
+                                            `remove`, or its end
   answer OBJECT STATE                       the device of OBJECT has done its action, and is in STATE
   fault OBJECT                              the device of OBJECT fails at its action: OBJECT is killed
   kill OBJECT @S                            session @S kills OBJECT: its open action is cut off, it is in
@@ -75,6 +79,10 @@ action has no parameters, else all of them in order, as in (T = 5, M = \"a\"):
   post OBJECT TARGET NUMBER ACTION ARGS         a `do` of OBJECT has sent the request to TARGET
   post OBJECT TARGET refused full ACTION ARGS   a `do` of OBJECT, but as many wait at TARGET as may
   post OBJECT TARGET refused dead ACTION ARGS   a `do` of OBJECT, but TARGET is killed
+  empty OBJECT SET                              a `do` of OBJECT to all in SET, which has no members
+  insert OBJECT MEMBER SET                      an `insert` of OBJECT: MEMBER is put into SET, or is in it
+  remove OBJECT MEMBER SET                      a `remove` of OBJECT: MEMBER is taken out of SET, or is not
+                                                in it
   wait OBJECT                                   an `if` or a `wait` of OBJECT waits: an object that it
                                                 asks is busy
   still OBJECT                                  it waits on
@@ -86,7 +94,7 @@ action has no parameters, else all of them in order, as in (T = 5, M = \"a\"):
   kill OBJECT fault                             OBJECT is killed, by a fault of its device
   refused KIND                                  the step was not done, and nothing has changed
 
-A `do` to the members of an empty set writes nothing. The kinds of `refused`:
+The kinds of `refused`:
 
   BadLine        the line is no step: another form, a byte above 127, or more than 8192 bytes
   UnknownObject  the domain has no such object
@@ -119,7 +127,7 @@ With the domain above, the schedule on the left writes what is on the right:
   start HV                     refused Dead
 
 With `--journal PATH` the file PATH is made, or what stands there is deleted, before the first step; the
-journal is written to it when the whole schedule is done: the line `smi-journal 1`, and then the lines
+journal is written to it when the whole schedule is done: the line `smi-journal 2`, and then the lines
 above but `accept`, `set`, `still` and `refused`. `smirun audit FILE PATH` judges it. A journal over 67108864
 bytes is written, and `audit` and `graph` refuse it. Where PATH is FILE or SCHEDULE, by this path or another, the
 command line is a wrong one, and nothing is read or written.
@@ -132,6 +140,8 @@ With `--states` these lines follow what the schedule writes:
   open OBJECT ACTION waits device     the same; its device is to answer
   open OBJECT ACTION waits OBJECT1 ..  the same; its next `if` or `wait` waits for these objects
   waiting OBJECT COUNT            so many requests wait in the mailbox of OBJECT
+  member SET OBJECT1 ..           the members of SET, where they are not the declared ones; SET alone where
+                                  there are none
 
 With `--explain` standard error has why, behind the line of each refused step: the place in SCHEDULE as
 SCHEDULE:LINE:COLUMN, both counted from 1, one sentence, the line and a caret under the place. With `--strict`

@@ -5,4 +5,5 @@ use Rattle.smi_meaning.specs.Params.{first_value}
 use Rattle.smi_audit.proofs.track.first_values.Given as goal
 
 abbrev pub invariant-loop-param : goal.invariant-loop-param
-invariant-loop-param l = l.values.items ++ filter_map first_value (drop l.param-index l.params) ≡ filter_map first_value l.params
+invariant-loop-param l =
+    l.values.items ++ filter_map first_value (drop l.param-index l.params) ≡ filter_map first_value l.params

@@ -1,9 +1,9 @@
 use Rattle.std.proofs.Common.{◌≡◌, map, vec_len, ap, sym, ◌∙◌}
 use Rattle.sml_text.proofs.Writes.{told_as}
 use Rattle.sml_tree.specs.Content.{arg_content, waited_content, instr_content, block_content, block_of}
-use Rattle.sml_tree.specs.Syntax.{assign, move_to, terminate, wait_for}
+use Rattle.sml_tree.specs.Syntax.{assign, move_to, terminate, wait_for, insert_in, remove_from}
 use Rattle.sml_tree.proofs.Blocks.{instr_content-If}
-use Rattle.sml_print.proofs.Instrs.{says_Do, says_Set, says_MoveTo, says_Terminate, says_Wait}
+use Rattle.sml_print.proofs.Instrs.{says_Do, says_Set, says_MoveTo, says_Terminate, says_Wait, says_Insert, says_Remove}
 use Rattle.sml_print.specs.Blocks.{instr_text, block_text}
 use Rattle.sml_print.proofs.Tolds.{flat_more, flat_all, block_flat, else_some, else_none, told_nothing}
 use Rattle.sml_print.proofs.Tolds.{then_told}
@@ -57,6 +57,20 @@ tell_instr-returns-in-Wait-clause-told g t c =
     let says : instr_content c.args.instr.now ≡ wait_for (map waited_content c.in-Wait.waited.items) = ap instr_content c.in-Wait.is ∙ says_Wait c.in-Wait.waited in
     told_as _ _ _ _ _ _ (then_told c.tell_indent.ensures.told c.tell_wait.ensures.told) (ap (instr_text c.args.level) (sym says))
 
+pub tell_instr-returns-in-Insert-clause-told : goal.tell_instr-returns-in-Insert-clause-told
+tell_instr-returns-in-Insert-clause-told g t c =
+    let says : instr_content c.args.instr.now ≡ insert_in c.in-Insert.member c.in-Insert.set =
+    ap instr_content c.in-Insert.is ∙ says_Insert _ c.in-Insert.member c.in-Insert.set in
+    told_as _ _ _ _ _ _ (then_told c.tell_indent.ensures.told c.tell_change.ensures.told)
+    (ap (instr_text c.args.level) (sym says))
+
+pub tell_instr-returns-in-Remove-clause-told : goal.tell_instr-returns-in-Remove-clause-told
+tell_instr-returns-in-Remove-clause-told g t c =
+    let says : instr_content c.args.instr.now ≡ remove_from c.in-Remove.member c.in-Remove.set =
+    ap instr_content c.in-Remove.is ∙ says_Remove _ c.in-Remove.member c.in-Remove.set in
+    told_as _ _ _ _ _ _ (then_told c.tell_indent.ensures.told c.tell_change-in-Remove.ensures.told)
+    (ap (instr_text c.args.level) (sym says))
+
 pub tell_else-returns-clause-told : goal.tell_else-returns-clause-told
 tell_else-returns-clause-told g t c =
     let inner = told_as _ _ _ _ _ _ c.tell_block.ensures.told (ap (λ n. block_text n (block_content c.args.block.now)) c.deeper.ensures) in
@@ -87,6 +101,12 @@ tell_instr-returns-in-Terminate-clause-due g t c = λ h. c.tell_towards-in-Termi
 
 pub tell_instr-returns-in-Wait-clause-due : goal.tell_instr-returns-in-Wait-clause-due
 tell_instr-returns-in-Wait-clause-due g t c = λ h. c.tell_wait.ensures.due (c.tell_indent.ensures.due h)
+
+pub tell_instr-returns-in-Insert-clause-due : goal.tell_instr-returns-in-Insert-clause-due
+tell_instr-returns-in-Insert-clause-due g t c = λ h. c.tell_change.ensures.due (c.tell_indent.ensures.due h)
+
+pub tell_instr-returns-in-Remove-clause-due : goal.tell_instr-returns-in-Remove-clause-due
+tell_instr-returns-in-Remove-clause-due g t c = λ h. c.tell_change-in-Remove.ensures.due (c.tell_indent.ensures.due h)
 
 pub tell_else-returns-clause-due : goal.tell_else-returns-clause-due
 tell_else-returns-clause-due g t c = λ h. c.tell_block.ensures.due (c.tell.ensures.due (c.tell_indent.ensures.due h))

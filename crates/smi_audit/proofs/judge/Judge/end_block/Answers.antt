@@ -2,7 +2,7 @@
 use Rattle.std.proofs.Common.{◌≡◌, refl}
 use Rattle.smi_entry.specs.declared.entry.ActionEnd.TheVariants.{State}
 use Rattle.smi_entry.specs.declared.entry.Entry.TheVariants.{End}
-use Rattle.smi_meaning.specs.Legal.{IsLegalAt}
+use Rattle.smi_meaning.specs.Legal.{MayFollow}
 use Rattle.smi_audit.specs.Tracks.{track_at}
 use Rattle.smi_audit.proofs.Broken.{end_not_meant, end_good, block_state}
 use Rattle.smi_audit.proofs.Followed.{not_ended, is_ended}
@@ -12,8 +12,10 @@ use Rattle.smi_audit.proofs.judge.Judge.end_block.Goals as goal
 pub returns-in_default : goal.returns-in_default
 returns-in_default c =
     let j = c.args.self.now in
-    end_not_meant j.ledger.domain j.ledger.journal c.args.o (State c.args.state) c.requires.open
-    (not_ended c.laws_of_following.ensures.ends j.ledger.domain j.ledger.journal c.args.o c.args.state (track_at j.tracks.items c.args.o) c.requires.logical (track_of j c.args.o c.requires.within c.requires.kept) c.in_default.ensures.ends)
+    end_not_meant j.format j.ledger.domain j.ledger.journal c.args.o (State c.args.state) c.requires.open
+    (not_ended c.laws_of_following.ensures.ends j.format j.ledger.domain j.ledger.journal c.args.o c.args.state
+    (track_at j.tracks.items c.args.o) c.requires.logical
+    (track_of j c.args.o c.requires.within c.requires.kept) c.in_default.ensures.ends)
 
 pub returns : goal.returns
 returns c =
@@ -22,9 +24,13 @@ returns c =
     let J = j.ledger.journal in
     let t = track_at j.tracks.items c.args.o in
     let same : c.in-Some.end ≡ c.args.state = cc in
-    let legal : IsLegalAt d J (End c.args.o (State c.args.state)) =
-    end_good d J c.args.o (State c.args.state) c.requires.open
-    (is_ended c.laws_of_following.ensures.ends d J c.args.o c.args.state c.in-Some.end t _ c.requires.logical (track_of j c.args.o c.requires.within c.requires.kept) c.in-Some.ensures.ends same)
+    let legal : MayFollow j.format d J (End c.args.o (State c.args.state)) =
+    end_good j.format d J c.args.o (State c.args.state) c.requires.open
+    (is_ended c.laws_of_following.ensures.ends j.format d J c.args.o c.args.state c.in-Some.end t _
+    c.requires.logical (track_of j c.args.o c.requires.within c.requires.kept) c.in-Some.ensures.ends same)
     (block_state d c.args.o c.args.state c.requires.logical) in
-    adds _ _ (End c.args.o (State c.args.state)) refl c.requires.kept legal (view_domain _ _ c.add_end.ensures) (view_journal _ _ c.add_end.ensures)
-    (end_added c.laws_of_following.ensures.leaves d J j.tracks.items _ c.args.o c.args.state c.in-Some.end c.requires.within c.requires.logical c.requires.kept.tracked c.in-Some.ensures.written c.in-Some.ensures.ends same)
+    adds _ _ (End c.args.o (State c.args.state)) refl refl refl c.requires.kept c.requires.within legal
+    (view_domain _ _ c.add_end.ensures) (view_journal _ _ c.add_end.ensures)
+    (end_added c.laws_of_following.ensures.leaves j.format d J j.tracks.items _ c.args.o c.args.state c.in-Some.end
+    c.requires.within c.requires.logical c.requires.kept.tracked c.in-Some.ensures.written
+    c.in-Some.ensures.ends same)

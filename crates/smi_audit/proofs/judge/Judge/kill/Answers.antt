@@ -2,16 +2,20 @@
 use Rattle.std.proofs.Common.{◌≡◌, ◌∙◌, false, refl, sym}
 use Rattle.smi_entry.specs.declared.entry.Entry.TheVariants.{Kill}
 use Rattle.smi_entry.specs.Words.{is_killed}
-use Rattle.smi_meaning.specs.Legal.{IsLegalAt}
+use Rattle.smi_meaning.specs.Legal.{MayFollow}
 use Rattle.smi_audit.proofs.Broken.{kill_good, holds}
 use Rattle.smi_audit.proofs.Adding.{adds, kill_added}
 use Rattle.smi_audit.proofs.judge.Judge.kill.Goals as goal
 
 pub returns : goal.returns
 returns c =
-    let d = c.args.self.now.ledger.domain in
-    let J = c.args.self.now.ledger.journal in
+    let j = c.args.self.now in
+    let d = j.ledger.domain in
+    let J = j.ledger.journal in
     let alive : is_killed c.args.o J ≡ false = sym c.is_killed.ensures ∙ c.if-is_killed.false in
-    let legal : IsLegalAt d J (Kill c.args.o c.args.cause.now) = kill_good d J c.args.o c.args.cause.now alive (holds _ _ c.may_kill.ensures c.if-not-may_kill.false) in
-    adds _ _ (Kill c.args.o c.args.cause.now) refl c.requires.kept legal c.in_ok-add_kill.ensures.domain c.in_ok-add_kill.ensures.journal
-    (kill_added d J c.args.self.now.tracks.items _ c.args.o c.args.cause.now c.requires.within c.requires.kept.tracked c.cut_in.ensures)
+    let legal : MayFollow j.format d J (Kill c.args.o c.args.cause.now) =
+    kill_good j.format d J c.args.o c.args.cause.now alive (holds _ _ c.may_kill.ensures c.if-not-may_kill.false) in
+    adds _ _ (Kill c.args.o c.args.cause.now) refl refl refl c.requires.kept c.requires.within legal
+    c.in_ok-add_kill.ensures.domain c.in_ok-add_kill.ensures.journal
+    (kill_added j.format d J j.tracks.items _ c.args.o c.args.cause.now c.requires.within c.requires.kept.tracked
+    c.cut_in.ensures)

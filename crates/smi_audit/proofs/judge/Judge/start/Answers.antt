@@ -9,5 +9,9 @@ returns c =
     let j = c.args.self.now in
     let d = j.ledger.domain in
     let J = j.ledger.journal in
-    adds _ _ (Start c.args.o c.args.sender.now c.args.number c.args.action c.args.args.now) refl c.requires.kept c.in-None.ensures c.in_ok-add_start.ensures.domain c.in_ok-add_start.ensures.journal
-    (start_added_as d _ J j.tracks.items _ c.args.o _ c.in_ok-followed.followed _ c.in_ok-followed.ensures c.requires.within (sym c.requires.kept.domain) c.state-state.ensures c.requires.kept.tracked c.in_ok-start_in.ensures)
+    adds _ _ (Start c.args.o c.args.sender.now c.args.number c.args.action c.args.args.now) refl refl refl
+    c.requires.kept c.requires.within c.in-None.ensures c.in_ok-add_start.ensures.domain
+    c.in_ok-add_start.ensures.journal
+    (start_added_as j.format d _ J j.tracks.items _ c.args.o _ c.in_ok-followed.followed _ c.in_ok-followed.ensures
+    c.requires.within (sym c.requires.kept.domain) c.state-state.ensures c.requires.kept.tracked
+    c.in_ok-start_in.ensures)

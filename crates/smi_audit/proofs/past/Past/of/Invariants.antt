@@ -8,7 +8,8 @@ use Rattle.smi_audit.proofs.past.Past.of.Given as goal
 abbrev pub invariant-loop-i : goal.invariant-loop-i
 invariant-loop-i l = record {
   kept : IsKept l.judge;
+  format_is : l.judge.format ≡ l.fn.format;
   domain : l.judge.ledger.domain ≡ arc_value l.fn.domain;
   journal : l.judge.ledger.journal ≡ take l.i l.entries;
-  legal : IsLegal (arc_value l.fn.domain) l.judge.ledger.journal;
+  legal : IsLegal l.fn.format (arc_value l.fn.domain) l.judge.ledger.journal;
 }

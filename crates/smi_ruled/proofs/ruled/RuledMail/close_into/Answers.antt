@@ -24,5 +24,5 @@ pub returns : goal.returns
 returns g c =
     let j = c.join_sessions.ensures in
     let e = c.drain_all-ends.ensures in
-    λ o lt. final_given c.args.self c.args.ends.items c.in_order.result.items _ o c.in_order.ensures.kept
+    λ o lt. final_given c.args.self c.args.ends.items c.in_order.result.items _ o (c.requires.count ∙ sym c.in_order.ensures.count) c.in_order.ensures.kept
     (now_final _ _ _ _ c.self.inside.ends.items c.self.invariant.0 c.args.self c.in_order.result.items c.join_sessions.new.board.items c.self.view_is c.in_order.ensures.count j.long j.each c.in_order.ensures.order c.drain_all-ends.result.items e.long e.each o lt)

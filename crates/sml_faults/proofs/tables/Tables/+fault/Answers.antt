@@ -2,9 +2,9 @@ use Rattle.std.proofs.Common.{[], ap, ◌∙◌, ◌++◌, sym, map, flat_map}
 use Rattle.sml_tree.specs.Content.{file_content, class_content, action_content, cond_content, instr_content, block_content, passed_content, arg_content, waited_content}
 use Rattle.sml_tree.proofs.Blocks.{instr_content-If}
 use Rattle.sml_faults.specs.Lookup.{first, objects_meant}
-use Rattle.sml_faults.specs.Sites.{asks, sets, ends, cond_sites, block_sites, instr_sites}
+use Rattle.sml_faults.specs.Sites.{asks, sets, ends, changes, cond_sites, block_sites, instr_sites}
 use Rattle.sml_faults.specs.Kinds.{site_faults, send_faults, test_faults}
-use Rattle.sml_faults.proofs.Instrs.{says_Do, says_Set, says_Wait, ends_in}
+use Rattle.sml_faults.proofs.Instrs.{says_Do, says_Set, says_Wait, ends_in, changes_in}
 use Rattle.sml_faults.proofs.BlockRests.{block_here, block_next, first_first, first_second, first_third, one_site}
 use Rattle.sml_faults.proofs.Rests.{rest_end_lent}
 use Rattle.sml_faults.proofs.Waits.{waited_first}
@@ -59,6 +59,14 @@ instr_fault-returns-in-Wait g t c =
     c.wait_fault.ensures ∙ ap (λ ws. first (flat_map (λ w. test_faults c.args.kind file k w.all w.name []) (map waited_content ws))) c.deref-in-Wait.ensures.value
     ∙ waited_first file k a c.args.kind (map waited_content c.in-Wait.waited.items)
     ∙ sym (ap (λ i. first (flat_map f (instr_sites (instr_content i)))) c.in-Wait.is ∙ ap (λ i. first (flat_map f (instr_sites i))) (says_Wait c.in-Wait.waited))
+
+pub instr_fault-returns-in-Insert : goal.instr_fault-returns-in-Insert
+instr_fault-returns-in-Insert g t c =
+    let f = site_faults c.args.kind (file_content c.args.self.now.file.now) (class_content c.args.class.now)
+    (action_content c.args.action.now) in
+    let its = changes_in c.args.instr.now c.in-Insert.member c.in-Insert.set c.in-Insert.is in
+    c.change_fault.ensures ∙ sym (one_site f (changes its.0 c.in-Insert.member c.in-Insert.set))
+    ∙ sym (ap (λ ss. first (flat_map f ss)) its.1)
 
 pub instr_fault-returns-in-Some : goal.instr_fault-returns-in-Some
 instr_fault-returns-in-Some g t c =

@@ -3,10 +3,10 @@ use Rattle.std.specs.List.{list_any}
 use Rattle.std.proofs.lemmas.List.Folds.{list_any-append}
 use Rattle.sml_tree.specs.Content.{file_content, class_content, action_content, instr_content, block_of, block_content, cond_content, passed_content, arg_content, waited_content}
 use Rattle.sml_tree.proofs.Blocks.{instr_content-If}
-use Rattle.sml_faults.specs.Sites.{cond_sites, asks, sets, ends, block_sites, instr_sites}
+use Rattle.sml_faults.specs.Sites.{cond_sites, asks, sets, ends, changes, block_sites, instr_sites}
 use Rattle.sml_faults.specs.Lookup.{objects_meant}
 use Rattle.sml_faults.specs.InBlocks.{is_faulty_site, is_faulty_send, is_faulty_test}
-use Rattle.sml_faults.proofs.Instrs.{says_Do, says_Set, says_Wait, ends_in}
+use Rattle.sml_faults.proofs.Instrs.{says_Do, says_Set, says_Wait, ends_in, changes_set}
 use Rattle.sml_faults.proofs.InBlocks.{any_here, any_next, one_any, any_early, any_late, first_so, second_so}
 use Rattle.sml_faults.proofs.Rests.{rest_end_lent}
 use Rattle.sml_faults.proofs.Waits.{waited_any}
@@ -57,6 +57,14 @@ is_faulty_instr-returns-in-Wait g t c =
     c.is_faulty_wait.ensures ∙ ap (λ ws. list_any (λ w. is_faulty_test file k w.all w.name [] (objects_meant file w.all w.name)) (map waited_content ws)) c.deref-in-Wait.ensures.value
     ∙ waited_any file k (action_content c.args.action.now) (map waited_content c.in-Wait.waited.items)
     ∙ sym (ap (λ i. list_any p (instr_sites (instr_content i))) c.in-Wait.is ∙ ap (λ i. list_any p (instr_sites i)) (says_Wait c.in-Wait.waited))
+
+pub is_faulty_instr-returns-in-Insert : goal.is_faulty_instr-returns-in-Insert
+is_faulty_instr-returns-in-Insert g t c =
+    let p = is_faulty_site (file_content c.args.self.now.file.now) (class_content c.args.class.now)
+    (action_content c.args.action.now) in
+    let its = changes_set c.args.instr.now c.in-Insert.set c.in-Insert.is in
+    c.is_some-in-Insert.ensures ∙ ap is_some c.unknown_set.ensures
+    ∙ sym (one_any p (changes its.1 its.0 c.in-Insert.set)) ∙ sym (ap (list_any p) its.2)
 
 pub is_faulty_instr-returns-then-is_faulty_block : goal.is_faulty_instr-returns-then-is_faulty_block
 is_faulty_instr-returns-then-is_faulty_block g t c =

@@ -19,3 +19,13 @@ returns-in-Some-TerminateAction g c = found_front (Block c.args.depth) (Block c.
 
 pub returns-in-Some-Wait : goal.returns-in-Some-Wait
 returns-in-Some-Wait g c = found_front (Block c.args.depth) (Block c.args.depth) (λ i v. instr_content i ∷ v) [] c.waiting.result c.found-in-Some-Wait.result c.args.self.now c.waiting.new.self c.found-in-Some-Wait.ensures c.waiting.ensures
+
+pub returns-in-Some-Insert : goal.returns-in-Some-Insert
+returns-in-Some-Insert g c = found_front (Block c.args.depth) (Block c.args.depth) (λ i v. instr_content i
+    ∷ v) [] c.insertion.result c.found-in-Some-Insert.result c.args.self.now c.insertion.new.self
+    c.found-in-Some-Insert.ensures c.insertion.ensures
+
+pub returns-in-Some-Remove : goal.returns-in-Some-Remove
+returns-in-Some-Remove g c = found_front (Block c.args.depth) (Block c.args.depth) (λ i v. instr_content i
+    ∷ v) [] c.removal.result c.found-in-Some-Remove.result c.args.self.now c.removal.new.self
+    c.found-in-Some-Remove.ensures c.removal.ensures

@@ -1,0 +1,114 @@
+//! Sends that are begun, which no entry may split in the second format.
+ghost use Rattle.std.specs.Prelude.{◌≡◌, ◌↔◌, ℕ, IfNone, IfSome, IsTrue, MatchBool};
+ghost use Rattle.smi_entry.specs.Words as says;
+ghost use Rattle.smi_entry.specs.declared.journal.Format.TheVariants.{Two};
+ghost use Rattle.smi_meaning.specs.Items as items;
+ghost use Rattle.smi_meaning.specs.Legal.{IsLegal, IsPostOf, IsWithin, KeepsWhole};
+ghost use Rattle.smi_audit.specs.Judges.{IsKept};
+ghost use Rattle.smi_audit.specs.Splitting.{IsLast};
+
+use crate::judge::Judge;
+use crate::tracks::next_post_in;
+use smi_entry::entry::Entry;
+use smi_entry::journal::Format;
+use smi_interp::contact::Post;
+use sml_domain::ids::ObjId;
+use sml_domain::value::same_values;
+
+// The object that an entry is of.
+fn object_of(e: &Entry) -> ObjId
+    ensures { result ≡ says.object_of e.now }
+{
+    match e {
+        Entry::Start { object, .. }
+        | Entry::Wait { object }
+        | Entry::Seen { object, .. }
+        | Entry::End { object, .. }
+        | Entry::Kill { object, .. }
+        | Entry::Insert { object, .. }
+        | Entry::Remove { object, .. }
+        | Entry::NoMember { object, .. } => *object,
+        Entry::Post { sender, .. } => *sender,
+    }
+}
+
+// The object that the last entry is of.
+fn last_object(entries: &[Entry]) -> Option<ObjId>
+    ensures { IsLast entries.now result }
+{
+    match entries {
+        [] => None,
+        [.., last] => Some(object_of(last)),
+    }
+}
+
+// The next post of a send that is begun, and whose it is.
+#[derive(Clone, Copy)]
+struct Begun<'a> {
+    object: ObjId,
+    post: &'a Post,
+}
+
+impl<'a> Begun<'a> {
+    // Whether an entry is this post, with any verdict.
+    fn is(&self, e: &Entry) -> bool
+        ensures { IsTrue result ↔ IsPostOf self.now.object self.now.post.now e.now }
+    {
+        let post = self.post;
+        match e {
+            Entry::Post {
+                sender,
+                target,
+                action,
+                args,
+                ..
+            } => {
+                sender.get() == self.object.get()
+                    && target.get() == post.target.get()
+                    && action.get() == post.action.get()
+                    && same_values(args.values(), post.args.values())
+            }
+            _ => false,
+        }
+    }
+}
+
+impl Judge {
+    // The send that has some of its posts in the journal and more to come. Only the object of the last entry can have
+    // one.
+    fn begun(&self) -> Option<Begun<'_>>
+        requires kept { IsKept self.now }
+        requires two { self.now.format ≡ Two }
+        requires legal { IsLegal Two self.now.ledger.domain self.now.ledger.journal }
+        ensures some { IfSome result
+            (λ b. IsWithin self.now.ledger.domain self.now.ledger.journal b.object b.post.now) }
+        ensures none { IfNone result ((o : ℕ) (p : items.Post)
+            → ¬ IsWithin self.now.ledger.domain self.now.ledger.journal o p) }
+    {
+        let Some(object) = last_object(self.ledger.journal()) else {
+            return None;
+        };
+        match next_post_in(&self.tracks, object) {
+            Some(post) => Some(Begun { object, post }),
+            None => None,
+        }
+    }
+
+    // Whether an entry splits a send that is begun: it is not the next post of that. The first format knows no such
+    // rule.
+    pub(crate) fn splits(&self, e: &Entry) -> bool
+        requires kept { IsKept self.now }
+        requires legal { IsLegal self.now.format self.now.ledger.domain self.now.ledger.journal }
+        ensures { MatchBool result
+            (¬ KeepsWhole self.now.format self.now.ledger.domain self.now.ledger.journal e.now)
+            (KeepsWhole self.now.format self.now.ledger.domain self.now.ledger.journal e.now) }
+    {
+        match self.format {
+            Format::One => false,
+            Format::Two => match self.begun() {
+                Some(begun) => !begun.is(e),
+                None => false,
+            },
+        }
+    }
+}
