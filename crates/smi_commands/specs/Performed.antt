@@ -2,7 +2,8 @@
 use Rattle.std.specs.Prelude.{◌≡◌, ◌≤◌, ◌⊎◌, ℕ, List, [], Bool, false, Option, length}
 use Rattle.std.specs.Io.KnownBytes.{Appends, Consumes, IsAtEnd}
 use Rattle.smi_machine.specs.Machines.{CoreView}
-use Rattle.smi_core.specs.Feeds.{FirstLines, Outputs, WholeLines, lines_of}
+use Rattle.sml_text.specs.Lines.{Outputs, lines_of}
+use Rattle.smi_core.specs.Feeds.{FirstLines, WholeLines}
 use Rattle.smi_core.specs.Output.{LineWrites}
 use Rattle.smi_core.specs.declared.schedule.TheConstants.{LONGEST_SCHEDULE}
 

@@ -1,6 +1,7 @@
 -- Bytes fed one after another write what their lines write.
 use Rattle.std.proofs.Common.{◌≡◌, ℕ, ◌==◌, Bool, true, false, cond, List, [], ◌∷◌, ◌++◌, sym, refl, ap, ◌∙◌, subst, append_assoc, append-nil}
-use Rattle.smi_core.specs.Feeds.{onto, lines_of, Outputs, Feeds}
+use Rattle.sml_text.specs.Lines.{onto, lines_of, Outputs}
+use Rattle.smi_core.specs.Feeds.{Feeds}
 
 module _ {S : Type 0} (makes : S → List ℕ → List ℕ → S → Type 0) where
   pub feeds_none : (m : S) (line : List ℕ) → Feeds makes m line [] [] m line

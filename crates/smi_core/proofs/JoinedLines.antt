@@ -3,7 +3,7 @@ use Rattle.std.proofs.Common.{◌≡◌, ◌∙◌, sym, ap, refl, ℕ, ◌==◌
 use Rattle.std.proofs.lemmas.Bool.{eqb-true}
 use Rattle.std.specs.List.{list_all}
 use Rattle.sml_text.specs.Bytes.{no_line_feed}
-use Rattle.smi_core.specs.Feeds.{onto, lines_of}
+use Rattle.sml_text.specs.Lines.{onto, lines_of}
 use Rattle.smi_core.specs.ScheduleLaws.{joined, AreLines}
 
 -- some lines: there is one

@@ -15,7 +15,7 @@ use Rattle.smi_lines.specs.declared.line.LineError.TheVariants as line
 use Rattle.smi_lines.specs.Line.{LineReads, LineAnswers, ReadsTokens, Answers, asked, lexemes, is_line}
 use Rattle.smi_lines.specs.Answers.{answer_text}
 use Rattle.smi_machine.specs.Machines.{CoreView}
-use Rattle.smi_core.specs.Feeds.{Outputs, lines_of}
+use Rattle.sml_text.specs.Lines.{Outputs, lines_of}
 use Rattle.smi_core.specs.Output.{Writes, LineWrites, added_in}
 use Rattle.smi_core.specs.ScheduleLaws.{OutputOf}
 

@@ -3,7 +3,8 @@ use Rattle.std.proofs.Common.{◌≡◌, ◌==◌, ℕ, Bool, true, false, cond,
 use Rattle.std.specs.Prelude.{◌⊎◌}
 use Rattle.std.proofs.Common.{inl, inr}
 use Rattle.std.specs.Io.KnownBytes.{Appends}
-use Rattle.smi_core.specs.Feeds.{Feeds, IsPending, Torn, Went, Halted, FirstLines, WholeLines, Outputs, lines_of}
+use Rattle.sml_text.specs.Lines.{Outputs, lines_of}
+use Rattle.smi_core.specs.Feeds.{Feeds, IsPending, Torn, Went, Halted, FirstLines, WholeLines}
 use Rattle.smi_core.proofs.Io.{appends_none, appends_more}
 use Rattle.smi_core.proofs.Fed.{feeds_none, feeds_append, fed, fed_lines, fed_all, onto_nothing}
 

@@ -3,7 +3,7 @@ use Rattle.std.specs.Prelude.{◌≡◌, ℕ, true, List, [], ◌∷◌, ◌++�
 use Rattle.std.specs.List.{list_all}
 use Rattle.sml_text.specs.Bytes.{no_line_feed}
 use Rattle.smi_machine.specs.Machines.{CoreView}
-use Rattle.smi_core.specs.Feeds.{Outputs, lines_of}
+use Rattle.sml_text.specs.Lines.{Outputs, lines_of}
 use Rattle.smi_core.specs.Output.{LineWrites}
 
 -- lines with line feeds between them

@@ -7,3 +7,4 @@ pub mod Views
 pub mod Laws
 pub mod Written
 pub mod Decimal
+pub mod Lines
