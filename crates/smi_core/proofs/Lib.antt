@@ -1,7 +1,7 @@
 mod Fed
 mod Io
 mod JoinedLines
-mod OneOutput
+pub mod OneOutput
 mod Parts
 mod Tolds
 mod Extended

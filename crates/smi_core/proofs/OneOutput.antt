@@ -35,7 +35,7 @@ read_at some true text r s nr ns p q = read_so text r s nr ns p q (some source.L
 read_at some false text r s nr ns p q = p ∙ sym q
 
 -- where memory is not wanted, a line is read in one way
-reads_one : SomeReading → (text : List ℕ) (r s : Result (Option Step) LineError) → (r ≡ Err line.Memory → ⊥) → (s ≡ Err line.Memory → ⊥) → LineReads text r → LineReads text s → r ≡ s
+pub reads_one : SomeReading → (text : List ℕ) (r s : Result (Option Step) LineError) → (r ≡ Err line.Memory → ⊥) → (s ≡ Err line.Memory → ⊥) → LineReads text r → LineReads text s → r ≡ s
 reads_one some text r s nr ns p q = read_at some (is_line text) text r s nr ns p q
 
 -- what writes something is not out of memory
@@ -62,7 +62,7 @@ writes_one m (Ok (Some s)) out other m2 m3 p q =
       machine_same m2 m3 (p.3 ∙ sym q.3) same.1,
     )
 
-line_one : SomeReading → (m : CoreView) (text out other : List ℕ) (m2 m3 : CoreView) → LineWrites m text out m2 → LineWrites m text other m3 → (out ≡ other) × (m2 ≡ m3)
+pub line_one : SomeReading → (m : CoreView) (text out other : List ℕ) (m2 m3 : CoreView) → LineWrites m text out m2 → LineWrites m text other m3 → (out ≡ other) × (m2 ≡ m3)
 line_one some m text out other m2 m3 p q =
     writes_one m p.0 out other m2 m3 p.2 (subst (λ r. Writes m r other m3) (reads_one some text q.0 p.0 (writes_some m q.0 other m3 q.2) (writes_some m p.0 out m2 p.2) q.1 p.1) q.2)
 

@@ -9,7 +9,7 @@ ghost use Rattle.smi_board.specs.Contacts.{Resumes};
 ghost use Rattle.smi_board.specs.Turns.{can_go_on};
 ghost use Rattle.smi_board.specs.declared.resuming.Work.TheVariants.{Resume};
 ghost use Rattle.smi_world.specs.declared.step.Step.TheVariants as step;
-ghost use Rattle.smi_machine.specs.Stepping.{Steps};
+ghost use Rattle.smi_machine.specs.Stepping.{Steps, StepsNamed};
 ghost use Rattle.smi_machine.specs.Machines.{setup_of, world_of};
 ghost use Rattle.smi_machine.specs.Told.{Goes, changed_by, HaveTheirs, IsRested, IsTaken, Takes, waited_from, with_task};
 
@@ -168,8 +168,8 @@ impl Machine {
         }
     }
 
-    /// The open action of an object makes its next move. The cost is that of the move, and where the
-    /// object waits that of `Board::next`.
+    /// The open action of an object makes its next move. The cost is the count of objects, and that of the move, and
+    /// where the object waits that of `Board::next`.
     pub(crate) fn go(&mut self, object: &Name) -> Result<Answer, StepError>
         requires { HaveTheirs self.old.board self.old.tasks.items }
         ensures { Steps self.old.board self.old.tasks.items (step.Go object.now) result
@@ -178,6 +178,17 @@ impl Machine {
         let Some(o) = self.board.domain().object(object) else {
             return Err(StepError::UnknownObject);
         };
+        self.go_of(o)
+    }
+
+    /// The open action of the object of a number makes its next move. The cost is that of the move, and where the
+    /// object waits that of `Board::next`.
+    pub(crate) fn go_of(&mut self, o: ObjId) -> Result<Answer, StepError>
+        requires within { o < length self.old.board.domain.objects }
+        requires have { HaveTheirs self.old.board self.old.tasks.items }
+        ensures { StepsNamed (λ x. step.Go x) self.old.board self.old.tasks.items o result
+            self.new.board self.new.tasks.items }
+    {
         if self.board.domain().associated(o) {
             return Err(StepError::Associated);
         }
