@@ -25,6 +25,10 @@ IsTextFault path text (fault.BadLine _ _) = ⊥
 IsTextFault path text (fault.Overwrites _) = ⊥
 IsTextFault path text fault.Output = ⊥
 IsTextFault path text (fault.JournalUnwritten _ _) = ⊥
+IsTextFault path text (fault.LogNotEmpty _) = ⊥
+IsTextFault path text (fault.LogOfAnother _) = ⊥
+IsTextFault path text (fault.LogInUse _) = ⊥
+IsTextFault path text (fault.LogFull _) = ⊥
 IsTextFault path text fault.ReportDiffers = ⊥
 
 -- why the text of a path has no domain: it is no file, or this is the first fault of its file
@@ -42,4 +46,8 @@ IsDomainFault path text (fault.BadLine _ _) = ⊥
 IsDomainFault path text (fault.Overwrites _) = ⊥
 IsDomainFault path text fault.Output = ⊥
 IsDomainFault path text (fault.JournalUnwritten _ _) = ⊥
+IsDomainFault path text (fault.LogNotEmpty _) = ⊥
+IsDomainFault path text (fault.LogOfAnother _) = ⊥
+IsDomainFault path text (fault.LogInUse _) = ⊥
+IsDomainFault path text (fault.LogFull _) = ⊥
 IsDomainFault path text fault.ReportDiffers = ⊥

@@ -34,3 +34,7 @@ IsNotJudged d path bytes (fault.Overwrites _) = ⊥
 IsNotJudged d path bytes fault.Output = ⊥
 IsNotJudged d path bytes (fault.JournalUnwritten _ _) = ⊥
 IsNotJudged d path bytes fault.ReportDiffers = ⊥
+IsNotJudged d path bytes (fault.LogNotEmpty _) = ⊥
+IsNotJudged d path bytes (fault.LogOfAnother _) = ⊥
+IsNotJudged d path bytes (fault.LogInUse _) = ⊥
+IsNotJudged d path bytes (fault.LogFull _) = ⊥

@@ -7,6 +7,7 @@ use Rattle.smi_commands.specs.declared.fault.Fault.{Fault}
 use Rattle.smi_commands.specs.declared.fault.Fault.TheVariants.{Read, Check, WrongNumbers, WrongRunNumbers, Unreadable}
 use Rattle.smi_commands.specs.declared.fault.Fault.TheVariants.{TooLong, BadHeader, BadLine, Overwrites, Output}
 use Rattle.smi_commands.specs.declared.fault.Fault.TheVariants.{JournalUnwritten, ReportDiffers, Memory}
+use Rattle.smi_commands.specs.declared.fault.Fault.TheVariants.{LogNotEmpty, LogOfAnother, LogInUse, LogFull}
 
 -- the exit status of a fault
 abbrev pub fault_status : Fault → ℕ
@@ -21,6 +22,10 @@ fault_status (BadLine _ _) = 1
 fault_status (Overwrites _) = 2
 fault_status Output = 1
 fault_status (JournalUnwritten _ _) = 1
+fault_status (LogNotEmpty _) = 1
+fault_status (LogOfAnother _) = 1
+fault_status (LogInUse _) = 1
+fault_status (LogFull _) = 1
 fault_status ReportDiffers = 1
 fault_status Memory = 3
 
@@ -39,5 +44,9 @@ fault_line (BadLine file n) = Some (file.now ++ codes " bad line " ++ decimal n)
 fault_line (Overwrites file) = Some (file.now ++ codes " is read, so that no journal is written to it")
 fault_line Output = Some (codes "output fault")
 fault_line (JournalUnwritten _ _) = Some (codes "output fault")
+fault_line (LogNotEmpty file) = Some (file.now ++ codes " is not empty")
+fault_line (LogOfAnother file) = Some (file.now ++ codes " is of another domain")
+fault_line (LogInUse file) = Some (file.now ++ codes " is in use")
+fault_line (LogFull file) = Some (file.now ++ codes " full")
 fault_line ReportDiffers = Some (codes "report differs")
 fault_line Memory = Some (codes "memory")

@@ -34,12 +34,20 @@ pub enum Fault<'a> {
     BadHeader(&'a str),
     /// A line of the journal is no entry's, or one of the script none of a script's. Lines count from 1.
     BadLine(&'a str, u64),
-    /// The journal would be written over this file, which is read.
+    /// The journal or the log would be written over this file, which is read.
     Overwrites(&'a str),
     /// Standard output cannot be written.
     Output,
-    /// The file of the journal cannot be made or written, for this cause where the system told one.
+    /// The file of the journal or of the log cannot be made or written, for this cause where the system told one.
     JournalUnwritten(&'a str, Option<io::Error>),
+    /// The log of a manager that begins has something already.
+    LogNotEmpty(&'a str),
+    /// The log is not that of a manager of this domain, or of one with this capacity.
+    LogOfAnother(&'a str),
+    /// Another manager writes the log.
+    LogInUse(&'a str),
+    /// With its next line the log would be longer than a schedule may be.
+    LogFull(&'a str),
     /// The report of a run lists receipts that its journal does not bear out.
     ReportDiffers,
     /// Out of memory.
@@ -56,6 +64,8 @@ impl<'a> Fault<'a> {
             Fault::Read(..) | Fault::Check(..) | Fault::BadHeader(_) | Fault::BadLine(..) =>
                 REFUSED,
             Fault::Unreadable(..) | Fault::TooLong(_) => REFUSED,
+            Fault::LogNotEmpty(_) | Fault::LogOfAnother(_) => REFUSED,
+            Fault::LogInUse(_) | Fault::LogFull(_) => REFUSED,
             Fault::Output | Fault::JournalUnwritten(..) | Fault::ReportDiffers => REFUSED,
             Fault::WrongNumbers | Fault::WrongRunNumbers | Fault::Overwrites(_) => WRONG_WORDS,
             Fault::Memory => NO_MEMORY,
@@ -174,6 +184,10 @@ impl fmt::Display for Fault<'_> {
                 write!(f, "{file} is read, so that no journal is written to it")
             }
             Fault::Output | Fault::JournalUnwritten(..) => f.write_str("output fault"),
+            Fault::LogNotEmpty(file) => write!(f, "{file} is not empty"),
+            Fault::LogOfAnother(file) => write!(f, "{file} is of another domain"),
+            Fault::LogInUse(file) => write!(f, "{file} is in use"),
+            Fault::LogFull(file) => write!(f, "{file} full"),
             Fault::ReportDiffers => f.write_str("report differs"),
             Fault::Memory => f.write_str("memory"),
         }

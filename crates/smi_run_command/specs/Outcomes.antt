@@ -22,3 +22,7 @@ IsFaultOf e unmet (fault.TooLong _) = ⊥
 IsFaultOf e unmet (fault.BadHeader _) = ⊥
 IsFaultOf e unmet (fault.BadLine _ _) = ⊥
 IsFaultOf e unmet (fault.Overwrites _) = ⊥
+IsFaultOf e unmet (fault.LogNotEmpty _) = ⊥
+IsFaultOf e unmet (fault.LogOfAnother _) = ⊥
+IsFaultOf e unmet (fault.LogInUse _) = ⊥
+IsFaultOf e unmet (fault.LogFull _) = ⊥

@@ -21,3 +21,7 @@ IsUnplanned d path text (fault.Overwrites _) = ⊥
 IsUnplanned d path text fault.Output = ⊥
 IsUnplanned d path text (fault.JournalUnwritten _ _) = ⊥
 IsUnplanned d path text fault.ReportDiffers = ⊥
+IsUnplanned d path text (fault.LogNotEmpty _) = ⊥
+IsUnplanned d path text (fault.LogOfAnother _) = ⊥
+IsUnplanned d path text (fault.LogInUse _) = ⊥
+IsUnplanned d path text (fault.LogFull _) = ⊥

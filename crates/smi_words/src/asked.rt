@@ -7,6 +7,7 @@ use smi_commands::{
     Advice, AuditOptions, DONE, Fault, GraphOptions, StepOptions, WRONG_WORDS, run_audit,
     run_check, run_graph, run_list, run_print, run_step,
 };
+use smi_live_command::{LiveHost, LiveOptions, run_live, run_live_as_lines_come};
 use smi_run_command::{Host, RunOptions, run_run};
 use std::io;
 use std::io::{ErrorKind, Read, Write};
@@ -20,6 +21,8 @@ pub enum Asked<'a> {
     Step(StepOptions<'a>),
     /// To run a script on a domain, in threads.
     Run(RunOptions<'a>),
+    /// To run a manager on a domain, which other programs talk to.
+    Live(LiveOptions<'a>),
     /// To print the canonical text of the domain file of this path, or to say why it is refused, if that is asked for.
     Print { file: &'a str, explain: bool },
     /// To list what the domain file of this path declares.
@@ -37,6 +40,7 @@ impl Asked<'_> {
             Asked::Check { explain, .. } | Asked::Print { explain, .. } => *explain,
             Asked::Step(options) => options.explain,
             Asked::Run(options) => options.explain,
+            Asked::Live(options) => options.explain,
             Asked::Audit(options) => options.explain,
             Asked::List(_) | Asked::Graph(_) => false,
         }
@@ -45,10 +49,10 @@ impl Asked<'_> {
 
 /// Does what is asked, and gives the exit status.
 ///
-/// A file that is named `-` is `input`. What the command gives goes to `output`, and a fault line
+/// A file that is named `-` is `input`, and so are the lines of a manager, which it takes in turn. What the command gives goes to `output`, and a fault line
 /// (docs/FORMATS.md, "Fault lines and exit statuses") to `errors`, and behind it what is advised, where that is asked
 /// for. A fault of `errors` changes nothing, since there is no place left to tell it.
-pub fn perform<R: Host, I: Read, W: Write, E: Write>(
+pub fn perform<R: Host + LiveHost, I: Read, W: Write, E: Write>(
     rt: &R,
     asked: &Asked<'_>,
     input: &mut I,
@@ -64,7 +68,7 @@ pub fn perform<R: Host, I: Read, W: Write, E: Write>(
 }
 
 // Does what is asked, and gives the exit status. What is advised goes to the advice.
-fn perform_advised<R: Host, I: Read, W: Write, E: Write>(
+fn perform_advised<R: Host + LiveHost, I: Read, W: Write, E: Write>(
     rt: &R,
     asked: &Asked<'_>,
     input: &mut I,
@@ -91,6 +95,12 @@ fn perform_advised<R: Host, I: Read, W: Write, E: Write>(
             )
         }
         Asked::Run(options) => ended(&run_run(rt, options, input, output, errors, advice), errors),
+        Asked::Live(options) => {
+            ended(
+                &run_live(rt, options, input, output, errors, advice),
+                errors,
+            )
+        }
         Asked::Audit(options) => {
             status_of(
                 &run_audit(rt, options, input, output, errors, advice),
@@ -98,6 +108,24 @@ fn perform_advised<R: Host, I: Read, W: Write, E: Write>(
             )
         }
     }
+}
+
+/// Runs a manager whose lines are those of `input`, as they come, and gives the exit status.
+///
+/// What is told goes where `perform` tells it.
+pub fn perform_live<
+    R: Host + LiveHost + 'static,
+    I: Read + Send + Drop + 'static,
+    W: Write,
+    E: Write,
+>(rt: &R, options: &LiveOptions<'_>, input: I, output: &mut W, errors: &mut E) -> u8
+    ensures { result ≤ 4 }
+{
+    let mut advice = Advice::new(rt.alloc(), options.explain);
+    let done = run_live_as_lines_come(rt, options, input, output, errors, &mut advice);
+    let status = ended(&done, errors);
+    advice.tell(errors);
+    status
 }
 
 // The status of a command that gives one, or that of its fault, which is told.

@@ -6,6 +6,7 @@ use crate::help::audit::{AUDIT, AUDIT_MORE, EXPLAIN, JOURNAL};
 use crate::help::check::{CHECK, CHECK_MORE, FILES};
 use crate::help::graph::{COUNT, DRAWN_JOURNAL, FROM, GRAPH, GRAPH_MORE, OBJECTS};
 use crate::help::list::{LIST, LIST_MORE};
+use crate::help::live::{IN_TURN, KEPT_LOG, LIVE, LIVE_FILE, LIVE_MORE, RESUME};
 use crate::help::print::{PRINT, PRINT_MORE};
 use crate::help::run::{PROGRESS, RUN, RUN_JOURNAL, RUN_MORE, SCRIPT, WORKERS};
 use crate::help::step::{
@@ -17,6 +18,7 @@ use clap::{Arg, ArgAction, ArgMatches, Command, Error, value_parser};
 use smi_commands::{
     AuditOptions, GraphOptions, MAX_CAPACITY, MAX_STARTS, STANDARD_INPUT, StepOptions,
 };
+use smi_live_command::LiveOptions;
 use smi_run_command::{MAX_WORKERS, RunNumbers, RunOptions};
 use std::alloc::{AllocError, Global};
 
@@ -48,7 +50,19 @@ fn read_words<'a>(
         let told = "`-` stands more than once, and standard input is read once";
         return Err(command.error(ErrorKind::ArgumentConflict, told)?);
     }
+    if has_no_file(&asked) {
+        let told = "`live` takes no domain from standard input, which has the lines";
+        return Err(command.error(ErrorKind::ArgumentConflict, told)?);
+    }
     Ok(asked)
+}
+
+// Whether a manager is to take its domain from where its lines come.
+fn has_no_file(asked: &Asked<'_>) -> bool {
+    match asked {
+        Asked::Live(options) => options.file == STANDARD_INPUT,
+        _ => false,
+    }
 }
 
 // How many files standard input is to stand for.
@@ -59,6 +73,7 @@ fn inputs(asked: &Asked<'_>) -> usize {
         Asked::Graph(options) => inputs_in(&[options.file, options.journal.unwrap_or("")]),
         Asked::Step(options) => inputs_in(&[options.file, options.schedule]),
         Asked::Run(options) => inputs_in(&[options.file, options.script]),
+        Asked::Live(_) => 1,
         Asked::Audit(options) => inputs_in(&[options.file, options.journal]),
     }
 }
@@ -80,6 +95,9 @@ fn asked_of<'a>(
     }
     if let Some(run) = matches.subcommand_matches("run") {
         return Ok(script_to_run(run, is_terminal));
+    }
+    if let Some(live) = matches.subcommand_matches("live") {
+        return Ok(manager_to_run(live));
     }
     if let Some(audit) = matches.subcommand_matches("audit") {
         return Ok(journal_to_judge(audit));
@@ -159,6 +177,18 @@ fn script_to_run<'a>(run: &ArgMatches<'a>, is_terminal: bool) -> Option<Asked<'a
     }))
 }
 
+fn manager_to_run<'a>(live: &ArgMatches<'a>) -> Option<Asked<'a>> {
+    Some(Asked::Live(LiveOptions {
+        file: live.get_str("FILE")?,
+        log: live.get_str("log"),
+        resume: live.get_flag("resume"),
+        in_turn: live.get_flag("in-turn"),
+        capacity: live.get_one::<usize>("capacity")?,
+        max_starts: live.get_one::<usize>("max-starts")?,
+        explain: live.get_flag("explain"),
+    }))
+}
+
 fn journal_to_judge<'a>(audit: &ArgMatches<'a>) -> Option<Asked<'a>> {
     Some(Asked::Audit(AuditOptions {
         file: audit.get_str("FILE")?,
@@ -179,6 +209,7 @@ fn smirun_command<'a>(alloc: Global) -> Result<Command<'a>, AllocError> {
     let command = with_subcommand(command, graph_command(alloc))?;
     let command = with_subcommand(command, step_command(alloc))?;
     let command = with_subcommand(command, run_command(alloc))?;
+    let command = with_subcommand(command, live_command(alloc))?;
     with_subcommand(command, audit_command(alloc))
 }
 
@@ -249,6 +280,19 @@ fn run_command<'a>(alloc: Global) -> Result<Command<'a>, AllocError> {
         .arg(max_starts(alloc))?
         .arg(run_journal(alloc))?
         .arg(progress(alloc))?
+        .arg(explain(alloc, WHY_LINES))
+}
+
+fn live_command<'a>(alloc: Global) -> Result<Command<'a>, AllocError> {
+    Command::new(alloc, "live")
+        .about(LIVE)
+        .after_help(LIVE_MORE)
+        .arg(Arg::new(alloc, "FILE").required(true).help(LIVE_FILE))?
+        .arg(kept_log(alloc))?
+        .arg(resume(alloc)?)?
+        .arg(in_turn(alloc))?
+        .arg(capacity(alloc))?
+        .arg(max_starts(alloc))?
         .arg(explain(alloc, WHY_LINES))
 }
 
@@ -335,6 +379,28 @@ fn kept_journal<'a>(alloc: Global) -> Arg<'a> {
         .long("journal")
         .value_name("PATH")
         .help(KEPT_JOURNAL)
+}
+
+fn kept_log<'a>(alloc: Global) -> Arg<'a> {
+    Arg::new(alloc, "log")
+        .long("log")
+        .value_name("PATH")
+        .help(KEPT_LOG)
+}
+
+fn resume<'a>(alloc: Global) -> Result<Arg<'a>, AllocError> {
+    Arg::new(alloc, "resume")
+        .long("resume")
+        .action(ArgAction::SetTrue)
+        .help(RESUME)
+        .requires_arg("log")
+}
+
+fn in_turn<'a>(alloc: Global) -> Arg<'a> {
+    Arg::new(alloc, "in-turn")
+        .long("in-turn")
+        .action(ArgAction::SetTrue)
+        .help(IN_TURN)
 }
 
 fn workers<'a>(alloc: Global) -> Arg<'a> {

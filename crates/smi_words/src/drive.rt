@@ -2,12 +2,13 @@
 ghost use Rattle.std.specs.Prelude.{◌≡◌, ◌≢◌, ◌≤◌, ◌⊎◌};
 ghost use Rattle.clap.specs.Values.{kind_of};
 
-use crate::asked::perform;
+use crate::asked::{Asked, perform, perform_live};
 use crate::command_line::parse;
 use clap::error::ErrorKind;
 use smi_commands::{DONE, Fault, WRONG_WORDS};
+use smi_live_command::LiveHost;
 use smi_run_command::Host;
-use std::io::{Input, IsTerminal, Read, Write};
+use std::io::{IsTerminal, Read, Write};
 
 /// Does what the words ask for, and gives the exit status.
 ///
@@ -15,21 +16,30 @@ use std::io::{Input, IsTerminal, Read, Write};
 /// help or the version where they are asked for, goes to `output`; a fault line (docs/FORMATS.md, "Fault lines and
 /// exit statuses") and what is said of a wrong command line go to `errors`. A fault of `errors` changes nothing,
 /// since there is no place left to tell it.
-pub fn drive<R: Host + Input, W: Write, E: Write + IsTerminal>(
-    rt: &R,
-    words: &[String],
-    output: &mut W,
-    errors: &mut E,
-) -> u8
+///
+/// Standard input is `input`. Where a manager is to take lines as they come, a thread of its own reads it.
+pub fn drive<
+    R: Host + LiveHost + 'static,
+    I: Read + Send + Drop + 'static,
+    W: Write,
+    E: Write + IsTerminal,
+>(rt: &R, words: &[String], mut input: I, output: &mut W, errors: &mut E) -> u8
     ensures { result ≤ 4 }
 {
     let is_terminal = errors.is_terminal();
-    drive_from(rt, words, &mut rt.reader(), output, errors, is_terminal)
+    match parse(rt.alloc(), words, is_terminal) {
+        Ok(Asked::Live(options)) if !options.in_turn => {
+            perform_live(rt, &options, input, output, errors)
+        }
+        Ok(asked) => perform(rt, &asked, &mut input, output, errors),
+        Err(error) => answer(&error, output, errors),
+    }
 }
 
 /// As [`drive`], with another reader in the place of standard input, and told whether `errors` is a terminal: only
-/// then is it told how far a run is.
-pub fn drive_from<R: Host, I: Read, W: Write, E: Write>(
+/// then is it told how far a run is. A manager takes the lines of such a reader in turn, whether that is asked for or
+/// not.
+pub fn drive_from<R: Host + LiveHost, I: Read, W: Write, E: Write>(
     rt: &R,
     words: &[String],
     input: &mut I,

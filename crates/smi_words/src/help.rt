@@ -4,6 +4,7 @@ pub mod audit;
 pub mod check;
 pub mod graph;
 pub mod list;
+pub mod live;
 pub mod print;
 pub mod run;
 pub mod step;
@@ -17,7 +18,7 @@ or a move to another state. Objects belong to classes. Every object keeps the re
 sent in a mailbox, and performs them one after the other, in the order in which they came.
 
 `step` makes the steps of a schedule in its order, on one thread. `run` has operators' sessions and workers
-in threads of their own, and says what came of it.";
+in threads of their own, and says what came of it. `live` is a manager that other programs talk to.";
 
 pub const STATUSES: &str = "\
 `--help` behind a command has the forms of its files, what it writes, and examples.
@@ -25,8 +26,8 @@ pub const STATUSES: &str = "\
 All texts are ASCII, without a byte order mark. `-` in the place of a file that is read is standard input,
 which stands once on a command line; a file of that name is `./-`.
 
-Where a file is `unreadable`, or the journal of `step` or `run` cannot be written, a further line on
-standard error has why, in the words of the system.
+Where a file is `unreadable`, or the journal of `step` or `run` or the log of `live` cannot be written, a further
+line on standard error has why, in the words of the system.
 
 Exit status: 0 done, also where single steps or requests were refused; 1 an input was refused, or a file
 could not be read or the output not be written; 2 a wrong command line; 3 not enough memory; 4 a journal

@@ -10,7 +10,13 @@ use std::{env, io};
 fn main(rt: HostRuntime) -> ExitCode {
     let mut errors = rt.stderr();
     let status = match words(&rt) {
-        Ok(words) => drive(&rt, words.as_slice(), &mut rt.stdout(), &mut errors),
+        Ok(words) => drive(
+            &rt,
+            words.as_slice(),
+            rt.reader(),
+            &mut rt.stdout(),
+            &mut errors,
+        ),
         Err(error) => refuse_words(&error, &mut errors),
     };
     ExitCode::from(status)

@@ -5,6 +5,7 @@ use crate::explained::compare;
 use crate::limits::tell_untold;
 use crate::outcomes::tell_run;
 use crate::place::Place;
+use smi_live_command::LiveHost;
 use smi_run_command::Host;
 use std::alloc::AllocError;
 use std::fs::Files;
@@ -13,7 +14,7 @@ use std::os::unix::fs::symlink;
 use std::{fs, io, str};
 
 /// Does what a line says.
-pub fn perform<R: Host>(rt: &R, line: &str, place: &mut Place) -> io::Result<()> {
+pub fn perform<R: Host + LiveHost>(rt: &R, line: &str, place: &mut Place) -> io::Result<()> {
     let (mark, rest) = line.split_once(' ').unwrap_or((line, ""));
     match mark {
         // adds the rest to the text at hand, as a line
@@ -50,7 +51,7 @@ fn tell_part(part: &str, place: &mut Place) -> io::Result<()> {
 }
 
 // Does something with a file, or with what a command line told of help.
-fn handle<R: Host>(rt: &R, line: &str, place: &mut Place) -> io::Result<()> {
+fn handle<R: Host + LiveHost>(rt: &R, line: &str, place: &mut Place) -> io::Result<()> {
     let (verb, rest) = line.split_once(' ').unwrap_or((line, ""));
     match verb {
         // writes the text at hand as a file
@@ -60,6 +61,8 @@ fn handle<R: Host>(rt: &R, line: &str, place: &mut Place) -> io::Result<()> {
         // adds a line to the text at hand, filled with blanks: LENGTH LINE
         "filled" => add_filled(rest, place),
         "folder" => fs::create_dir(rt, rest),
+        // performs a command line while a file is locked: PATH LINE
+        "held" => call_held(rt, rest, place),
         // gives a file a further path: PATH LINK
         "link" => link(rt, rest),
         // makes a path that stands for another: PATH LINK
@@ -90,6 +93,13 @@ fn link<R: Files>(rt: &R, words: &str) -> io::Result<()> {
 fn point<R: Files>(rt: &R, words: &str) -> io::Result<()> {
     let (path, link) = words.split_once(' ').unwrap_or((words, ""));
     symlink(rt, path, link)
+}
+
+fn call_held<R: Host + LiveHost>(rt: &R, words: &str, place: &mut Place) -> io::Result<()> {
+    let (path, line) = words.split_once(' ').unwrap_or((words, ""));
+    let file = fs::open(rt, path)?;
+    file.lock()?;
+    call(rt, line, place)
 }
 
 pub fn number(word: &str) -> io::Result<usize> {

@@ -3,6 +3,7 @@
 use crate::explained::{give, tell_explained};
 use crate::place::Place;
 use crate::writers::{Fails, FailsLate, NoMemory, TakesNothing, TakesSome};
+use smi_live_command::LiveHost;
 use smi_run_command::Host;
 use smi_words::asked::refuse_words;
 use smi_words::drive::drive_from;
@@ -24,7 +25,7 @@ fn words_of(alloc: Global, line: &str) -> Result<Vec<String>, AllocError> {
 }
 
 /// Performs a command line, whose standard input is the text at hand, and gives its status.
-pub fn run<R: Host, W: Write>(
+pub fn run<R: Host + LiveHost, W: Write>(
     rt: &R,
     line: &str,
     text: &[u8],
@@ -51,7 +52,7 @@ pub fn tell(alloc: Global, place: &mut Place, status: u8, errors: &[u8]) -> io::
 
 /// Performs a command line and tells its status and its errors, and that `--explain` changes what it gives, if so. Its
 /// output is kept.
-pub fn ask<R: Host>(rt: &R, line: &str, place: &mut Place) -> io::Result<()> {
+pub fn ask<R: Host + LiveHost>(rt: &R, line: &str, place: &mut Place) -> io::Result<()> {
     place.is_open = false;
     let mut errors = Vec::new(rt.alloc());
     let given = give(rt, line, place.text.as_slice(), &mut errors)?;
@@ -62,13 +63,13 @@ pub fn ask<R: Host>(rt: &R, line: &str, place: &mut Place) -> io::Result<()> {
 }
 
 /// Performs a command line and tells its output too.
-pub fn call<R: Host>(rt: &R, line: &str, place: &mut Place) -> io::Result<()> {
+pub fn call<R: Host + LiveHost>(rt: &R, line: &str, place: &mut Place) -> io::Result<()> {
     ask(rt, line, place)?;
     place.tell_output()?;
     Ok(())
 }
 
-fn call_into<R: Host, W: Write>(
+fn call_into<R: Host + LiveHost, W: Write>(
     rt: &R,
     line: &str,
     place: &mut Place,
@@ -80,7 +81,7 @@ fn call_into<R: Host, W: Write>(
 }
 
 /// Performs a command line three times, with outputs that cannot be written.
-pub fn call_in_vain<R: Host>(rt: &R, line: &str, place: &mut Place) -> io::Result<()> {
+pub fn call_in_vain<R: Host + LiveHost>(rt: &R, line: &str, place: &mut Place) -> io::Result<()> {
     call_into(rt, line, place, &mut Fails)?;
     call_into(rt, line, place, &mut TakesNothing)?;
     call_into(rt, line, place, &mut FailsLate)
@@ -88,7 +89,12 @@ pub fn call_in_vain<R: Host>(rt: &R, line: &str, place: &mut Place) -> io::Resul
 
 // Whether a command line whose output takes so many bytes and then fails writes a prefix of what it wrote before, and
 // tells that its output cannot be written.
-fn is_cut_off<R: Host>(rt: &R, line: &str, place: &Place, taken: usize) -> io::Result<bool> {
+fn is_cut_off<R: Host + LiveHost>(
+    rt: &R,
+    line: &str,
+    place: &Place,
+    taken: usize,
+) -> io::Result<bool> {
     let mut errors = Vec::new(rt.alloc());
     let mut output = TakesSome {
         taken: Vec::new(rt.alloc()),
@@ -105,7 +111,7 @@ fn is_cut_off<R: Host>(rt: &R, line: &str, place: &Place, taken: usize) -> io::R
 
 /// Performs a command line, and then again for each byte of its output, where an output that takes one byte a call
 /// fails there. Tells where that does not go as it must, and how often it was done.
-pub fn call_cut_off<R: Host>(rt: &R, line: &str, place: &mut Place) -> io::Result<()> {
+pub fn call_cut_off<R: Host + LiveHost>(rt: &R, line: &str, place: &mut Place) -> io::Result<()> {
     call(rt, line, place)?;
     for taken in 0..place.output.len() {
         if !is_cut_off(rt, line, place, taken)? {
@@ -119,7 +125,11 @@ pub fn call_cut_off<R: Host>(rt: &R, line: &str, place: &mut Place) -> io::Resul
 }
 
 /// Performs a command line where there is no memory to read a file.
-pub fn call_with_no_memory<R: Host>(rt: &R, line: &str, place: &mut Place) -> io::Result<()> {
+pub fn call_with_no_memory<R: Host + LiveHost>(
+    rt: &R,
+    line: &str,
+    place: &mut Place,
+) -> io::Result<()> {
     call(&(NoMemory(*rt), rt.alloc()), line, place)
 }
 

@@ -2,6 +2,7 @@
 
 use crate::calls::run;
 use crate::place::Place;
+use smi_live_command::LiveHost;
 use smi_run_command::Host;
 use std::alloc::{AllocError, Global};
 use std::{fs, io};
@@ -27,7 +28,7 @@ impl Given {
 }
 
 /// Performs a command line, whose standard input is the text at hand.
-pub fn give<R: Host>(
+pub fn give<R: Host + LiveHost>(
     rt: &R,
     line: &str,
     text: &[u8],
@@ -43,7 +44,7 @@ pub fn give<R: Host>(
 }
 
 // The file of the journal that a command line names: nothing if it names none, or if that cannot be read.
-fn journal_of<R: Host>(rt: &R, line: &str) -> Vec<u8> {
+fn journal_of<R: Host + LiveHost>(rt: &R, line: &str) -> Vec<u8> {
     let named = line.split_once(" --journal ").map(|(_, rest)| rest);
     let path = named.and_then(|rest| rest.split(' ').next());
     let read = path.and_then(|path| fs::read(rt, path).ok());
@@ -67,7 +68,12 @@ fn other_way(alloc: Global, line: &str) -> Result<String, AllocError> {
 }
 
 // Performs a command line, and tells it where it gives something else.
-fn tell_other<R: Host>(rt: &R, line: &str, given: &Given, place: &mut Place) -> io::Result<()> {
+fn tell_other<R: Host + LiveHost>(
+    rt: &R,
+    line: &str,
+    given: &Given,
+    place: &mut Place,
+) -> io::Result<()> {
     let mut errors = Vec::new(rt.alloc());
     let other = give(rt, line, place.text.as_slice(), &mut errors)?;
     if !given.is_same(&other) {
@@ -78,7 +84,7 @@ fn tell_other<R: Host>(rt: &R, line: &str, given: &Given, place: &mut Place) -> 
 
 /// Performs a command line that can explain a second time, with `--explain`, or without it where it has it. Tells it
 /// where that changes its status, its output or its journal.
-pub fn tell_explained<R: Host>(
+pub fn tell_explained<R: Host + LiveHost>(
     rt: &R,
     line: &str,
     given: &Given,
@@ -92,7 +98,7 @@ pub fn tell_explained<R: Host>(
 }
 
 /// Performs two command lines, and tells the second where it gives something else than the first.
-pub fn compare<R: Host>(rt: &R, lines: &str, place: &mut Place) -> io::Result<()> {
+pub fn compare<R: Host + LiveHost>(rt: &R, lines: &str, place: &mut Place) -> io::Result<()> {
     place.is_open = false;
     let (first, second) = lines.split_once(" | ").unwrap_or((lines, ""));
     let mut errors = Vec::new(rt.alloc());

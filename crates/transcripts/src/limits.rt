@@ -43,6 +43,7 @@ fn limits_of(name: &str) -> &'static [Limit] {
         "domain" => OF_A_DOMAIN,
         "schedule" => &[OF_A_TEXT, (LONGEST_SCHEDULE, "")],
         "step" => &[(LONGEST_LINE, ""), (MAX_CAPACITY, ""), (MAX_STARTS, "")],
+        "live" => &[(LONGEST_SCHEDULE, ""), (LONGEST_LINE, "")],
         "journal" => &[OF_A_TEXT, (LONGEST_JOURNAL, "")],
         "script" => &[(LONGEST_SCRIPT, ""), (LONGEST_LINE, "")],
         "run" => &[(MAX_WORKERS, ""), (MAX_CAPACITY, ""), (MAX_STARTS, "")],

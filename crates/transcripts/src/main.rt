@@ -11,6 +11,7 @@ mod writers;
 
 use crate::acts::perform;
 use crate::place::Place;
+use smi_live_command::LiveHost;
 use smi_run_command::Host;
 use std::io::Write;
 use std::{env, fs, io};
@@ -26,7 +27,7 @@ fn main(rt: HostRuntime) -> io::Result<()> {
     done
 }
 
-fn perform_all<R: Host>(rt: &R, words: &[String], place: &mut Place) -> io::Result<()> {
+fn perform_all<R: Host + LiveHost>(rt: &R, words: &[String], place: &mut Place) -> io::Result<()> {
     for name in words.iter().skip(1) {
         perform_script(rt, name.as_str(), place)?;
     }
@@ -34,7 +35,7 @@ fn perform_all<R: Host>(rt: &R, words: &[String], place: &mut Place) -> io::Resu
 }
 
 // Performs a script line by line.
-fn perform_script<R: Host>(rt: &R, name: &str, place: &mut Place) -> io::Result<()> {
+fn perform_script<R: Host + LiveHost>(rt: &R, name: &str, place: &mut Place) -> io::Result<()> {
     let script = fs::read_to_string(rt, name)?;
     let text = script.as_str();
     for line in text.strip_suffix('\n').unwrap_or(text).split('\n') {

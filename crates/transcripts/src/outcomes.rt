@@ -5,6 +5,7 @@ use crate::calls::tell;
 use crate::place::Place;
 use smi_entry::journal::Journal;
 use smi_entry::session::SessionId;
+use smi_live_command::LiveHost;
 use smi_run_command::{Host, Outcome, Receipt, tell_outcome};
 use smi_shared::ending::ServeEnd;
 use sml_checkable::domain_of;
@@ -51,7 +52,7 @@ fn outcome_of(alloc: Global, end: &str, unmet: &str) -> io::Result<Outcome> {
 }
 
 /// Tells what is told of a run of nothing: how it ended, how many receipts are unmet, and the path of its journal.
-pub fn tell_run<R: Host>(rt: &R, words: &str, place: &mut Place) -> io::Result<()> {
+pub fn tell_run<R: Host + LiveHost>(rt: &R, words: &str, place: &mut Place) -> io::Result<()> {
     let alloc = rt.alloc();
     let (end, rest) = words.split_once(' ').unwrap_or((words, ""));
     let (unmet, path) = match rest.split_once(' ') {

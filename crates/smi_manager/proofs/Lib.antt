@@ -1,0 +1,6 @@
+mod Resting
+mod Stepped
+mod Empty
+mod LogLaws
+mod Reached
+mod OneOwn

@@ -1,0 +1,93 @@
+//! The texts of `live --help`.
+
+pub const LIVE: &str = "\
+Runs a manager of a domain, which other programs talk to by lines.";
+
+pub const LIVE_FILE: &str = "The domain file; standard input has the lines, so - is refused";
+
+pub const KEPT_LOG: &str =
+    "Writes each line that is made to this file, which is not there yet or empty; FILE is refused";
+
+pub const RESUME: &str = "Makes the lines of the log again first, and goes on behind them";
+
+pub const IN_TURN: &str =
+    "Takes a line only when nothing else is left to do, so that the same lines give the same output";
+
+pub const LIVE_MORE: &str = "\
+FILE is a domain file, as `smirun step --help` has it. The manager makes all `start` and `go` steps by itself,
+the objects in turn. Other programs write lines to its standard input, and read from its standard output what
+it does. A `start` line of an associated object tells who drives that device what to do; the reply is an
+`answer` or a `fault` line. Any number of devices may be at work at once.
+
+What goes in, one line each, of at most 8192 bytes of ASCII; a comment begins with `!`:
+
+  request @S OBJECT ACTION                  session @S, which is @1 to @8, asks OBJECT for ACTION
+  request @S OBJECT ACTION (NAME = VALUE, ..)  the same with arguments
+  answer OBJECT STATE                       the device of OBJECT has done its action, and is in STATE
+  fault OBJECT                              the device of OBJECT fails at its action: OBJECT is killed
+  kill OBJECT @S                            session @S kills OBJECT
+  ? ..                                      a question: how all stands goes to standard error, as `step --states`
+                                            writes it; neither the log nor standard output has anything of it
+
+Any other line is `refused BadLine`: also `start` and `go`, which are the manager's own. A line that has only
+blanks and a comment writes nothing, and stands in the log: so a driver can leave remarks there.
+
+What goes out is what `smirun step` writes for the lines that are made, those of others and the manager's own, in
+their order: `accept`, `start`, `set`, `post`, `empty`, `insert`, `remove`, `wait`, `seen`, `end`, `kill` and
+`refused`; `smirun step --help` has them all. What one line writes goes out in one write, before the next is made.
+By turns the manager makes one step of its own, if one can be made, and takes one line, if one has come; it waits
+for a line only when nothing else is left to do. So a `kill` waits for one step and the lines before it.
+
+A driver must read what the manager writes at all times, in the background of a script: one that writes and does
+not read fills both pipes, and then it and the manager wait for one another for ever. It waits for the `start`
+line: an answer before it is `refused NotOpen`. Where an `end OBJECT skipped` follows, there is nothing to do. Several
+programs may write into one FIFO where each line is one write of at most 4096 bytes, as `echo` makes it; one program
+reads the other. A FIFO ends when its last writer closes it, so whoever starts the manager keeps one open. With
+HV.sml, the domain of `smirun step --help`, this script has a supply that is always switched on at once, and shows
+what the manager tells; `exec 3>&-` ends it:
+
+  mkfifo lines told
+  smirun live HV.sml --log HV.log <lines >told &
+  exec 3>lines                      # one writer stays, so that the lines do not end
+  while read -r line; do
+    echo \"$line\"
+    case \"$line\" in
+      \"start HV \"*) echo \"answer HV ON\" >lines ;;
+    esac
+  done <told 3>&- &
+  echo \"request @1 RUN CONFIGURE\" >&3
+
+With `--log PATH` each line that is made is written to PATH before what it writes is written: behind a first line
+that names the domain and the capacity, each line that came, as it came, and each `start` and `go` of the manager.
+In place of one that is `refused BadLine` for its form stands the line `refused BadLine`. PATH is a schedule:
+`smirun step FILE PATH` writes what the manager wrote, with `--journal` its journal too, and with `--states` how all
+stands, also while the manager runs. It needs the same `--capacity`. A log has 16777216 bytes at most; then the
+manager ends. PATH is not there before, or empty, and no other manager has it.
+
+With `--resume` PATH is there. What it holds is made again in silence, then how all stands is written to standard
+output, as `step --states` writes it, and behind that once more the `start` line of each action that a device has in
+hand. Then the manager goes on. An empty PATH is begun. A last line that was cut off is taken away. No accepted
+request is lost, but an answer that the log does not have comes once more to be given: so a driver looks first what
+its device does. FILE may have other comments and blanks than before, and nothing else may be changed.
+
+Without `--in-turn` a thread reads standard input, and what comes between which steps depends on when it comes; the
+log has it. With `--in-turn` a line is taken only when nothing else is left to do, for tests, and where the lines are
+those of a file.
+
+`--max-starts` counts the starts of a log that is resumed too. When as many actions were started as may be, standard
+error has `FILE limit` once, and nothing starts any more; answers, kills and requests go on.
+
+With `--explain` standard error has why a line was refused: the place as PATH:LINE:COLUMN, by its line in the log,
+one sentence, the line and a caret under the place; where there is no log, - stands for PATH.
+
+When the lines end, the manager makes the steps that are left, and ends. Standard error has then the lines `open ..`
+and `waiting ..` of what is not done. Devices that are at work stay so.
+
+What else ends it is told on standard error: the faults of FILE (`smirun step --help` has them); `PATH is not empty`
+without `--resume`; with it `PATH unreadable`, `PATH too long`, and `PATH is of another domain`, where the first line
+names another domain or capacity, or the log has more starts than `--max-starts`; `PATH is in use`; `PATH full`;
+`- unreadable`; `output fault`, also where PATH cannot be made or written (then a second line has PATH and why); and
+`memory`. What the log has by then was told, but for its last line.
+
+Exit status: 0 the lines ended and all was done that could be; 1 an input was refused, or a file could not be read,
+or the output or the log not be written; 2 a wrong command line; 3 not enough memory.";
