@@ -1,0 +1,371 @@
+#!/usr/bin/env python3
+"""Serves a manager to up to eight clients on a loopback TCP port.
+
+usage: gateway.py FILE [--log PATH] [--port N] [--contact PATH] [words of smirun live: --capacity C, --max-starts M]
+
+It starts `smirun live FILE`, with --log through supervise.py, which starts it again where it is killed. It prints its
+port and a secret that is made at each start, and writes both to --contact, a file that its user alone can read. A
+client sends the secret as its first line. Each client has a session of its own, @1 to @8, the lowest that is free.
+
+What a client may write, one line each, at most 8,192 bytes:
+
+  request OBJECT ACTION [(NAME = VALUE, ..)]     the gateway puts the client's session in: request @3 OBJECT ..
+  kill OBJECT                                    the same: kill OBJECT @3
+  answer OBJECT STATE, fault OBJECT              a device's driver; it has no session
+  ! remark                                       gets into the log; it has no answer, as a line of blanks alone
+  ?                                              asks how all stands
+
+What a client is told, one line each, with two bytes in front:
+
+  # SENTENCE     of the gateway: the client's session at first; why it is turned away; what the manager complains of
+  = LINE         the answer to the oldest of its lines that has none yet; a line of none of these forms is answered
+                 `= refused BadLine` by the gateway itself, and does not get into the log
+  - LINE         any other line of the manager, but for the refusals of others' lines
+  ? LINE         how all stands, as `smirun step --states` tells it; `?` alone is its end. Who asks again before it
+                 was told is told once
+
+At first a client is told by lines `-` how all stands, what open actions have `set`, and the `start` of what each
+device has in hand. So what follows fits to it, and a driver that was started anew knows what it has to do.
+
+Without the two bytes, `=` and `-` are what the manager wrote, in its order. Where it was killed and started again, `!
+restarted` and how all stands come by `-`, and `= ! unanswered ..` is an answer: the line may have been made or not. A
+last line without its line feed is not taken.
+"""
+import argparse
+import collections
+import hmac
+import os
+import re
+import secrets
+import selectors
+import signal
+import socket
+import subprocess
+import sys
+import time
+
+from domain import STANDING_WORDS, Domain, Standing
+from lines import HERE, LONGEST_LINE, LONGEST_TOLD, PROGRAM, Inlet, Outlet, has_answer, is_answer
+
+MOST_CLIENTS = 8
+# So many may be connected without a session, and each of them for so many seconds; less, where it was told to leave.
+MOST_STRANGERS, STRANGERS_SECONDS, LEAVING_SECONDS = 16, 10.0, 2.0
+# So many lines of a client may be without an answer: what one client floods stands before another's kill at most.
+MOST_UNANSWERED = 64
+# So many lines of a client are taken in one turn, and so many bytes wait for one that does not read.
+LINES_A_TURN, MOST_UNREAD = 16, 1 << 20
+# How long the manager may take to rest, once it is to end.
+PATIENCE = 6.0
+NAME = rb"[A-Za-z][A-Za-z0-9_]*"
+REQUEST = re.compile(rb"[ \t\r]*request(?![A-Za-z0-9_])(.*)", re.I)
+KILL = re.compile(rb"[ \t\r]*kill[ \t\r]+(%b)[ \t\r]*(?:!.*)?" % NAME, re.I)
+ANSWER = re.compile(rb"[ \t\r]*answer[ \t\r]+%b[ \t\r]+%b[ \t\r]*(?:!.*)?" % (NAME, NAME), re.I)
+FAULT = re.compile(rb"[ \t\r]*fault[ \t\r]+%b[ \t\r]*(?:!.*)?" % NAME, re.I)
+
+
+def for_manager(line, session):
+    """A client's line as the manager gets it, or None where it is none that a client may write.
+
+    The session stands where no comment and no other word of the client can hide it: directly behind `request`, and
+    behind the one name of a `kill`, whose comment is left out. A client that writes a session writes one too many.
+    """
+    if len(line) > LONGEST_LINE or not line.isascii():
+        return None
+    if not has_answer(line) or ANSWER.fullmatch(line) or FAULT.fullmatch(line):
+        return line
+    if found := REQUEST.fullmatch(line):
+        line = b"request @%d %b" % (session, found[1].strip(b" \t\r"))
+        return line if len(line) <= LONGEST_LINE else None
+    if found := KILL.fullmatch(line):
+        return b"kill %b @%d" % (found[1], session)
+    return None
+
+
+class Asked:
+    """A line of a client that has an answer to come."""
+
+    def __init__(self, client):
+        self.client, self.answer = client, None
+
+
+class Client:
+    """A connection: a stranger without a session at first, then a client with one."""
+
+    def __init__(self, link):
+        link.setblocking(False)
+        self.link, self.since, self.session = link, time.monotonic(), None
+        self.inlet, self.outlet = Inlet(link.fileno()), Outlet(link.fileno())
+        # Lines that came and were not looked at; and those without an answer, or with one that waits for an earlier.
+        self.lines, self.asked = collections.deque(), collections.deque()
+        self.is_leaving = False
+
+    def tell(self, mark, line):
+        self.outlet.put(mark + b" " + line if line else mark)
+
+    def answer(self, asked, line):
+        asked.answer = line
+        while self.asked and self.asked[0].answer is not None:
+            self.tell(b"=", self.asked.popleft().answer)
+
+    def leave(self, sentence):
+        """Is told why it has to leave. What it still writes is read and dropped, or it might not get the sentence."""
+        self.tell(b"#", sentence.encode())
+        self.is_leaving, self.session, self.since = True, None, time.monotonic()
+        self.lines.clear()
+
+    def may_speak(self):
+        return self.lines and len(self.asked) < MOST_UNANSWERED and not self.is_leaving
+
+    def reads(self):
+        return not self.inlet.has_ended and not self.lines
+
+    def read(self):
+        lines = self.inlet.read()
+        if self.is_leaving:
+            return
+        self.lines.extend(lines)
+        if len(self.inlet.rest) > LONGEST_LINE:
+            self.leave(f"a line has {LONGEST_LINE} bytes at most")
+
+    def write(self):
+        self.outlet.write()
+        if self.is_leaving and not self.outlet.waiting and not self.outlet.is_broken:
+            self.link.shutdown(socket.SHUT_WR)
+
+    def is_late(self):
+        seconds = time.monotonic() - self.since
+        return self.session is None and seconds > (LEAVING_SECONDS if self.is_leaving else STRANGERS_SECONDS)
+
+    def has_left(self):
+        return self.inlet.has_ended and not (self.lines or self.asked or self.outlet.waiting)
+
+
+class Standings:
+    """How all stands, for those who ask for it: the manager tells it on standard error, with no word for its end.
+
+    So it is asked for twice in one go, and the first is whole where the second begins: with the state of the first
+    object. The rest of the second is passed over.
+    """
+
+    def __init__(self, first, manager):
+        self.first, self.manager = f"state {first} ".encode(), manager
+        self.wanting, self.asking, self.lines = [], [], None
+
+    def want(self, client):
+        if client not in self.wanting:
+            self.wanting.append(client)
+        if not self.asking:
+            self.ask()
+
+    def has(self, client):
+        return client in self.wanting or client in self.asking
+
+    def ask(self):
+        """It is also called where the manager was started again, with those who were asking."""
+        self.asking, self.wanting, self.lines = self.asking + self.wanting, [], None
+        if self.asking:
+            self.manager.put(b"?\n?")
+
+    def take(self, line):
+        if line.startswith(self.first) and self.asking:
+            if self.lines is None:
+                self.lines = [line]
+                return
+            for client in self.asking:
+                for told in [*self.lines, b""]:
+                    client.tell(b"?", told)
+            self.asking = []
+            self.ask()
+        elif self.lines is not None:
+            self.lines.append(line)
+
+
+class Gateway:
+    """The manager, its clients, and whose line it answers next."""
+
+    def __init__(self, words, domain, port):
+        self.domain, self.secret = domain, secrets.token_hex(16).encode()
+        self.door = socket.create_server(("127.0.0.1", port), backlog=MOST_STRANGERS)
+        self.door.setblocking(False)
+        pipe = subprocess.PIPE
+        self.manager = subprocess.Popen(
+            words, stdin=pipe, stdout=pipe, stderr=pipe, bufsize=0, start_new_session=True)
+        self.to = Outlet(self.manager.stdin.fileno())
+        self.told = Inlet(self.manager.stdout.fileno(), LONGEST_TOLD)
+        self.complaints = Inlet(self.manager.stderr.fileno(), LONGEST_TOLD)
+        self.standing = Standing(domain)
+        self.standings = Standings(next(iter(domain.objects)), self.to)
+        self.clients, self.asked, self.leaving_since = [], collections.deque(), None
+
+    def run(self):
+        while not self.told.has_ended:
+            self.turn()
+        while not self.complaints.has_ended:
+            self.hear_complaints(None)
+        self.say_goodbye()
+        return self.manager.wait()
+
+    def say_goodbye(self):
+        """The manager has ended. Who reads has two seconds to be told all."""
+        for client in self.clients:
+            client.leave("the manager has ended")
+        ends = time.monotonic() + LEAVING_SECONDS
+        while self.clients and time.monotonic() < ends:
+            for client in self.clients:
+                client.write()
+            self.clients = [client for client in self.clients if client.outlet.waiting]
+            time.sleep(0.01)
+
+    def turn(self):
+        can_speak = not self.to.is_full() and any(client.may_speak() for client in self.clients)
+        with selectors.PollSelector() as ready:
+            self.watch(ready)
+            for key, events in ready.select(0 if can_speak else 0.5):
+                key.data(events)
+        for client in [*self.clients]:
+            self.let_speak(client)
+            self.let_go(client)
+        if self.leaving_since and time.monotonic() > self.leaving_since + PATIENCE:
+            self.manager.kill()
+
+    def watch(self, ready):
+        ready.register(self.told.descriptor, selectors.EVENT_READ, self.hear_manager)
+        if not self.complaints.has_ended:
+            ready.register(self.complaints.descriptor, selectors.EVENT_READ, self.hear_complaints)
+        if self.to.waiting and not self.manager.stdin.closed:
+            ready.register(self.to.descriptor, selectors.EVENT_WRITE, lambda _: self.to.write())
+        ready.register(self.door, selectors.EVENT_READ, self.open_door)
+        for client in self.clients:
+            events = selectors.EVENT_READ if client.reads() else 0
+            events |= selectors.EVENT_WRITE if client.outlet.waiting else 0
+            if events:
+                ready.register(client.link, events, lambda events, client=client: self.serve(client, events))
+
+    def open_door(self, _):
+        try:
+            link, _ = self.door.accept()
+        except OSError:
+            return
+        if sum(client.session is None for client in self.clients) >= MOST_STRANGERS:
+            link.close()
+        else:
+            self.clients.append(Client(link))
+
+    @staticmethod
+    def serve(client, events):
+        if events & selectors.EVENT_READ:
+            client.read()
+        if events & selectors.EVENT_WRITE:
+            client.write()
+
+    def let_speak(self, client):
+        for _ in range(LINES_A_TURN):
+            if not client.may_speak() or self.to.is_full():
+                return
+            line = client.lines.popleft()
+            if client.session is None:
+                self.greet(client, line)
+            else:
+                self.hear(client, line)
+
+    def greet(self, client, line):
+        """A stranger's first line. Who does not know the secret is told nothing else."""
+        if not hmac.compare_digest(line.rstrip(b"\r"), self.secret):
+            client.leave("this is not the secret")
+            return
+        taken = {other.session for other in self.clients}
+        client.session = next((number for number in range(1, MOST_CLIENTS + 1) if number not in taken), None)
+        if client.session is None:
+            client.leave(f"there are {MOST_CLIENTS} clients already; come back when one has left")
+        else:
+            client.tell(b"#", b"session @%d" % client.session)
+            for line in self.standing.lines():
+                client.tell(b"-", line.encode())
+
+    def hear(self, client, line):
+        if line.startswith(b"?"):
+            self.standings.want(client)
+            return
+        asked = Asked(client)
+        made = for_manager(line, client.session)
+        if made is None:
+            client.asked.append(asked)
+            client.answer(asked, b"refused BadLine")
+            return
+        self.to.put(made)
+        if has_answer(made):
+            client.asked.append(asked)
+            self.asked.append(asked)
+
+    def hear_manager(self, _):
+        for line in self.told.read():
+            self.standing.take(line.decode())
+            asker = None
+            if is_answer(line, self.domain.devices) and self.asked:
+                asked = self.asked.popleft()
+                asker = asked.client
+                asker.answer(asked, line)
+            if not line.startswith((b"refused ", b"! unanswered ")):
+                self.tell_all(b"-", line, asker)
+
+    def tell_all(self, mark, line, but=None):
+        for client in self.clients:
+            if client.session is not None and client is not but:
+                client.tell(mark, line)
+
+    def hear_complaints(self, _):
+        for line in self.complaints.read():
+            if line.startswith(b"! restarted"):
+                self.standings.ask()
+            if line.split(b" ")[0].decode("latin1") in STANDING_WORDS:
+                self.standings.take(line)
+                continue
+            print(line.decode("latin1"), file=sys.stderr, flush=True)
+            self.tell_all(b"#", line)
+
+    def let_go(self, client):
+        """Lets go of who has left, is to leave, did not say the secret in time, or does not read."""
+        is_deaf = client.outlet.is_broken or len(client.outlet.waiting) > MOST_UNREAD
+        if client.is_late() or is_deaf or client.has_left() and not self.standings.has(client):
+            self.clients.remove(client)
+            client.link.close()
+
+    def leave(self, *_):
+        self.leaving_since = self.leaving_since or time.monotonic()
+        self.manager.stdin.close()
+
+
+def write_contact(path, gateway):
+    """Where the gateway is, and its secret, for this user's eyes alone."""
+    if os.path.lexists(path):
+        os.unlink(path)
+    with os.fdopen(os.open(path, os.O_WRONLY | os.O_CREAT | os.O_EXCL, 0o600), "w") as file:
+        file.write(f"127.0.0.1 {gateway.door.getsockname()[1]} {gateway.secret.decode()}\n")
+
+
+def main():
+    words = argparse.ArgumentParser(description=__doc__, formatter_class=argparse.RawDescriptionHelpFormatter)
+    words.add_argument("file", metavar="FILE")
+    words.add_argument("--log", metavar="PATH")
+    words.add_argument("--port", type=int, default=0, help="0, if it is not given: one that is free")
+    words.add_argument("--contact", metavar="PATH")
+    asked, others = words.parse_known_args()
+    domain = Domain(asked.file)
+    live = [PROGRAM, "live", asked.file]
+    if asked.log:
+        live = [sys.executable, f"{HERE}/supervise.py", asked.file, asked.log]
+    try:
+        gateway = Gateway(live + others, domain, asked.port)
+    except (OSError, OverflowError) as fault:
+        raise SystemExit(f"port {asked.port}: {fault}") from None
+    for number in (signal.SIGTERM, signal.SIGINT):
+        signal.signal(number, gateway.leave)
+    if asked.contact:
+        write_contact(asked.contact, gateway)
+    print(f"port {gateway.door.getsockname()[1]}\nsecret {gateway.secret.decode()}", flush=True)
+    status = gateway.run()
+    return 128 - status if status < 0 else status
+
+
+if __name__ == "__main__":
+    sys.exit(main())
