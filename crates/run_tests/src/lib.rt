@@ -25,3 +25,5 @@ mod texts;
 mod two_names;
 #[cfg(test)]
 mod valves;
+#[cfg(test)]
+mod watch;

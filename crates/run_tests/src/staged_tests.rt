@@ -3,6 +3,7 @@
 use crate::stages::{RIGHT, Staged, Step, told_of};
 use crate::texts::{DEAD, EIGHT, ERROR, FIRST, OFF, ON, SECOND, SUPPLIES};
 use crate::valves::{BRIEF, HELD, MEET, SLOW};
+use crate::watch::{begin_watch, end_watch};
 use std::test::*;
 
 // How often a run goes in one test.
@@ -30,9 +31,11 @@ const KILL_ALONE: Staged<'static> = Staged {
 
 #[test]
 fn kill_lets_a_task_go_on(rt: HostRuntime) {
+    let watched = begin_watch(rt, rt.alloc());
     for _ in 0..RUNS {
         assert_eq!(rt; told_of(rt, rt.alloc(), &KILL_ALONE), RIGHT);
     }
+    end_watch(&rt, watched);
 }
 
 // The first supply, whose calls were brief, is stuck. All requests of the second are done meanwhile, so that the end of
@@ -56,12 +59,14 @@ const STUCK: Staged<'static> = Staged {
 
 #[test]
 fn stuck_device_holds_up_nothing(rt: HostRuntime) {
+    let watched = begin_watch(rt, rt.alloc());
     for _ in 0..RUNS {
         for workers in 2..9usize {
             let run = Staged { workers, ..STUCK };
             assert_eq!(rt; told_of(rt, rt.alloc(), &run), RIGHT, "{workers} workers");
         }
     }
+    end_watch(&rt, watched);
 }
 
 // After brief calls each of some supplies waits until all of them were entered.
@@ -83,6 +88,7 @@ const MEETING: Staged<'static> = Staged {
 
 #[test]
 fn devices_that_wait_for_one_another(rt: HostRuntime) {
+    let watched = begin_watch(rt, rt.alloc());
     let switched_on = [ON; 8];
     for _ in 0..RUNS {
         for count in 2..9usize {
@@ -95,6 +101,7 @@ fn devices_that_wait_for_one_another(rt: HostRuntime) {
             assert_eq!(rt; told_of(rt, rt.alloc(), &run), RIGHT, "{count} devices");
         }
     }
+    end_watch(&rt, watched);
 }
 
 // The calls of the first supply are brief, then slow, then brief again.
@@ -129,9 +136,11 @@ const LEAVES_LATE: Staged<'static> = Staged {
 
 #[test]
 fn slow_devices_and_late_sessions(rt: HostRuntime) {
+    let watched = begin_watch(rt, rt.alloc());
     for _ in 0..RUNS {
         for run in &[TURNS_SLOW, LEAVES_LATE] {
             assert_eq!(rt; told_of(rt, rt.alloc(), run), RIGHT);
         }
     }
+    end_watch(&rt, watched);
 }

@@ -9,6 +9,7 @@ use crate::texts::{
     CONFIGURE, DEAD, EMPTY, FIRST, NOT_READY, OFF, ON, READY, RUN, SECOND, SUPPLIES, SWITCH_ON,
 };
 use crate::two_names::finishes_two;
+use crate::watch::{begin_watch, end_watch};
 use smi_run::errors::{KillError, OpenError, PostError};
 use smi_run::opening::Config;
 use smi_shared::ending::ServeEnd;
@@ -49,6 +50,7 @@ const CONFIGURED: Run = Run {
 
 #[test]
 fn run_on(rt: HostRuntime) {
+    let watched = begin_watch(rt, rt.alloc());
     let alone = Run {
         config: Config {
             workers: 1,
@@ -61,6 +63,7 @@ fn run_on(rt: HostRuntime) {
             assert!(rt; goes(rt, rt.alloc(), run));
         }
     }
+    end_watch(&rt, watched);
 }
 
 // Two sessions switch one supply on, a hundred times each.
@@ -88,9 +91,11 @@ const BUSY: Run = Run {
 
 #[test]
 fn two_sessions(rt: HostRuntime) {
+    let watched = begin_watch(rt, rt.alloc());
     for _ in 0..RUNS {
         assert!(rt; goes(rt, rt.alloc(), &BUSY));
     }
+    end_watch(&rt, watched);
 }
 
 // Each supply returns only after the other was entered.
@@ -118,9 +123,11 @@ const GATED: Run = Run {
 
 #[test]
 fn gate(rt: HostRuntime) {
+    let watched = begin_watch(rt, rt.alloc());
     for _ in 0..RUNS {
         assert!(rt; goes(rt, rt.alloc(), &GATED));
     }
+    end_watch(&rt, watched);
 }
 
 // Only one request is started: what it sends is left, and it waits for it.
@@ -200,11 +207,13 @@ const KILLED: Run = Run {
 
 #[test]
 fn small_runs(rt: HostRuntime) {
+    let watched = begin_watch(rt, rt.alloc());
     for _ in 0..RUNS {
         for run in &[LIMITED, NOTHING, IDLE, KILLED] {
             assert!(rt; goes(rt, rt.alloc(), run));
         }
     }
+    end_watch(&rt, watched);
 }
 
 // Eight sessions at mailboxes for one request, of which many are refused.
@@ -224,9 +233,11 @@ const CROWDED: Run = Run {
 
 #[test]
 fn capacity_one(rt: HostRuntime) {
+    let watched = begin_watch(rt, rt.alloc());
     for _ in 0..RUNS {
         assert!(rt; goes(rt, rt.alloc(), &CROWDED));
     }
+    end_watch(&rt, watched);
 }
 
 const fn far(starts: u64, waiting: u64, open: u64) -> Progress {
@@ -340,7 +351,9 @@ fn not_opened(rt: HostRuntime) {
 
 #[test]
 fn late_answer(rt: HostRuntime) {
+    let watched = begin_watch(rt, rt.alloc());
     for _ in 0..RUNS {
         assert!(rt; drops_late_answers(rt, rt.alloc()));
     }
+    end_watch(&rt, watched);
 }

@@ -167,6 +167,25 @@ impl History {
         self.past(o).waiting()
     }
 
+    /// The action that is open at an object, where one is: it was started, and has not ended, and the object was not
+    /// killed since.
+    pub fn opened(&self, o: ObjId) -> Option<ActionId> {
+        match self.past(o) {
+            Past {
+                killed: None,
+                last: Some(
+                    Last {
+                        action,
+                        stage: Stage::Open,
+                        ..
+                    },
+                ),
+                ..
+            } => Some(action),
+            _ => None,
+        }
+    }
+
     /// How many actions were started.
     pub(crate) fn starts(&self) -> usize {
         self.starts

@@ -9,6 +9,7 @@ use smi_entry::entry::Entry;
 use smi_manager::observer::Observer;
 use smi_standing::standing::tell_standing;
 use sml_domain::domain::Domain;
+use sml_domain::ids::ObjId;
 use sml_text::decimal::tell_u64;
 use sml_text::writing::tell;
 use std::alloc::{AllocError, Global};
@@ -70,6 +71,11 @@ impl<'a> LiveNotes<'a> {
         let mut failed = false;
         tell(remark, &mut failed, self.file.as_bytes());
         tell(remark, &mut failed, b" limit\n");
+    }
+
+    /// Whether an action is open at an object.
+    pub(crate) fn has_open(&self, o: ObjId) -> bool {
+        self.history.opened(o).is_some()
     }
 
     /// Writes how all stands. The error is out of memory; then less is written, or nothing.

@@ -206,7 +206,7 @@ fn tell_again(
     let mut failed = false;
     for o in 0..core.domain().objects() {
         let o = ObjId::new(o);
-        if core.domain().associated(o) {
+        if core.domain().associated(o) && notes.has_open(o) {
             if let Some(start) = open_start(core.journal(), o) {
                 tell_lines(told, &mut failed, core.domain(), start);
             }

@@ -9,7 +9,7 @@ use smi_journal::call_text::{tell_object, tell_value};
 use smi_journal::journal_text::write_journal;
 use smi_journal::read::read_journal;
 use sml_domain::domain::Domain;
-use sml_domain::ids::{ObjId, SetId};
+use sml_domain::ids::{ActionId, ObjId, SetId};
 use sml_domain::instr::Asked;
 use sml_domain::rows::Group;
 use sml_text::decimal::tell_u64;
@@ -119,24 +119,62 @@ fn tell_busy<W: Sink>(writer: &mut W, failed: &mut bool, past: &Past, o: ObjId, 
     }
 }
 
-// The action that is open at an object, and what it waits for.
-fn tell_open_at<W: Sink>(writer: &mut W, failed: &mut bool, past: &Past, o: ObjId) {
-    let domain = past.ledger().domain();
-    if !domain.has(o) {
-        return;
+// What the open action of an object waits for.
+fn tell_awaited<W: Sink>(writer: &mut W, failed: &mut bool, past: &Past, o: ObjId) {
+    if past.ledger().domain().has(o) {
+        if let Some(Expected::Read(names)) = past.next(o) {
+            tell_busy(writer, failed, past, o, names.list());
+        }
     }
-    let Some(letter) = past.ledger().opened(o) else {
+}
+
+// The action that is open at an object, and what it waits for.
+fn tell_open_at<W: Sink>(
+    writer: &mut W,
+    failed: &mut bool,
+    core: &Core,
+    open: Option<ActionId>,
+    past: Option<&Past>,
+    o: ObjId,
+) {
+    let Some(action) = open else {
         return;
     };
+    let domain = core.domain();
     tell(writer, failed, b"open");
     tell_object(writer, failed, domain, o);
-    tell_name(writer, failed, domain.action_name(letter.action));
+    tell_name(writer, failed, domain.action_name(action));
     if domain.associated(o) {
         tell(writer, failed, b" waits device");
-    } else if let Some(Expected::Read(names)) = past.next(o) {
-        tell_busy(writer, failed, past, o, names.list());
+    } else if let Some(past) = past {
+        tell_awaited(writer, failed, past, o);
     }
     tell(writer, failed, b"\n");
+}
+
+// Whether an action is open that no device performs: what it waits for is read off the journal.
+fn has_open(domain: &Domain, history: &History) -> bool {
+    for o in 0..domain.objects() {
+        let o = ObjId::new(o);
+        if history.opened(o).is_some() && !domain.associated(o) {
+            return true;
+        }
+    }
+    false
+}
+
+// What is known of a run from its journal, where that is needed.
+fn past_wanted(
+    alloc: Global,
+    domain: &Arc<Domain>,
+    core: &Core,
+    history: &History,
+) -> Result<Option<Past>, AllocError> {
+    if has_open(domain, history) {
+        Ok(Some(past_of(alloc, domain, core)?))
+    } else {
+        Ok(None)
+    }
 }
 
 // How many requests wait at an object, where any do.
@@ -188,8 +226,9 @@ fn tell_members<W: Sink>(writer: &mut W, failed: &mut bool, core: &Core) {
 /// what it waits for, each mailbox that is not empty, and each set that has other members than the declared ones.
 /// (docs/FORMATS.md, "How all stands".)
 ///
-/// The domain is that of the core, and the history that of its steps. The time and the memory are those of writing the
-/// journal, reading it and judging it. The error is out of memory; then nothing is written.
+/// The domain is that of the core, and the history that of its steps. Where an action is open that no device performs,
+/// the time and the memory are those of writing the journal, reading it and judging it; else the time is that of the
+/// lines, and no memory is taken. The error is out of memory; then nothing is written.
 pub fn tell_standing<W: Sink>(
     alloc: Global,
     domain: &Arc<Domain>,
@@ -198,11 +237,12 @@ pub fn tell_standing<W: Sink>(
     writer: &mut W,
     failed: &mut bool,
 ) -> Result<(), AllocError> {
-    let past = past_of(alloc, domain, core)?;
+    let past = past_wanted(alloc, domain, core, history)?;
     tell_states(writer, failed, core);
     tell_params(writer, failed, core);
     for o in 0..domain.objects() {
-        tell_open_at(writer, failed, &past, ObjId::new(o));
+        let o = ObjId::new(o);
+        tell_open_at(writer, failed, core, history.opened(o), past.as_ref(), o);
     }
     for o in 0..domain.objects() {
         tell_waiting_at(writer, failed, domain, history, ObjId::new(o));
