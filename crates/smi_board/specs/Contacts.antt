@@ -15,7 +15,7 @@ use Rattle.smi_interp.specs.declared.contact.Contact.{Contact}
 use Rattle.smi_interp.specs.declared.contact.Contact.TheVariants as named
 use Rattle.sml_domain.specs.Program.{Target, ToOne, ToMembers}
 use Rattle.smi_entry.specs.declared.entry.Entry.{Entry}
-use Rattle.smi_entry.specs.Sets.{Sets, sets_after}
+use Rattle.smi_entry.specs.Sets.{sets_after}
 use Rattle.smi_meaning.specs.Meaning.{Wanted}
 use Rattle.smi_interp.specs.Expanded.{objects_by_names, posts_in}
 use Rattle.smi_interp.specs.Task.{TaskView, outcome_of, with_change, with_states, with_verdicts}

@@ -1,5 +1,5 @@
 -- Whom the change is of is there, and it leaves journal and mail tied.
-use Rattle.std.proofs.Common.{arith, ◌≡◌, ◌<◌, ◌++◌, ◌∷◌, ◌∙◌, [], true, false, length, ap, subst, sym}
+use Rattle.std.proofs.Common.{arith, ◌≡◌, ◌<◌, ◌++◌, ◌∷◌, ◌∙◌, [], length, ap, subst, sym}
 use Rattle.std.specs.Arc.{arc_value}
 use Rattle.sml_domain.specs.Domain.{Domain}
 use Rattle.sml_domain.specs.Sound.{IsSound}
