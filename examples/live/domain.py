@@ -86,7 +86,8 @@ class Standing:
 
     It follows the lines alone, and asks the manager nothing. Lines `state` .. `member`, which come where a manager was
     resumed, say it anew. What an action `set` are its object's parameters once it has ended; a kill undoes it. No line
-    `param` says it before, so `sets` of open actions outlive a standing.
+    `param` says it before, so `sets` of open actions outlive a standing. A `set` whose line was lost with a manager that
+    was killed is missing, until the next standing behind its action's end.
     """
 
     def __init__(self, domain):
@@ -137,7 +138,8 @@ class Standing:
         self.parameters[name][parameter] = value
 
     def take_open(self, name, action, waits=""):
-        self.open[name] = (action, waits.removeprefix("waits "))
+        # For whom it waits is true for this moment alone, and no line says when that changes.
+        self.open[name] = (action, "" if not waits else "device" if waits == "waits device" else "others")
 
     def take_waiting(self, name, count):
         self.waiting[name] = int(count)

@@ -105,7 +105,7 @@ class Manager:
         if mood != "dead" and re.search("ERROR|FAULT|FAIL|TRIP|ALARM", state):
             mood = "bad"
         sets = standing.sets[name] if name in standing.open else {}
-        parameters = {word: f"{value} -> {sets[word]}" if word in sets else value
+        parameters = {word: f"{value} -> {sets[word]}" if sets.get(word, value) != value else value
                       for word, value in standing.parameters[name].items()}
         actions = [] if mood == "dead" else [[action, words] for action, words in kind.states.get(state, {}).items()]
         return {"state": state, "mood": mood, "open": standing.open.get(name), "waiting": standing.waiting[name],
@@ -311,7 +311,10 @@ def main():
     with tempfile.TemporaryDirectory() as folder:
         contact, started = (asked.gateway, []) if asked.gateway else start_all(asked, folder)
         try:
-            server = Server(asked.port, Manager(domain, contact), asked.file)
+            try:
+                server = Server(asked.port, Manager(domain, contact), asked.file)
+            except (OSError, OverflowError) as fault:
+                raise SystemExit(f"no panel: {fault}") from None
             print(f"http://127.0.0.1:{server.server_port}/{server.secret}/", flush=True)
             server.serve_forever()
         except KeyboardInterrupt:

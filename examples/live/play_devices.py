@@ -87,7 +87,10 @@ def follow(told, devices):
 def at_gateway(contact):
     """A connection to a gateway: what it tells, without the marks in front, and the way to it."""
     host, port, secret = read_contact(contact)
-    link = socket.create_connection((host, int(port)))
+    try:
+        link = socket.create_connection((host, int(port)))
+    except OSError as fault:
+        raise SystemExit(f"{contact} tells of no gateway that is there: {fault.strerror}") from None
     asking = Asking(link.fileno())
     asking.ask(secret)
     marked = link.makefile("r", encoding="ascii")
@@ -119,6 +122,9 @@ def main():
     failures = {name: state or "FAULT" for name, _, state in (word.upper().partition("=") for word in asked.fail)}
     for name in failures.keys() - domain.devices:
         words.error(f"{name} is no device: {', '.join(sorted(domain.devices))}")
+    for name, state in failures.items():
+        if state not in ("FAULT", *domain.classes[domain.objects[name]].states):
+            words.error(f"{name} has no state {state}")
     for name in domain.devices:
         for actions in domain.classes[domain.objects[name]].states.values():
             if unknown := actions.keys() - ACTIONS.keys():

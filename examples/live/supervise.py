@@ -60,6 +60,8 @@ class Supervisor:
                 self.turn()
             status = self.manager.wait()
             if self.output.is_broken or not self.may_start_again(status):
+                if status < 0 and not self.is_leaving:
+                    self.errors.put(b"! given up: the manager was ended %d times within a minute" % MOST_ENDS)
                 self.drain()
                 return status
             self.start_again(status)

@@ -14,8 +14,9 @@ folder=$(mktemp -d)
 log=${1:-$folder/log}
 [ $# -eq 0 ] || shift
 player=
-trap '[ -z "$player" ] || kill "$player" 2>/dev/null || true; rm -rf "$folder"' EXIT
+trap '[ -z "$player" ] || kill "$player" "$manager" 2>/dev/null || true; rm -rf "$folder"' EXIT
 mkfifo "$folder/in" "$folder/out"
+: >"$folder/told"
 "$smirun" live "$domain" --log "$log" <"$folder/in" >"$folder/out" &
 manager=$!
 # What the manager writes goes to the player of the devices and, for this script, to a file.
@@ -25,8 +26,9 @@ player=$!
 exec 3>"$folder/in"
 
 await() {
-    until grep -qE "$1" "$folder/told"; do
+    until [ "$(grep -cE "$1" "$folder/told")" -ge "${2-1}" ]; do
         kill -0 "$manager" 2>/dev/null || { echo "the manager has ended" >&2; exit 1; }
+        kill -0 "$player" 2>/dev/null || { echo "the devices have ended" >&2; exit 1; }
         sleep 0.1
     done
 }
@@ -37,7 +39,7 @@ echo 'request @1 DETECTOR SWITCH_ON' >&3
 await '^end DETECTOR '
 echo 'request @1 DETECTOR SWITCH_OFF' >&3
 await '^start DETECTOR @1 1 '
-until [ "$(grep -c '^end DETECTOR ' "$folder/told")" -ge 2 ]; do sleep 0.1; done
+await '^end DETECTOR ' 2
 # The player has the input open too, and lets go of it when it is told to.
 exec 3>&-
 kill "$player"

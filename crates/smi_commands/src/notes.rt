@@ -8,7 +8,7 @@ use smi_advice::source_line::SourceLine;
 use smi_core::{Answer, Core, Lookout, Step, StepError, Taken};
 use smi_entry::entry::Entry;
 use sml_domain::domain::Domain;
-use sml_text::writing::Sink;
+use sml_text::writing::{Sink, put};
 use std::alloc::{AllocError, Global};
 use std::sync::Arc;
 
@@ -21,6 +21,8 @@ pub(crate) struct Notes<'n, 'a, E> {
     /// What the lines did: nothing, where neither why a line was refused is asked for nor how all stands.
     pub(crate) history: History,
     errors: &'n mut E,
+    // What is told of one line, so that it is written in one piece.
+    text: Vec<u8>,
 }
 
 impl<'n, 'a, E> Notes<'n, 'a, E> {
@@ -37,7 +39,16 @@ impl<'n, 'a, E> Notes<'n, 'a, E> {
             is_refused: false,
             history: History::new(alloc, domain)?,
             errors,
+            text: Vec::new(alloc),
         })
+    }
+}
+
+impl<E: Sink> Notes<'_, '_, E> {
+    // Writes out what is told of a line, or a prefix of it where memory was wanting.
+    fn write_told(&mut self) {
+        let _ = put(&mut *self.errors, self.text.as_slice());
+        self.text.clear();
     }
 }
 
@@ -59,9 +70,10 @@ impl<E: Sink> Lookout for Notes<'_, '_, E> {
                 LineKind::Schedule,
                 core.domain(),
                 &told(self.options.schedule, taken),
-                self.errors,
+                &mut self.text,
                 &mut failed,
             );
+            self.write_told();
         }
     }
 
@@ -89,9 +101,10 @@ impl<E: Sink> Lookout for Notes<'_, '_, E> {
                 &told(self.options.schedule, taken),
                 step,
                 *error,
-                self.errors,
+                &mut self.text,
                 &mut failed,
             );
+            self.write_told();
         }
     }
 }

@@ -4,10 +4,20 @@
 use smi_words::asked::refuse_words;
 use smi_words::drive::drive;
 use std::env::Env;
+use std::fs::{Files, OpenOptions};
 use std::process::ExitCode;
-use std::{env, io};
+use std::{env, fs, io};
+
+// A file that is always there.
+const NOTHING: &str = "/dev/null";
+
+// Where the system has standard input as a file, if it is open.
+const INPUT: &str = "/proc/self/fd/0";
 
 fn main(rt: HostRuntime) -> ExitCode {
+    let _first = stand_in(&rt, fs::metadata(&rt, INPUT).is_err());
+    let _second = stand_in(&rt, false);
+    let _third = stand_in(&rt, false);
     let mut errors = rt.stderr();
     let status = match words(&rt) {
         Ok(words) => drive(
@@ -20,6 +30,15 @@ fn main(rt: HostRuntime) -> ExitCode {
         Err(error) => refuse_words(&error, &mut errors),
     };
     ExitCode::from(status)
+}
+
+// Opens a file in the place of a standard stream that is closed, if one is, so that no file of the command line takes its
+// number: what is written to that stream would go into that file. It cannot be read where it is to be written, and the
+// other way round, so that a stream which is closed stays one that fails.
+fn stand_in<R: Files>(rt: &R, is_written: bool) -> Option<R::File> {
+    let mut how = OpenOptions::new();
+    how.read(!is_written).write(is_written);
+    how.open(rt, NOTHING).ok()
 }
 
 // The words of the command line, the program's name first.
