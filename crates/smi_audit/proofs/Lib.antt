@@ -5,3 +5,4 @@ pub mod Adding
 pub mod Begun
 pub mod Unsplit
 pub mod OneMore
+pub mod OneLine

@@ -1,15 +1,18 @@
 //! Judging the text of a journal.
-ghost use Rattle.std.specs.Prelude.{◌≡◌, ◌<◌, ◌+◌, ◌^◌, All, Err, IfErr, IfOk, length};
+ghost use Rattle.std.specs.Prelude.{◌≡◌, ◌<◌, ◌+◌, ◌^◌, All, Err, IfErr, IfOk, IsTrue, length};
 ghost use Rattle.std.specs.Arc.{arc_value};
 ghost use Rattle.smi_journal.specs.HasText.{HasTextIn};
 ghost use Rattle.smi_journal.specs.ReadJournal.{IsRefused, NoHeader};
 ghost use Rattle.smi_audit.specs.Audit.{IsJudged, Judges};
+ghost use Rattle.smi_audit.specs.declared.judgement.Judgement.TheVariants.{Legal};
 
 use crate::judgement::Judgement;
+use crate::lines::are_legal;
 use crate::past::{Past, PastError};
 use smi_entry::entry::Entry;
 use smi_entry::journal::Format;
-use smi_journal::read::{JournalError, read_journal};
+use smi_journal::names::laws_of_names;
+use smi_journal::read::{JournalError, behind_header, read_journal};
 use sml_domain::domain::Domain;
 use std::alloc::{AllocError, Global};
 use std::sync::Arc;
@@ -34,11 +37,13 @@ fn judged(
 
 /// Judges the text of a journal of a domain: whether each entry may follow those before it, or else which
 /// is the first that may not, and the first rule that it breaks. (docs/FORMATS.md, "What a journal is
-/// judged by".) The first line names the format, and the rules are those of that format. The whole text is read
-/// before anything is judged.
+/// judged by".) The first line names the format, and the rules are those of that format. A journal is judged line by
+/// line; where a line is none or may not stand, the whole text is read again before it is judged, since a later line
+/// that is none is told first.
 ///
 /// The time grows with the length of the text and with what the journal's actions do, and the memory
-/// with the length of the text. The square of the count of objects is spent once.
+/// with the length of the text: of a legal journal each entry is held once, in its books. The square of the count of
+/// objects is spent once, and once more where the journal is not found legal.
 ///
 /// # Errors
 ///
@@ -56,6 +61,30 @@ pub fn audit(alloc: Global, domain: Arc<Domain>, bytes: &[u8]) -> Result<Judgeme
     ensures judged { IfOk result (Judges (arc_value domain) bytes.now) }
     ensures err { IfErr result (λ e. IsRefused (arc_value domain) bytes.now e) }
     // This is found without memory.
+    ensures header { NoHeader bytes.now → result ≡ Err JournalError.BadHeader }
+{
+    if is_legal(alloc, &domain, bytes) {
+        return Ok(Judgement::Legal);
+    }
+    audit_again(alloc, domain, bytes)
+}
+
+// Whether bytes are the text of a legal journal. No also for want of memory.
+fn is_legal(alloc: Global, domain: &Arc<Domain>, bytes: &[u8]) -> bool
+    ensures { IsTrue result → Judges (arc_value domain.now) bytes.now Legal }
+{
+    let Some((format, rest)) = behind_header(bytes) else {
+        return false;
+    };
+    laws_of_names(domain);
+    are_legal(alloc, format, domain, rest)
+}
+
+// Judges the text of a journal of which all entries are held at once: a line that is none is told first, even where it
+// stands behind one that breaks a rule.
+fn audit_again(alloc: Global, domain: Arc<Domain>, bytes: &[u8]) -> Result<Judgement, JournalError>
+    ensures judged { IfOk result (Judges (arc_value domain) bytes.now) }
+    ensures err { IfErr result (λ e. IsRefused (arc_value domain) bytes.now e) }
     ensures header { NoHeader bytes.now → result ≡ Err JournalError.BadHeader }
 {
     let (format, journal) = match read_journal(alloc, &domain, bytes) {

@@ -7,6 +7,7 @@ mod calls;
 mod judge;
 pub mod judgement;
 mod judging;
+mod lines;
 pub mod past;
 mod splitting;
 mod track;

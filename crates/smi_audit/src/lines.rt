@@ -1,0 +1,79 @@
+//! Judging lines as they are read: of each entry nothing is kept but what the books keep.
+ghost use Rattle.std.specs.Prelude.{◌≡◌, ◌<◌, [], IfOk, IfSome, IsTrue, length};
+ghost use Rattle.std.specs.Arc.{arc_value};
+ghost use Rattle.smi_journal.specs.HasText.{HasNames};
+ghost use Rattle.smi_meaning.specs.Legal.{IsLegal};
+ghost use Rattle.smi_audit.specs.Judges.{IsKept};
+ghost use Rattle.smi_audit.specs.Lines.{AreLegal, Follows};
+
+use crate::judge::Judge;
+use smi_entry::journal::Format;
+use smi_journal::read::LineReader;
+use sml_domain::domain::Domain;
+use std::alloc::Global;
+use std::sync::Arc;
+
+// Takes the entry whose line stands in front, if it may follow: what stands behind the line. None also for want of
+// memory, since who asks reads the whole text again then.
+fn take_line<'a>(
+    judge: &mut Judge,
+    reader: &mut LineReader,
+    format: Format,
+    domain: &Domain,
+    rest: &'a [u8],
+) -> Option<&'a [u8]>
+    requires names { HasNames domain.now }
+    requires kept { IsKept judge.old }
+    requires legal { IsLegal judge.old.format judge.old.ledger.domain judge.old.ledger.journal }
+    requires of { judge.old.ledger.domain ≡ domain.now }
+    ensures follows { IfSome result (λ more. Follows format domain.now judge.old judge.new rest.now more.now) }
+    ensures less { IfSome result (λ more. length more.now < length rest.now) }
+{
+    let Ok(Some((entry, more))) = reader.next_entry(judge.alloc, domain, format, rest) else {
+        return None;
+    };
+    match judge.take(&entry) {
+        Ok(None) => Some(more),
+        Ok(Some(_)) | Err(_) => None,
+    }
+}
+
+// Takes all lines, if each is that of an entry which may follow. No also for want of memory.
+fn take_lines(
+    judge: &mut Judge,
+    reader: &mut LineReader,
+    format: Format,
+    domain: &Domain,
+    bytes: &[u8],
+) -> bool
+    requires names { HasNames domain.now }
+    requires kept { IsKept judge.old }
+    requires format { judge.old.format ≡ format }
+    requires of { judge.old.ledger.domain ≡ domain.now }
+    requires first { judge.old.ledger.journal ≡ [] }
+    ensures { IsTrue result → AreLegal format domain.now bytes.now }
+{
+    let mut rest = bytes;
+    while rest.len() > 0 {
+        let Some(more) = take_line(judge, reader, format, domain, rest) else {
+            return false;
+        };
+        rest = more;
+    }
+    true
+}
+
+// Whether bytes are the lines of a legal journal of a format. No also for want of memory.
+pub(crate) fn are_legal(alloc: Global, format: Format, domain: &Arc<Domain>, bytes: &[u8]) -> bool
+    requires { HasNames (arc_value domain.now) }
+    ensures { IsTrue result → AreLegal format (arc_value domain.now) bytes.now }
+{
+    let Ok(shared) = Arc::try_clone(domain) else {
+        return false;
+    };
+    let Ok(mut judge) = Judge::new(alloc, format, shared) else {
+        return false;
+    };
+    let mut reader = LineReader::new(alloc);
+    take_lines(&mut judge, &mut reader, format, domain, bytes)
+}
