@@ -33,11 +33,11 @@ one_held J o (y ∷ ys) (suc i) x lt is held = either (is_clear o y J) (one_held
     either false rest = refl
 
 -- whether an object is clear, by what the words of a journal say
-abbrev clear_by : ℕ → Option ℕ → Option Letter → List Request → List Request → Bool
+abbrev pub clear_by : ℕ → Option ℕ → Option Letter → List Request → List Request → Bool
 clear_by a k l ps ss = is_some k || (not (is_some l) && nat_eq (length ps) (length (from_sender (Object a) ss)))
 
 -- the same behind one more entry
-clear_more : (J : List Entry) (e : Entry) (a x : ℕ) → is_clear a x (J ++ e ∷ [])
+pub clear_more : (J : List Entry) (e : Entry) (a x : ℕ) → is_clear a x (J ++ e ∷ [])
     ≡ clear_by a (killed_next x (length J) (killed_at x J) e) (open_next x (open_at x J) e) (posts_between a x J ++ post_in a x e) (starts_at x J ++ start_in x e)
 clear_more J e a x =
     ap (λ k. clear_by a k (open_at x (J ++ e ∷ [])) (posts_between a x (J ++ e ∷ [])) (starts_at x (J ++ e ∷ []))) (killed_more x J e)
@@ -45,15 +45,15 @@ clear_more J e a x =
     ∙ ap (λ ps. clear_by a (killed_next x (length J) (killed_at x J) e) (open_next x (open_at x J) e) ps (starts_at x (J ++ e ∷ []))) (posts_more a x J e)
     ∙ ap (λ ss. clear_by a (killed_next x (length J) (killed_at x J) e) (open_next x (open_at x J) e) (posts_between a x J ++ post_in a x e) ss) (starts_more x J e)
 
-same_either : {X : Type 0} (b : Bool) (x : X) → cond b x x ≡ x
+pub same_either : {X : Type 0} (b : Bool) (x : X) → cond b x x ≡ x
 same_either true x = refl
 same_either false x = refl
 
-same_place : (n : ℕ) (was : Option ℕ) (passes : Bool) → passes ≡ false → place_next n was passes ≡ was
+pub same_place : (n : ℕ) (was : Option ℕ) (passes : Bool) → passes ≡ false → place_next n was passes ≡ was
 same_place n None passes is = ap (λ b. cond b (Some n) None) is
 same_place n (Some i) passes is = refl
 
-same_behind : (xs ys : List Request) → ys ≡ [] → xs ++ ys ≡ xs
+pub same_behind : (xs ys : List Request) → ys ≡ [] → xs ++ ys ≡ xs
 same_behind xs ys is = ap (λ y. xs ++ y) is ∙ append-nil xs
 
 -- a reading leaves all words as they were
@@ -96,17 +96,21 @@ all_held J K o (x ∷ xs) each held = by (is_clear o x J) refl held (all_held J 
     by true is e more = rest (is_clear o x K) (more e)
     by false is e more = ap (λ c. c && are_clear K o xs) (each x is)
 
--- and of those that were looked at no task can go on then
-looked_held : (d : Domain) (n : ℕ) (shelf : List ℕ) (J K : List Entry) (kept : List (Option TaskView))
+-- and then a task that cannot go on cannot either
+pub goes_held : (d : Domain) (J K : List Entry) → sets_after d K ≡ sets_after d J
+    → ((a x : ℕ) → is_clear a x J ≡ false → is_clear a x K ≡ false) → (o : ℕ) (t : Option TaskView)
+    → can_go_on d o J t ≡ false → can_go_on d o K t ≡ false
+goes_held d J K sets each o None e = refl
+goes_held d J K sets each o (Some t) e =
+    ap (λ s. are_clear K o (objects_waiting d s t.pending)) sets
+    ∙ all_held J K o (objects_waiting d (sets_after d J) t.pending) (each o) e
+
+-- nor can those that were looked at
+pub looked_held : (d : Domain) (n : ℕ) (shelf : List ℕ) (J K : List Entry) (kept : List (Option TaskView))
     → sets_after d K ≡ sets_after d J → ((a x : ℕ) → is_clear a x J ≡ false → is_clear a x K ≡ false)
     → AreLooked d n shelf J kept → AreLooked d n shelf K kept
-looked_held d n shelf J K kept sets each were p lt = by (object_at shelf p) (kept_at kept (object_at shelf p)) (were p lt)
-  where
-    by : (o : ℕ) (t : Option TaskView) → can_go_on d o J t ≡ false → can_go_on d o K t ≡ false
-    by o None e = refl
-    by o (Some t) e =
-        ap (λ s. are_clear K o (objects_waiting d s t.pending)) sets
-        ∙ all_held J K o (objects_waiting d (sets_after d J) t.pending) (each o) e
+looked_held d n shelf J K kept sets each were p lt =
+    goes_held d J K sets each (object_at shelf p) (kept_at kept (object_at shelf p)) (were p lt)
 
 -- behind a reading
 pub looked_seen : (d : Domain) (n : ℕ) (shelf : List ℕ) (J K : List Entry) (kept : List (Option TaskView)) (o : ℕ) (rs : List Reading)
