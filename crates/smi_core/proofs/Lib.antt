@@ -5,3 +5,4 @@ pub mod OneOutput
 mod Parts
 mod Tolds
 mod Extended
+mod Fronts

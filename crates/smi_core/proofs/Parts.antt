@@ -1,5 +1,5 @@
 -- What was fed part by part.
-use Rattle.std.proofs.Common.{◌≡◌, ◌==◌, ℕ, Bool, true, false, cond, List, [], ◌∷◌, ◌++◌, Option, sym, refl, ap, ◌∙◌, subst, append_assoc, append-nil}
+use Rattle.std.proofs.Common.{◌≡◌, ◌==◌, ℕ, Bool, true, cond, List, [], ◌∷◌, ◌++◌, Option, sym, refl, ap, ◌∙◌, subst, append_assoc, append-nil}
 use Rattle.std.specs.Prelude.{◌⊎◌}
 use Rattle.std.proofs.Common.{inl, inr}
 use Rattle.std.specs.Io.KnownBytes.{Appends}
@@ -75,11 +75,6 @@ module _ {S : Type 0} (makes : S → List ℕ → List ℕ → S → Type 0) whe
   went_line m m2 line out b old new kept over is made w p =
       let P : Bool → Type 0 = λ c. cond c ((mid : S) × (one : List ℕ) × (rest : List ℕ) × makes m line one mid × Feeds makes mid [] [] rest m2 [] × (out ≡ one ++ rest)) (Feeds makes m (line ++ b ∷ []) [] out m2 []) in
       record { out = out; left = []; pending = p; feeds = subst P (sym is) (m2, out, [], made, (refl, refl, refl), sym (append-nil out)); written = w }
-
-  pub went_byte : (m : S) (line : List ℕ) (b : ℕ) (old : Option (List ℕ)) (kept : List ℕ) (over : Bool) → (b == 10) ≡ false → IsPending kept over (line ++ b ∷ []) → Went makes m line (b ∷ []) old old m kept over
-  went_byte m line b old kept over is p =
-      let P : Bool → Type 0 = λ c. cond c ((mid : S) × (one : List ℕ) × (rest : List ℕ) × makes m line one mid × Feeds makes mid [] [] rest m (line ++ b ∷ []) × (◌≡◌ {A = List ℕ} [] (one ++ rest))) (Feeds makes m (line ++ b ∷ []) [] [] m (line ++ b ∷ [])) in
-      record { out = []; left = line ++ b ∷ []; pending = p; feeds = subst P (sym is) (refl, refl, refl); written = appends_none old }
 
   -- a line that was not made, or made and not written whole
   pub halted_line : (m m2 : S) (line : List ℕ) (b : ℕ) (fault : Type 0) (old new : Option (List ℕ)) → (b == 10) ≡ true → Torn makes m line fault old new m2 → Halted makes m line (b ∷ []) fault old new m2

@@ -1,11 +1,11 @@
 //! Schedules: lines of steps from a reader, and what they write to a writer.
-ghost use Rattle.std.specs.Prelude.{◌≡◌, ℕ, List, [], ◌++◌, ◌∷◌, ◌<◌, ◌≤◌, ◌⊎◌, length, take, drop, Option, IfSome, IfNone, OnOk, OnErr, Ok, Err, Some, codes};
+ghost use Rattle.std.specs.Prelude.{◌≡◌, ℕ, List, [], ◌++◌, ◌∷◌, ◌<◌, ◌≤◌, ◌+◌, ◌⊎◌, length, take, drop, Option, IfSome, IfNone, IfOk, OnOk, OnErr, Ok, Err, Some, codes};
 ghost use Rattle.std.specs.Io.KnownBytes.{Appends, Consumes, IsAtEnd, Keeps};
 ghost use Rattle.sml_text.specs.Written.{Told, StaysDue};
 ghost use Rattle.smi_lines.specs.Answers.{refused_text};
 ghost use Rattle.smi_lines.specs.Line.{LineReads};
 ghost use Rattle.sml_text.specs.Lines.{Outputs, lines_of};
-ghost use Rattle.smi_core.specs.Feeds.{IsPending, Torn, Went, Halted, FirstLines, WholeLines};
+ghost use Rattle.smi_core.specs.Feeds.{IsPending, Torn, Went, FedTo, Halted, HasNoEnd, FirstLines, WholeLines};
 ghost use Rattle.smi_core.specs.Output.{Writes, LineWrites};
 ghost use Rattle.smi_core.specs.FaultText.{schedule_fault_text};
 ghost use Rattle.smi_core.specs.declared.schedule.TheConstants.{LONGEST_SCHEDULE};
@@ -82,14 +82,19 @@ struct Pending {
 }
 
 impl Pending {
-    fn add(&mut self, b: u8) -> Result<(), AllocError>
-        ensures ok { OnOk result ((line : List ℕ) → IsPending self.old.kept.items self.old.over line → IsPending self.new.kept.items self.new.over (line ++ b ∷ [])) }
+    // Adds bytes to the line. Of a line that is too long one byte more than a line may have is kept, so that it takes
+    // no more memory, however long it is.
+    fn add(&mut self, bytes: &[u8]) -> Result<(), AllocError>
+        ensures ok { OnOk result ((line : List ℕ) → IsPending self.old.kept.items self.old.over line
+            → IsPending self.new.kept.items self.new.over (line ++ bytes.now)) }
         ensures err { OnErr result ((self.new.kept.items ≡ self.old.kept.items) × (self.new.over ≡ self.old.over)) }
     {
         if self.over {
             return Ok(());
         }
-        self.kept.push(b)?;
+        let room = (LONGEST_LINE + 1).saturating_sub(self.kept.len());
+        let count = bytes.len().min(room);
+        self.kept.extend_from_slice(bytes.split_at(count).0)?;
         self.over = self.kept.len() > LONGEST_LINE;
         Ok(())
     }
@@ -244,29 +249,55 @@ fn end_line<W: Sink, L: Lookout>(
     Ok(())
 }
 
-fn feed_byte<W: Sink, L: Lookout>(
+// How many bytes stand before the first line feed: all of them where there is none.
+fn front_length(bytes: &[u8]) -> usize
+    ensures within { result ≤ length bytes.now }
+    ensures none { HasNoEnd (take result bytes.now) }
+    ensures ends { result < length bytes.now → drop result bytes.now ≡ 10 ∷ drop (result + 1) bytes.now }
+{
+    for (place, byte) in bytes.iter().enumerate() {
+        if *byte == b'\n' {
+            return place;
+        }
+    }
+    bytes.len()
+}
+
+// Feeds the bytes to the end of the first line, with its line feed, or all of them where no line ends. It gives
+// those that stand behind. A piece of a line is added as a whole, which takes less time than byte by byte.
+fn feed_line<'a, W: Sink, L: Lookout>(
     alloc: Global,
     core: &mut Core,
     writer: &mut W,
     pending: &mut Pending,
     lookout: &mut L,
-    b: u8,
-) -> Result<(), LineFault>
-    ensures ok { (line : List ℕ) → IsPending pending.old.kept.items pending.old.over line → OnOk result
-        (Went LineWrites core.old line (b ∷ []) (W.contents writer.old) (W.contents writer.new) core.new pending.new.kept.items pending.new.over) }
+    bytes: &'a [u8],
+) -> Result<&'a [u8], LineFault>
+    ensures ok { (line : List ℕ) → IsPending pending.old.kept.items pending.old.over line → IfOk result
+        (λ more. FedTo LineWrites core.old line bytes.now more.now (W.contents writer.old) (W.contents writer.new)
+        core.new pending.new.kept.items pending.new.over) }
     ensures err { (line : List ℕ) → IsPending pending.old.kept.items pending.old.over line → OnErr result
-        (Halted LineWrites core.old line (b ∷ []) (result ≡ Err LineFault.Write) (W.contents writer.old) (W.contents writer.new) core.new) }
+        (Halted LineWrites core.old line bytes.now (result ≡ Err LineFault.Write) (W.contents writer.old)
+        (W.contents writer.new) core.new) }
     ensures write { result ≡ Err LineFault.Write → W.has_refused writer.new }
+    ensures less { 0 < length bytes.now → IfOk result (λ more. length more.now < length bytes.now) }
 {
-    if b == b'\n' {
-        return end_line(alloc, core, writer, pending, lookout);
-    }
-    let Ok(()) = pending.add(b) else {
+    let length = front_length(bytes);
+    let (front, behind) = bytes.split_at(length);
+    let Ok(()) = pending.add(front) else {
         return Err(LineFault::Memory);
     };
-    Ok(())
+    if length == bytes.len() {
+        return Ok(&[]);
+    }
+    if let Err(fault) = end_line(alloc, core, writer, pending, lookout) {
+        return Err(fault);
+    }
+    let (_, more) = behind.split_at(1);
+    Ok(more)
 }
 
+// Feeds bytes, one line after another.
 fn feed_chunk<W: Sink, L: Lookout>(
     alloc: Global,
     core: &mut Core,
@@ -281,9 +312,11 @@ fn feed_chunk<W: Sink, L: Lookout>(
         (Halted LineWrites core.old line chunk.now (result ≡ Err LineFault.Write) (W.contents writer.old) (W.contents writer.new) core.new) }
     ensures write { result ≡ Err LineFault.Write → W.has_refused writer.new }
 {
-    for b in chunk {
-        if let Err(fault) = feed_byte(alloc, core, writer, pending, lookout, *b) {
-            return Err(fault);
+    let mut rest = chunk;
+    while !rest.is_empty() {
+        match feed_line(alloc, core, writer, pending, lookout, rest) {
+            Ok(more) => rest = more,
+            Err(fault) => return Err(fault),
         }
     }
     Ok(())
