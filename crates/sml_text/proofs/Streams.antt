@@ -1,5 +1,5 @@
 -- The tokens of a text, step by step.
-use Rattle.std.proofs.Common.{◌≡◌, ◌≤◌, ◌<◌, ℕ, zero, suc, ◌+◌, ◌-◌, List, [], ◌∷◌, ◌++◌, refl, ap, sym, ◌∙◌, subst, arith, length, take, drop, drop-drop, length-drop, length-take, take-append-drop, Option, Some, None, true, false, Bool, ◌⊎◌, inl, inr, ◌==◌}
+use Rattle.std.proofs.Common.{◌≡◌, ◌≤◌, ◌<◌, ℕ, zero, suc, ◌+◌, ◌-◌, List, [], ◌∷◌, ◌++◌, refl, ap, sym, ◌∙◌, subst, arith, length, take, drop, drop-drop, length-drop, length-take, take-append-drop, Option, Some, None, true, false, Bool, ◌⊎◌, inl, inr, ◌==◌, ◌↔◌, IsTrue}
 use Rattle.std.proofs.lemmas.Bool.Decides.{nat_tests}
 use Rattle.sml_text.specs.declared.source.Source.{Source}
 use Rattle.sml_text.specs.declared.front.Front.{Front}
@@ -8,7 +8,7 @@ use Rattle.sml_text.specs.Tokens.{Lexeme, Token, Stands, blank, comment, word, i
 use Rattle.sml_text.specs.Laws.{SomeReading, OneReading, OneTokens, OneBad, TokensFrom}
 use Rattle.sml_text.specs.Front.{StandsFirst, IsFront, front_size, front_what, front_stands}
 use Rattle.sml_text.specs.Scan.{front}
-use Rattle.sml_text.specs.Stream.{Thing, thing_of, first, Reading, with_thing, after, read_things, reading, tokens_from}
+use Rattle.sml_text.specs.Stream.{Thing, thing_of, first, Reading, with_thing, after, read_things, reading, tokens_from, bad_from, Ends}
 use Rattle.sml_text.proofs.Fronts.{IsThing, front_is, front_thing, front_first, stands_first, no_thing}
 use Rattle.sml_text.proofs.Spans.{drop_seam}
 
@@ -235,6 +235,12 @@ next_tokens source at text more x size stands what s is good fits back e =
     ap (λ (r : Reading). r.tokens) (next_reading source at text more x size stands s is good fits back)
     ∙ ap (λ w. told at w (tokens_from source (at + size) more)) e
 
+-- and where it ends
+pub next_bad : (source : Source) (at : ℕ) (text more : List ℕ) (x : Front) (size : ℕ) (stands : Bool) → IsFront source text x → stands ≡ front_stands x → stands ≡ true → size ≡ front_size x → more ≡ drop size text
+    → bad_from source at text ≡ bad_from source (at + size) more
+next_bad source at text more x size stands s is good fits back =
+    ap (λ (r : Reading). r.bad) (next_reading source at text more x size stands s is good fits back)
+
 pub some_reading : SomeReading
 some_reading source text = go (reading source 0 text).bad (reading_said source 0 text)
   where
@@ -266,3 +272,29 @@ one_bad source text bad other h g = go (sym (bad_read source 0 text bad h) ∙ b
 -- what stands so many bytes on
 pub dropped_on : (begin at size : ℕ) (text rest : List ℕ) → begin ≤ at → rest ≡ drop (at - begin) text → drop size rest ≡ drop ((at + size) - begin) text
 dropped_on begin at size text rest on e = ap (drop size) e ∙ (drop-drop size (at - begin) text ∙ ap (λ n. drop n text) (omega (arith, on)))
+
+-- at the end of what is left a text ends
+pub ended : (source : Source) (at : ℕ) (text rest : List ℕ) (place : ℕ) → reading source at text ≡ reading source place rest → rest ≡ [] → IsTrue true ↔ Ends source at text
+ended source at text rest place same none =
+    let all = same ∙ ap (reading source place) none in
+    ((λ _. (ap (λ (r : Reading). r.tokens) all, ap (λ (r : Reading). r.bad) all)), (λ _. refl))
+
+-- and where a token or what is none stands in front, it does not
+front_goes_on : (source : Source) (at : ℕ) (text : List ℕ) (x : Front) → IsFront source text x → (x ≡ End → ⊥) → ((n : ℕ) → x ≡ Skip n → ⊥) → Ends source at text → ⊥
+front_goes_on source at text End s end skip e = end refl
+front_goes_on source at text (Skip n) s end skip e = skip n refl
+front_goes_on source at text (AWord n) s end skip e = let t = sym e.0 ∙ ap (λ (r : Reading). r.tokens) (front_reading source at text (AWord n) s refl) in absurd (cc t)
+front_goes_on source at text (AnInt value n) s end skip e = let t = sym e.0 ∙ ap (λ (r : Reading). r.tokens) (front_reading source at text (AnInt value n) s refl) in absurd (cc t)
+front_goes_on source at text (AStr n) s end skip e = let t = sym e.0 ∙ ap (λ (r : Reading). r.tokens) (front_reading source at text (AStr n) s refl) in absurd (cc t)
+front_goes_on source at text (ASign it) s end skip e = let t = sym e.0 ∙ ap (λ (r : Reading). r.tokens) (front_reading source at text (ASign it) s refl) in absurd (cc t)
+front_goes_on source at text (ASession k) s end skip e = let t = sym e.0 ∙ ap (λ (r : Reading). r.tokens) (front_reading source at text (ASession k) s refl) in absurd (cc t)
+front_goes_on source at text Bad s end skip e = none text s.0 (sym e.1 ∙ ap (λ (r : Reading). r.bad) (reading_none source at text Bad s refl))
+  where
+    none : (t : List ℕ) → (t ≡ [] → ⊥) → None ≡ (after None at t (reading source)).bad → ⊥
+    none [] some b = some refl
+    none (c ∷ t) some b = absurd (cc b)
+
+pub not_ended : (source : Source) (at : ℕ) (text rest : List ℕ) (place : ℕ) (x : Front) → reading source at text ≡ reading source place rest
+    → IsFront source rest x → (x ≡ End → ⊥) → ((n : ℕ) → x ≡ Skip n → ⊥) → IsTrue false ↔ Ends source at text
+not_ended source at text rest place x same s end skip =
+    ((λ e. absurd (cc e)), (λ (e : Ends source at text). absurd (front_goes_on source place rest x s end skip (sym (ap (λ (r : Reading). r.tokens) same) ∙ e.0, sym (ap (λ (r : Reading). r.bad) same) ∙ e.1))))

@@ -1,9 +1,9 @@
 -- The laws of tokens and of decimal texts.
-use Rattle.std.specs.Prelude.{◌≡◌, ◌<◌, ◌^◌, ◌⊎◌, ℕ, ℤ, List}
+use Rattle.std.specs.Prelude.{◌≡◌, ◌<◌, ◌^◌, ◌⊎◌, ℕ, ℤ, List, Some, None}
 use Rattle.sml_text.specs.declared.source.Source.{Source}
-use Rattle.sml_text.specs.Tokens.{Token, TokensAt, TokensOf, BadTokenOf, IsLong}
+use Rattle.sml_text.specs.Tokens.{Token, TokensAt, BadAt, TokensOf, BadTokenOf, IsLong}
 use Rattle.sml_text.specs.Decimal.{IsDecimal, IsIntText, decimal_text, int_text}
-use Rattle.sml_text.specs.Stream.{tokens_from}
+use Rattle.sml_text.specs.Stream.{tokens_from, bad_from}
 
 -- a text has tokens, or there is one place where the first thing that is none begins
 abbrev pub SomeReading : Type 0
@@ -24,6 +24,14 @@ OneBad = (source : Source) (text : List ℕ) (bad other : ℕ) → BadTokenOf so
 -- the tokens of a text are what the function gives
 abbrev pub TokensFrom : Type 0
 TokensFrom = (source : Source) (at : ℕ) (text : List ℕ) (ts : List Token) → TokensAt source at text ts → tokens_from source at text ≡ ts
+
+-- where nothing stops it, what the function gives are the tokens of the text
+abbrev pub FromTokens : Type 0
+FromTokens = (source : Source) (at : ℕ) (text : List ℕ) → bad_from source at text ≡ None → TokensAt source at text (tokens_from source at text)
+
+-- and what stops it is the first bad place
+abbrev pub BadFrom : Type 0
+BadFrom = (source : Source) (at : ℕ) (text : List ℕ) (bad : ℕ) → BadAt source at text bad → bad_from source at text ≡ Some bad
 
 -- the text of a number of 64 bits is decimal
 abbrev pub SomeDecimal : Type 0

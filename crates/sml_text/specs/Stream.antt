@@ -1,5 +1,5 @@
 -- The tokens of a text as a function: from each place on, up to the end or to the first thing that is none.
-use Rattle.std.specs.Prelude.{ℕ, zero, suc, ◌+◌, List, [], ◌∷◌, length, take, drop, Option, Some, None}
+use Rattle.std.specs.Prelude.{◌≡◌, ℕ, zero, suc, ◌+◌, List, [], ◌∷◌, length, take, drop, Option, Some, None}
 use Rattle.sml_text.specs.declared.source.Source.{Source}
 use Rattle.sml_text.specs.declared.front.Front.{Front}
 use Rattle.sml_text.specs.declared.front.Front.TheVariants.{End, Skip, Word as AWord, Int as AnInt, Str as AStr, Sign as ASign, Session as ASession, Bad}
@@ -54,3 +54,11 @@ reading source at text = read_things (length text) source at text
 -- the tokens from a place on
 abbrev pub tokens_from : Source → ℕ → List ℕ → List Token
 tokens_from source at text = (reading source at text).tokens
+
+-- the place of the first thing from a place on that is none
+abbrev pub bad_from : Source → ℕ → List ℕ → Option ℕ
+bad_from source at text = (reading source at text).bad
+
+-- no token stands from a place on, and nothing that is none
+abbrev pub Ends : Source → ℕ → List ℕ → Type 0
+Ends source at text = (tokens_from source at text ≡ []) × (bad_from source at text ≡ None)

@@ -1,6 +1,6 @@
 //! The laws of tokens and of decimal texts.
 
-ghost use Rattle.sml_text.specs.Laws.{SomeReading, OneReading, OneTokens, OneBad, TokensFrom, SomeDecimal, OneDecimal, SomeIntText, OneIntText};
+ghost use Rattle.sml_text.specs.Laws.{SomeReading, OneReading, OneTokens, OneBad, TokensFrom, FromTokens, BadFrom, SomeDecimal, OneDecimal, SomeIntText, OneIntText};
 
 /// What holds of the tokens of every text. It does nothing when called.
 pub fn laws_of_tokens()
@@ -9,6 +9,8 @@ pub fn laws_of_tokens()
     ensures one_tokens { OneTokens }
     ensures one_bad { OneBad }
     ensures tokens_from { TokensFrom }
+    ensures from_tokens { FromTokens }
+    ensures bad_from { BadFrom }
 {}
 
 /// What holds of the decimal texts of every number. It does nothing when called.

@@ -1,9 +1,9 @@
 //! The tokens of a text, one after another.
 
-ghost use Rattle.std.specs.Prelude.{◌≡◌, ◌<◌, ◌+◌, ◌-◌, ◌^◌, ◌∷◌, [], ℕ, List, MatchOption, IfSome, length, drop, Some, None};
+ghost use Rattle.std.specs.Prelude.{◌≡◌, ◌↔◌, ◌<◌, ◌+◌, ◌-◌, ◌^◌, ◌∷◌, [], ℕ, List, MatchOption, IfSome, IsTrue, length, drop, Some, None};
 ghost use Rattle.sml_text.specs.Tokens.{Token as Told, TokensOf, BadTokenOf};
 ghost use Rattle.sml_text.specs.Front.{front_what};
-ghost use Rattle.sml_text.specs.Stream.{tokens_from};
+ghost use Rattle.sml_text.specs.Stream.{tokens_from, bad_from, Ends};
 ghost use Rattle.sml_text.specs.Views.{lexeme_of, token_of, StandsAt, IsLexeme, FrontFits};
 
 use crate::front::{Front, front_at};
@@ -55,6 +55,7 @@ pub fn next_token(source: Source, text: &[u8], at: usize) -> Option<(Token, &[u8
     requires { at + length text.now < 2 ^ 63 }
     ensures next { MatchOption result (tokens_from source at text.now ≡ [])
         (λ x. tokens_from source at text.now ≡ token_of x.0 ∷ tokens_from source x.2 x.1.now) }
+    ensures bad { IfSome result (λ x. bad_from source at text.now ≡ bad_from source x.2 x.1.now) }
     ensures token { IfSome result (λ x. StandsAt source at text.now x.0 x.2) }
     ensures within { IfSome result (λ x.
         (x.2 + length x.1.now ≡ at + length text.now) × (length x.1.now < length text.now)) }
@@ -75,6 +76,23 @@ pub fn next_token(source: Source, text: &[u8], at: usize) -> Option<(Token, &[u8
         }
         rest = after;
         at += size;
+    }
+}
+
+/// Whether nothing but blanks and comments is left: no token, and nothing else.
+///
+/// The time grows with the bytes up to the first thing that is neither a blank nor a comment. No memory
+/// is taken.
+pub fn is_end(source: Source, text: &[u8]) -> bool
+    ensures { (at : ℕ) → IsTrue result ↔ Ends source at text.now }
+{
+    let mut rest = text;
+    'skip: loop {
+        match front_at(source, rest) {
+            Front::Skip(size) => rest = rest.split_at(size).1,
+            Front::End => return true,
+            _ => return false,
+        }
     }
 }
 

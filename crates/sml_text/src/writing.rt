@@ -56,14 +56,19 @@ impl<W: Write> Sink for W {
 /// Writes all of the bytes. At an error a front of them is written: the writer failed, or took no
 /// byte of some.
 ///
-/// It offers what is left, once for each part that the sink takes. No memory is taken.
+/// It offers all of them first, and then what is left, once for each part that the sink takes. No memory is taken.
 pub fn put<S: Sink>(sink: &mut S, bytes: &[u8]) -> Result<(), WriteFault>
     ensures ok { OnOk result (Wrote (S.contents sink.old) (S.contents sink.new) bytes.now) }
     ensures err { OnErr result (WroteFront (S.contents sink.old) (S.contents sink.new) bytes.now) }
     ensures refused { OnErr result (S.has_refused sink.new) }
     ensures empty { bytes.now ≡ [] → IsOk result }
 {
-    let mut at = 0;
+    if bytes.is_empty() {
+        return Ok(());
+    }
+    let Some(mut at) = sink.offer(bytes) else {
+        return Err(WriteFault);
+    };
     while at < bytes.len() {
         let Some(n) = sink.offer(bytes.split_at(at).1) else {
             return Err(WriteFault);

@@ -1,6 +1,7 @@
 -- A word in upper case is a word, and how an array is filled with one.
-use Rattle.std.proofs.Common.{◌≡◌, ℕ, zero, suc, ◌+◌, ◌<◌, ◌≤◌, List, [], ◌∷◌, ◌++◌, length, take, drop, replicate, IsTrue, refl, arith, ap, ◌∙◌, sym, nat_le, get_or, add-one, set, drop-cons}
-use Rattle.std.proofs.lemmas.List.{length-map, map-append, take_more, take_more_set, drop-set-lt}
+use Rattle.std.proofs.Common.{◌≡◌, ℕ, zero, suc, ◌-◌, ◌<◌, ◌≤◌, List, [], ◌∷◌, ◌++◌, length, take, drop, replicate, IsTrue, refl, arith, ap, ◌∙◌, sym, nat_le}
+use Rattle.std.proofs.lemmas.List.{length-map, length-append, length-replicate, drop-replicate}
+use Rattle.std.proofs.Math.Seq.{take-append_seam, drop-append_seam}
 use Rattle.std.proofs.lemmas.Bool.{and_from, and_parts}
 use Rattle.std.proofs.lemmas.Bool.Decides.{nat_tests}
 use Rattle.std.proofs.lemmas.Str.{IsUtf8-from_ascii}
@@ -8,7 +9,7 @@ use Rattle.std.proofs.lemmas.Str.Ascii.{IsAscii-nil}
 use Rattle.std.specs.Str.{IsUtf8, IsAscii}
 use Rattle.std.specs.Char.{is_ascii_alphabetic, to_ascii_uppercase}
 use Rattle.std.specs.List.{list_all}
-use Rattle.sml_tree.specs.Word.{is_word_byte, is_word_text, is_word, upper}
+use Rattle.sml_tree.specs.Word.{is_word_byte, is_word_text, is_word, upper, HasName}
 use Rattle.sml_text.specs.declared.limits.TheConstants.{LONGEST_NAME}
 
 letter_upper : (b : ℕ) → IsTrue (is_ascii_alphabetic b) → IsTrue (is_ascii_alphabetic (to_ascii_uppercase b))
@@ -44,23 +45,6 @@ word_upper bs h =
 pub word_fits : (bs : List ℕ) → IsTrue (is_word bs) → length bs ≤ LONGEST_NAME
 word_fits bs h = let p = (and_parts (is_word_text bs) (nat_le (length bs) LONGEST_NAME) h).1 in grind (arith, nat_tests)
 
-pub upper_more : (bytes word : List ℕ) (i : ℕ) → i < length bytes → i < length word → take i bytes ≡ upper (take i word) →
-    take (i + 1) (set bytes i (to_ascii_uppercase (get_or word i 0))) ≡ upper (take (i + 1) word)
-upper_more bytes word i h k e =
-    take_more_set bytes i _ h ∙ ap (λ xs. xs ++ to_ascii_uppercase (get_or word i 0) ∷ []) e
-    ∙ sym (map-append to_ascii_uppercase (take i word) (get_or word i 0 ∷ [])) ∙ ap upper (sym (take_more word i 0 k))
-
-tail_of : List ℕ → List ℕ
-tail_of [] = []
-tail_of (x ∷ xs) = xs
-
-pub padded_more : (bytes : List ℕ) (i y n : ℕ) → i < length bytes → drop i bytes ≡ replicate (suc n) 0 → drop (i + 1) (set bytes i y) ≡ replicate n 0
-padded_more bytes i y n h e =
-    drop-set-lt (i + 1) bytes i y (omega arith) ∙ tail (drop-cons bytes i 0 h)
-  where
-    tail : drop i bytes ≡ get_or bytes i 0 ∷ drop (suc i) bytes → drop (i + 1) bytes ≡ replicate n 0
-    tail d = rw add-one (cc (sym d ∙ e))
-
 byte_ascii : (b : ℕ) → IsTrue (is_word_byte b) → b < 128
 byte_ascii b h = grind (arith, nat_tests)
 
@@ -82,3 +66,19 @@ pub word_utf8 : (bs : List ℕ) → IsTrue (is_word bs) → IsUtf8 bs
 word_utf8 bs h =
     let p = and_parts (is_word_text bs) (nat_le (length bs) LONGEST_NAME) h in
     IsUtf8-from_ascii bs (text_ascii bs p.0)
+
+-- zeros behind a word in upper case are a name
+pub named : (word bytes : List ℕ) → IsTrue (is_word word) → bytes ≡ upper word → HasName (bytes ++ drop (length word) (replicate LONGEST_NAME 0)) (length word)
+named word bytes h e =
+    let fits = word_fits word h in
+    let long : length bytes ≡ length word = ap (λ (bs : List ℕ). length bs) e ∙ length-map word to_ascii_uppercase in
+    let zeros = drop (length word) (replicate LONGEST_NAME 0) in
+    let front : take (length word) (bytes ++ zeros) ≡ upper word = ap (λ n. take n (bytes ++ zeros)) (sym long) ∙ take-append_seam bytes zeros ∙ e in
+    let count : length zeros ≡ LONGEST_NAME - length word = ap (λ (bs : List ℕ). length bs) (drop-replicate (length word) LONGEST_NAME 0) ∙ length-replicate (LONGEST_NAME - length word) 0 in
+    record {
+      fits = fits;
+      filled = length-append bytes zeros ∙ omega (arith, long, fits, count);
+      padded = ap (λ n. drop n (bytes ++ zeros)) (sym long) ∙ drop-append_seam bytes zeros ∙ drop-replicate (length word) LONGEST_NAME 0;
+      word = rw front (word_upper word h);
+      upper_case = rw front (upper-upper word);
+    }

@@ -1,4 +1,4 @@
-use Rattle.sml_text.proofs.Streams.{some_reading, one_reading, one_tokens, one_bad, tokens_are}
+use Rattle.sml_text.proofs.Streams.{some_reading, one_reading, one_tokens, one_bad, tokens_are, read_tokens, bad_read}
 use Rattle.sml_text.proofs.laws.laws_of_tokens.Goals as goal
 
 pub returns-clause-some : goal.returns-clause-some
@@ -15,3 +15,9 @@ returns-clause-one_bad c = one_bad
 
 pub returns-clause-tokens_from : goal.returns-clause-tokens_from
 returns-clause-tokens_from c = tokens_are
+
+pub returns-clause-from_tokens : goal.returns-clause-from_tokens
+returns-clause-from_tokens c = read_tokens
+
+pub returns-clause-bad_from : goal.returns-clause-bad_from
+returns-clause-bad_from c = bad_read
