@@ -1,6 +1,6 @@
 -- What a judge keeps, with an entry added.
 use Rattle.std.proofs.Common.{◌≡◌, ◌<◌, ℕ, Bool, true, false, List, [], ◌∷◌, ◌++◌, length, Option, Some, None, refl, sym, ap, ◌∙◌, subst}
-use Rattle.std.specs.Prelude.{All, slice_set}
+use Rattle.std.specs.Prelude.{All, is_some, slice_set}
 use Rattle.std.proofs.lemmas.List.Elements.{All-append, All-cons, All-nil}
 use Rattle.std.specs.Arc.{arc_value}
 use Rattle.sml_domain.specs.declared.value.Value.{Value}
@@ -19,7 +19,6 @@ use Rattle.smi_entry.specs.Sets.{Sets, AreOf, sets_after, unchanged}
 use Rattle.smi_entry.specs.Words.{Item, Sent, HadNone, Saw, Turned, object_of, start_of, state_of}
 use Rattle.smi_entry.specs.Laws.{BeginDeclared}
 use Rattle.smi_entry.proofs.OneMore.{sets_more}
-use Rattle.smi_ledger.specs.Views.{LedgerView}
 use Rattle.smi_meaning.specs.Legal.{MayFollow}
 use Rattle.smi_meaning.specs.Quiet.{AreDeclared}
 use Rattle.smi_follower.specs.Following.{FollowerView, MayTell, with_item}
@@ -32,8 +31,8 @@ use Rattle.smi_audit.proofs.Tracked.{tracked_set, tracked_start, tracked_post, t
 use Rattle.smi_audit.proofs.Followed.{shows_true}
 
 -- the track of an object of the domain
-pub track_of : (j : Judge) (o : ℕ) → o < length j.ledger.domain.objects → IsKept j
-    → IsTracked j.format j.ledger.domain j.ledger.journal o (track_at j.tracks.items o)
+pub track_of : (j : Judge) (o : ℕ) → o < length j.books.domain.objects → IsKept j
+    → IsTracked j.format j.books.domain j.books.journal o (track_at j.tracks.items o)
 track_of j o lt h = h.tracked.each o lt
 
 -- so far sets have members of which the format may tell, also after an entry that may follow
@@ -52,20 +51,20 @@ tells_more One d J (NoMember x set) h t = absurd h
 
 -- what is kept, of what is equal
 kept_as : (old new : Judge) (J : List Entry) → arc_value new.domain ≡ arc_value old.domain
-    → new.declared ≡ old.declared → new.format ≡ old.format → new.ledger.domain ≡ old.ledger.domain
-    → new.ledger.journal ≡ J → IsKept old
-    → AreTracked old.format old.ledger.domain J new.tracks.items
-    → All (IsEntryOf (length old.ledger.domain.objects)) J
-    → MayTell old.format old.ledger.domain (sets_after old.ledger.domain J) → IsKept new
+    → new.declared ≡ old.declared → new.format ≡ old.format → new.books.domain ≡ old.books.domain
+    → new.books.journal ≡ J → IsKept old
+    → AreTracked old.format old.books.domain J new.tracks.items
+    → All (IsEntryOf (length old.books.domain.objects)) J
+    → MayTell old.format old.books.domain (sets_after old.books.domain J) → IsKept new
 kept_as old new J arc declared format domain journal h tracks there tells = record {
   domain = domain ∙ h.domain ∙ sym arc;
-  tracked = tracked_as old.format new.format old.ledger.domain new.ledger.domain J new.ledger.journal
+  tracked = tracked_as old.format new.format old.books.domain new.books.domain J new.books.journal
       new.tracks.items format domain journal tracks;
-  there = subst (λ x. All (IsEntryOf (length x.objects)) new.ledger.journal) (sym domain)
-      (subst (All (IsEntryOf (length old.ledger.domain.objects))) (sym journal) there);
-  tells = subst (λ x. MayTell x new.ledger.domain (sets_after new.ledger.domain new.ledger.journal)) (sym format)
-      (subst (λ x. MayTell old.format x (sets_after x new.ledger.journal)) (sym domain)
-      (subst (λ l. MayTell old.format old.ledger.domain (sets_after old.ledger.domain l)) (sym journal) tells));
+  there = subst (λ x. All (IsEntryOf (length x.objects)) new.books.journal) (sym domain)
+      (subst (All (IsEntryOf (length old.books.domain.objects))) (sym journal) there);
+  tells = subst (λ x. MayTell x new.books.domain (sets_after new.books.domain new.books.journal)) (sym format)
+      (subst (λ x. MayTell old.format x (sets_after x new.books.journal)) (sym domain)
+      (subst (λ l. MayTell old.format old.books.domain (sets_after old.books.domain l)) (sym journal) tells));
   declared = declared ∙ h.declared ∙ ap unchanged (sym domain);
   are = subst (λ x. AreOf x (unchanged x)) (sym domain) h.are;
 }
@@ -73,20 +72,20 @@ kept_as old new J arc declared format domain journal h tracks there tells = reco
 -- a judge whose books and tracks have the entry
 pub adds : (old new : Judge) (e : Entry) → arc_value new.domain ≡ arc_value old.domain
     → new.declared ≡ old.declared → new.format ≡ old.format → IsKept old
-    → object_of e < length old.ledger.domain.objects
-    → MayFollow old.format old.ledger.domain old.ledger.journal e → new.ledger.domain ≡ old.ledger.domain
-    → new.ledger.journal ≡ old.ledger.journal ++ e ∷ []
-    → AreTracked old.format old.ledger.domain (old.ledger.journal ++ e ∷ []) new.tracks.items → Adds old new e
+    → object_of e < length old.books.domain.objects
+    → MayFollow old.format old.books.domain old.books.journal e → new.books.domain ≡ old.books.domain
+    → new.books.journal ≡ old.books.journal ++ e ∷ []
+    → AreTracked old.format old.books.domain (old.books.journal ++ e ∷ []) new.tracks.items → Adds old new e
 adds old new e arc declared format h lt legal domain journal tracks =
-    let n = length old.ledger.domain.objects in
-    let there : All (IsEntryOf n) (old.ledger.journal ++ e ∷ []) =
-    All-append (IsEntryOf n) old.ledger.journal (e ∷ []) h.there
+    let n = length old.books.domain.objects in
+    let there : All (IsEntryOf n) (old.books.journal ++ e ∷ []) =
+    All-append (IsEntryOf n) old.books.journal (e ∷ []) h.there
     (All-cons (IsEntryOf n) e [] lt (All-nil (IsEntryOf n))) in
-    let tells = tells_more old.format old.ledger.domain old.ledger.journal e legal h.tells in
+    let tells = tells_more old.format old.books.domain old.books.journal e legal h.tells in
     record {
       follows = legal;
       added = record {
-        kept = kept_as old new (old.ledger.journal ++ e ∷ []) arc declared format domain journal h tracks there tells;
+        kept = kept_as old new (old.books.journal ++ e ∷ []) arc declared format domain journal h tracks there tells;
         journal = journal;
         domain = domain;
         format = format;
@@ -99,29 +98,27 @@ first_tells law Two d = tt
 
 -- a judge of nothing
 pub first_kept : BeginDeclared → (j : Judge) (d : Domain) (sets : Sets)
-    → ((format : Format) → AreTracked format d [] j.tracks.items) → j.ledger.domain ≡ d → arc_value j.domain ≡ d
-    → j.ledger.journal ≡ [] → j.declared ≡ sets
-    → sets ≡ sets_after j.ledger.domain j.ledger.journal → AreOf j.ledger.domain sets → IsKept j
+    → ((format : Format) → AreTracked format d [] j.tracks.items) → j.books.domain ≡ d → arc_value j.domain ≡ d
+    → j.books.journal ≡ [] → j.declared ≡ sets
+    → sets ≡ sets_after j.books.domain j.books.journal → AreOf j.books.domain sets → IsKept j
 first_kept law j d sets tracks domain arc journal declared is are =
-    let begin : sets ≡ unchanged j.ledger.domain = is ∙ ap (sets_after j.ledger.domain) journal in
+    let begin : sets ≡ unchanged j.books.domain = is ∙ ap (sets_after j.books.domain) journal in
     record {
       domain = domain ∙ sym arc;
-      tracked = tracked_as j.format j.format d j.ledger.domain [] j.ledger.journal j.tracks.items refl domain
+      tracked = tracked_as j.format j.format d j.books.domain [] j.books.journal j.tracks.items refl domain
           journal (tracks j.format);
-      there = subst (All (IsEntryOf (length j.ledger.domain.objects))) (sym journal)
-          (All-nil (IsEntryOf (length j.ledger.domain.objects)));
-      tells = subst (λ l. MayTell j.format j.ledger.domain (sets_after j.ledger.domain l)) (sym journal)
-          (first_tells law j.format j.ledger.domain);
+      there = subst (All (IsEntryOf (length j.books.domain.objects))) (sym journal)
+          (All-nil (IsEntryOf (length j.books.domain.objects)));
+      tells = subst (λ l. MayTell j.format j.books.domain (sets_after j.books.domain l)) (sym journal)
+          (first_tells law j.format j.books.domain);
       declared = declared ∙ begin;
-      are = subst (AreOf j.ledger.domain) begin are;
+      are = subst (AreOf j.books.domain) begin are;
     }
 
--- of a view that is another, the domain and the journal
-pub view_domain : (a b : LedgerView) → a ≡ b → a.domain ≡ b.domain
-view_domain a b e = ap (λ (v : LedgerView). v.domain) e
-
-pub view_journal : (a b : LedgerView) → a ≡ b → a.journal ≡ b.journal
-view_journal a b e = ap (λ (v : LedgerView). v.journal) e
+-- who is not killed has no place of a kill
+pub never_killed : (place : Option ℕ) → is_some place ≡ false → place ≡ None
+never_killed None e = refl
+never_killed (Some k) e = absurd (cc e)
 
 -- the tracks with that of an object written
 written : (format : Format) (d : Domain) (J : List Entry) (e : Entry) (tracks tracks2 : List TrackView) (o : ℕ)

@@ -19,10 +19,10 @@ use Rattle.smi_audit.specs.Lines.{Follows}
 pub record IsBehind (format : Format) (d : Domain) (bytes rest : List ℕ) (k : Judge) : Type 0 where
   pub kept : IsKept k
   pub format_is : k.format ≡ format
-  pub domain : k.ledger.domain ≡ d
-  pub texts : All (HasTextIn format d) k.ledger.journal
-  pub split : bytes ≡ lines_text d k.ledger.journal ++ rest
-  pub legal : IsLegal format d k.ledger.journal
+  pub domain : k.books.domain ≡ d
+  pub texts : All (HasTextIn format d) k.books.journal
+  pub split : bytes ≡ lines_text d k.books.journal ++ rest
+  pub legal : IsLegal format d k.books.journal
 
 lines_more : (format : Format) (d : Domain) (es : List Entry) (e : Entry) (bytes rest more : List ℕ)
     → bytes ≡ lines_text d es ++ rest → BeginsWith format d rest e more → bytes ≡ lines_text d (es ++ e ∷ []) ++ more
@@ -31,11 +31,11 @@ lines_more format d es e bytes rest more is h =
     ∙ ap (λ l. l ++ more) (flat_map_more (line_text d) [] es e)
 
 pub one_line : (format : Format) (d : Domain) (bytes rest more : List ℕ) (j k : Judge) → j.format ≡ format
-    → j.ledger.domain ≡ d → All (HasTextIn format d) j.ledger.journal
-    → bytes ≡ lines_text d j.ledger.journal ++ rest → IsLegal format d j.ledger.journal
+    → j.books.domain ≡ d → All (HasTextIn format d) j.books.journal
+    → bytes ≡ lines_text d j.books.journal ++ rest → IsLegal format d j.books.journal
     → Follows format d j k rest more → IsBehind format d bytes more k
 one_line format d bytes rest more j k same domain texts split legal f =
-    let J = j.ledger.journal in
+    let J = j.books.journal in
     let e = f.entry in
     let a = f.adds.added in
     let at : IsLegalAt format d J e =

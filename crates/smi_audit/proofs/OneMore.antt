@@ -21,18 +21,18 @@ split_at xs i e lt is =
     (drop_more xs i e lt ∙ ap (λ x. x ∷ drop (i + 1) xs) (sym is))
 
 breaks_as : (j k : Judge) (e : Entry) (x : Option Rule) (r : Rule) → x ≡ Some r → Judges j k e x
-    → Breaks j.format j.ledger.domain j.ledger.journal e r
+    → Breaks j.format j.books.domain j.books.journal e r
 breaks_as j k e x r is h = subst (Judges j k e) is h
 
 pub broken_at : (format : Format) (d : Domain) (entries : List Entry) (j k : Judge) (i : ℕ) (e : Entry)
     (x : Option Rule) (r : Rule) → i < length entries → e ≡ get_or entries i e → j.format ≡ format
-    → j.ledger.domain ≡ d → j.ledger.journal ≡ take i entries
-    → IsLegal format d j.ledger.journal → Judges j k e x → x ≡ Some r → IsBrokenAt format d entries (i + 2) r
+    → j.books.domain ≡ d → j.books.journal ≡ take i entries
+    → IsLegal format d j.books.journal → Judges j k e x → x ≡ Some r → IsBrokenAt format d entries (i + 2) r
 broken_at format d entries j k i e x r lt is same domain journal legal h some =
     let long : length (take i entries) ≡ i = omega (arith, length-take i entries) in
-    let b : Breaks format d j.ledger.journal e r =
-    subst (λ f. Breaks f d j.ledger.journal e r) same
-    (subst (λ y. Breaks j.format y j.ledger.journal e r) domain (breaks_as j k e x r some h)) in
+    let b : Breaks format d j.books.journal e r =
+    subst (λ f. Breaks f d j.books.journal e r) same
+    (subst (λ y. Breaks j.format y j.books.journal e r) domain (breaks_as j k e x r some h)) in
     record {
       past = take i entries;
       entry = e;
@@ -47,27 +47,27 @@ broken_at format d entries j k i e x r lt is same domain journal legal h some =
 pub record GoesOn (format : Format) (d : Domain) (entries : List Entry) (k : Judge) (i : ℕ) : Type 0 where
   pub kept : IsKept k
   pub format_is : k.format ≡ format
-  pub domain : k.ledger.domain ≡ d
-  pub journal : k.ledger.journal ≡ take (i + 1) entries
-  pub legal : IsLegal format d k.ledger.journal
+  pub domain : k.books.domain ≡ d
+  pub journal : k.books.journal ≡ take (i + 1) entries
+  pub legal : IsLegal format d k.books.journal
 
 adds_as : (j k : Judge) (e : Entry) (x : Option Rule) → x ≡ None → Judges j k e x → AddsLegal j k e
 adds_as j k e x is h = subst (Judges j k e) is h
 
 pub goes_on : (format : Format) (d : Domain) (entries : List Entry) (j k : Judge) (i : ℕ) (e : Entry)
-    (x : Option Rule) → i < length entries → e ≡ get_or entries i e → j.format ≡ format → j.ledger.domain ≡ d
-    → j.ledger.journal ≡ take i entries
-    → IsLegal format d j.ledger.journal → Judges j k e x → x ≡ None → GoesOn format d entries k i
+    (x : Option Rule) → i < length entries → e ≡ get_or entries i e → j.format ≡ format → j.books.domain ≡ d
+    → j.books.journal ≡ take i entries
+    → IsLegal format d j.books.journal → Judges j k e x → x ≡ None → GoesOn format d entries k i
 goes_on format d entries j k i e x lt is same domain journal legal h none =
     let a = adds_as j k e x none h in
-    let at : IsLegalAt format d j.ledger.journal e =
-    subst (λ f. IsLegalAt f d j.ledger.journal e) same
-    (subst (λ y. IsLegalAt j.format y j.ledger.journal e) domain a.legal) in
+    let at : IsLegalAt format d j.books.journal e =
+    subst (λ f. IsLegalAt f d j.books.journal e) same
+    (subst (λ y. IsLegalAt j.format y j.books.journal e) domain a.legal) in
     record {
       kept = a.added.kept;
       format_is = a.added.format ∙ same;
       domain = a.added.domain ∙ domain;
       journal = a.added.journal ∙ ap (λ l. l ++ e ∷ []) journal ∙ ap (λ y. take i entries ++ y ∷ []) is
           ∙ sym (take_more entries i e lt);
-      legal = subst (IsLegal format d) (sym a.added.journal) (legal_more format d j.ledger.journal e legal at);
+      legal = subst (IsLegal format d) (sym a.added.journal) (legal_more format d j.books.journal e legal at);
     }

@@ -16,7 +16,8 @@ use Rattle.smi_rules.specs.Rules.{Breaks}
 use Rattle.smi_follower.specs.Following.{FollowerView}
 use Rattle.smi_audit.specs.declared.judge.Judge.{Judge}
 use Rattle.smi_audit.specs.Judges.{BreaksOwn, IsEntryOf, IsKept, Judges, JudgesOwn}
-use Rattle.smi_audit.specs.Splitting.{IsLast, IsNextPost}
+use Rattle.smi_ledger.specs.Books.{IsLast}
+use Rattle.smi_audit.specs.Splitting.{IsNextPost}
 use Rattle.smi_audit.specs.Tracks.{IsFollowing, track_at}
 
 -- ---- whose send may be begun
@@ -78,10 +79,10 @@ pub nobody : (format : Format) (d : Domain) (J : List Entry) (e : Entry) → for
 nobody format d J e two none = subst (λ x. KeepsWhole x d J e) (sym two) (λ o p w. absurd (none o p w))
 
 -- what is followed, in the second format
-pub followed_in_two : (j : Judge) (o : ℕ) → j.format ≡ Two → o < length j.ledger.domain.objects → IsKept j
-    → IsFollowing Two j.ledger.domain j.ledger.journal o (track_at j.tracks.items o).follower
+pub followed_in_two : (j : Judge) (o : ℕ) → j.format ≡ Two → o < length j.books.domain.objects → IsKept j
+    → IsFollowing Two j.books.domain j.books.journal o (track_at j.tracks.items o).follower
 followed_in_two j o two lt h =
-    subst (λ x. IsFollowing x j.ledger.domain j.ledger.journal o (track_at j.tracks.items o).follower) two
+    subst (λ x. IsFollowing x j.books.domain j.books.journal o (track_at j.tracks.items o).follower) two
     (h.tracked.each o lt).follows
 
 -- ---- with the other rules
@@ -97,6 +98,6 @@ own_breaks One d J e r whole h = h
 own_breaks Two d J e r whole h = inr (whole, h)
 
 pub judges : (old new : Judge) (e : Entry) (r : Option Rule)
-    → KeepsWhole old.format old.ledger.domain old.ledger.journal e → JudgesOwn old new e r → Judges old new e r
+    → KeepsWhole old.format old.books.domain old.books.journal e → JudgesOwn old new e r → Judges old new e r
 judges old new e None whole h = record { legal = (whole, h.follows); added = h.added }
-judges old new e (Some r) whole h = own_breaks old.format old.ledger.domain old.ledger.journal e r whole h
+judges old new e (Some r) whole h = own_breaks old.format old.books.domain old.books.journal e r whole h

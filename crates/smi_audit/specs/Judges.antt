@@ -19,18 +19,18 @@ IsEntryOf n e = object_of e < n
 
 -- the books are of the domain, the tracks say what the journal says, and its format may tell of the members of sets
 pub record IsKept (j : Judge) : Type 0 where
-  pub domain : j.ledger.domain ≡ arc_value j.domain
-  pub tracked : AreTracked j.format j.ledger.domain j.ledger.journal j.tracks.items
-  pub there : All (IsEntryOf (length j.ledger.domain.objects)) j.ledger.journal
-  pub tells : MayTell j.format j.ledger.domain (sets_after j.ledger.domain j.ledger.journal)
-  pub declared : j.declared ≡ unchanged j.ledger.domain
-  pub are : AreOf j.ledger.domain (unchanged j.ledger.domain)
+  pub domain : j.books.domain ≡ arc_value j.domain
+  pub tracked : AreTracked j.format j.books.domain j.books.journal j.tracks.items
+  pub there : All (IsEntryOf (length j.books.domain.objects)) j.books.journal
+  pub tells : MayTell j.format j.books.domain (sets_after j.books.domain j.books.journal)
+  pub declared : j.declared ≡ unchanged j.books.domain
+  pub are : AreOf j.books.domain (unchanged j.books.domain)
 
 -- the entry was added
 pub record IsAdded (old new : Judge) (e : Entry) : Type 0 where
   pub kept : IsKept new
-  pub journal : new.ledger.journal ≡ old.ledger.journal ++ e ∷ []
-  pub domain : new.ledger.domain ≡ old.ledger.domain
+  pub journal : new.books.journal ≡ old.books.journal ++ e ∷ []
+  pub domain : new.books.domain ≡ old.books.domain
   pub format : new.format ≡ old.format
 
 -- ---- but for the rule that no entry splits a send
@@ -46,22 +46,22 @@ FirstBroken format d J e (Some r) = BreaksOwn format d J e r
 
 -- the entry may follow the journal, and was added
 pub record Adds (old new : Judge) (e : Entry) : Type 0 where
-  pub follows : MayFollow old.format old.ledger.domain old.ledger.journal e
+  pub follows : MayFollow old.format old.books.domain old.books.journal e
   pub added : IsAdded old new e
 
 -- the rule of its kind that an entry breaks first, or it was added
 abbrev pub JudgesOwn : Judge → Judge → Entry → Option Rule → Type 0
 JudgesOwn old new e None = Adds old new e
-JudgesOwn old new e (Some r) = BreaksOwn old.format old.ledger.domain old.ledger.journal e r
+JudgesOwn old new e (Some r) = BreaksOwn old.format old.books.domain old.books.journal e r
 
 -- ---- with that rule
 
 -- the entry is legal behind the journal, and was added
 pub record AddsLegal (old new : Judge) (e : Entry) : Type 0 where
-  pub legal : IsLegalAt old.format old.ledger.domain old.ledger.journal e
+  pub legal : IsLegalAt old.format old.books.domain old.books.journal e
   pub added : IsAdded old new e
 
 -- the rule that an entry breaks first, or it was added
 abbrev pub Judges : Judge → Judge → Entry → Option Rule → Type 0
 Judges old new e None = AddsLegal old new e
-Judges old new e (Some r) = Breaks old.format old.ledger.domain old.ledger.journal e r
+Judges old new e (Some r) = Breaks old.format old.books.domain old.books.journal e r

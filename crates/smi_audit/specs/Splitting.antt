@@ -1,21 +1,15 @@
 -- Sends that are begun: whose they can be, and the post that comes next.
-use Rattle.std.specs.Prelude.{◌≡◌, ◌++◌, ◌∷◌, [], ℕ, Bool, true, false, List, Option, Some, None}
+use Rattle.std.specs.Prelude.{ℕ, Bool, true, false, List, Option, Some, None}
 use Rattle.sml_domain.specs.Domain.{Domain}
 use Rattle.smi_entry.specs.declared.entry.Entry.{Entry}
 use Rattle.smi_entry.specs.declared.journal.Format.{Format}
 use Rattle.smi_entry.specs.declared.journal.Format.TheVariants.{One, Two}
-use Rattle.smi_entry.specs.Words.{object_of}
 use Rattle.smi_meaning.specs.Items.{Post}
 use Rattle.smi_meaning.specs.Legal.{IsWithin}
 use Rattle.smi_follower.specs.declared.follower.Expected.{Expected}
 use Rattle.smi_follower.specs.declared.follower.Expected.TheVariants as expected
 use Rattle.smi_follower.specs.Following.{FollowerView}
 use Rattle.smi_audit.specs.Tracks.{IsFollowing}
-
--- the object of the last entry, or there is none
-abbrev pub IsLast : List Entry → Option ℕ → Type 0
-IsLast J None = J ≡ []
-IsLast J (Some o) = (front : List Entry) × (e : Entry) × (J ≡ front ++ e ∷ []) × (o ≡ object_of e)
 
 -- whether it is the second format, which has entries of sets that change and of sets without members
 abbrev pub is_two : Format → Bool

@@ -2,7 +2,7 @@
 use Rattle.std.specs.Prelude.{List, Option}
 use Rattle.sml_domain.specs.declared.value.Value.{Value}
 use Rattle.smi_entry.specs.declared.journal.Format.{Format}
-use Rattle.smi_ledger.specs.Views.{LedgerView}
+use Rattle.smi_ledger.specs.Views.{BooksView}
 use Rattle.smi_follower.specs.Following.{FollowerView}
 use Rattle.smi_audit.specs.declared.calls.Call.{Call}
 
@@ -15,4 +15,4 @@ pub record TrackView : Type 0 where
 -- the entries of a journal with their books, and the format in which they are judged
 pub record PastView : Type 0 where
   pub format : Format
-  pub ledger : LedgerView
+  pub books : BooksView

@@ -1,7 +1,9 @@
-//! The accepted posts of one object to another.
-ghost use Rattle.std.specs.Prelude.{◌≡◌, ◌++◌, ◌∷◌, [], OnOk, map, slice_get, option_map};
+//! The accepted posts of one object to another, and the letters of starts.
+ghost use Rattle.std.specs.Prelude.{◌≡◌, ◌++◌, ◌∷◌, [], IfOk, OnOk, map, slice_get, option_map};
 
 use smi_entry::args::Args;
+use smi_entry::entry::Sender;
+use smi_entry::letter::Letter;
 use sml_domain::ids::ActionId;
 use std::alloc::{AllocError, Global};
 use std::marker::Model;
@@ -52,4 +54,22 @@ impl Calls {
         self.list.push(call)?;
         Ok(())
     }
+}
+
+// A letter with a share of these arguments.
+pub(crate) fn letter(
+    sender: &Sender,
+    number: u64,
+    action: ActionId,
+    args: &Args,
+) -> Result<Letter, AllocError>
+    ensures { IfOk result (λ l. l ≡ record { sender = sender.now; number = number; action = action; args = args.now }) }
+{
+    let args = args.share()?;
+    Ok(Letter {
+        sender: *sender,
+        number,
+        action,
+        args,
+    })
 }

@@ -18,19 +18,19 @@ use smi_entry::entry::Verdict;
 use smi_entry::journal::Format;
 use smi_entry::laws::laws_of_members;
 use smi_entry::members::Members;
-use smi_ledger::ledger::Ledger;
+use smi_ledger::books::Books;
 use sml_domain::domain::Domain;
 use sml_domain::ids::{ActionId, ObjId};
 use sml_domain::value::same_values;
 use std::alloc::{AllocError, Global};
 use std::sync::Arc;
 
-/// The journal so far with its books, a track of each object, and the format in which it is judged.
+/// The books of the journal so far, a track of each object, and the format in which it is judged.
 #[derive(Drop)]
 pub(crate) struct Judge {
     pub(crate) format: Format,
     pub(crate) domain: Arc<Domain>,
-    pub(crate) ledger: Ledger,
+    pub(crate) books: Books,
     pub(crate) tracks: Vec<Track>,
     // The declared members of sets.
     pub(crate) declared: Members,
@@ -51,13 +51,13 @@ fn first_tracks(alloc: Global, domain: &Domain) -> Result<Vec<Track>, AllocError
 }
 
 // Whether objects are all clear for another.
-pub(crate) fn all_clear(ledger: &Ledger, o: ObjId, objects: &[ObjId]) -> bool
-    requires within { o < length ledger.now.domain.objects }
-    requires there { All (λ x. x < length ledger.now.domain.objects) objects.now }
-    ensures { result ≡ are_clear ledger.now.journal o objects.now }
+pub(crate) fn all_clear(books: &Books, o: ObjId, objects: &[ObjId]) -> bool
+    requires within { o < length books.now.domain.objects }
+    requires there { All (λ x. x < length books.now.domain.objects) objects.now }
+    ensures { result ≡ are_clear books.now.journal o objects.now }
 {
     for object in objects {
-        if !ledger.is_clear(o, *object) {
+        if !books.is_clear(o, *object) {
             return false;
         }
     }
@@ -65,13 +65,13 @@ pub(crate) fn all_clear(ledger: &Ledger, o: ObjId, objects: &[ObjId]) -> bool
 }
 
 // Whether the objects that were read are all clear for another.
-pub(crate) fn read_clear(ledger: &Ledger, o: ObjId, readings: &[Reading]) -> bool
-    requires within { o < length ledger.now.domain.objects }
-    requires there { All (IsReadingOf (length ledger.now.domain.objects)) readings.now }
-    ensures { result ≡ list_all (is_clear_for ledger.now.journal o) readings.now }
+pub(crate) fn read_clear(books: &Books, o: ObjId, readings: &[Reading]) -> bool
+    requires within { o < length books.now.domain.objects }
+    requires there { All (IsReadingOf (length books.now.domain.objects)) readings.now }
+    ensures { result ≡ list_all (is_clear_for books.now.journal o) readings.now }
 {
     for reading in readings {
-        if !ledger.is_clear(o, reading.object) {
+        if !books.is_clear(o, reading.object) {
             return false;
         }
     }
@@ -79,12 +79,12 @@ pub(crate) fn read_clear(ledger: &Ledger, o: ObjId, readings: &[Reading]) -> boo
 }
 
 // Whether the states that were read are those of the objects now.
-pub(crate) fn are_states(ledger: &Ledger, readings: &[Reading]) -> bool
-    requires { All (IsReadingOf (length ledger.now.domain.objects)) readings.now }
-    ensures { IsTrue result ↔ All (rules.IsStateNow ledger.now.domain ledger.now.journal) readings.now }
+pub(crate) fn are_states(books: &Books, readings: &[Reading]) -> bool
+    requires { All (IsReadingOf (length books.now.domain.objects)) readings.now }
+    ensures { IsTrue result ↔ All (rules.IsStateNow books.now.domain books.now.journal) readings.now }
 {
     for reading in readings {
-        if reading.state.get() != ledger.state(reading.object).get() {
+        if reading.state.get() != books.state(reading.object).get() {
             return false;
         }
     }
@@ -100,17 +100,17 @@ impl Judge {
     ) -> Result<Judge, AllocError>
         ensures kept { IfOk result IsKept }
         ensures format { IfOk result (λ j. j.format ≡ format) }
-        ensures journal { IfOk result (λ j. j.ledger.journal ≡ []) }
-        ensures domain { IfOk result (λ j. j.ledger.domain ≡ arc_value domain) }
+        ensures journal { IfOk result (λ j. j.books.journal ≡ []) }
+        ensures domain { IfOk result (λ j. j.books.domain ≡ arc_value domain) }
     {
         let tracks = first_tracks(alloc, &domain)?;
-        let ledger = Ledger::new(alloc, Arc::try_clone(&domain)?)?;
+        let books = Books::new(alloc, Arc::try_clone(&domain)?)?;
         laws_of_members();
-        let declared = ledger.sets().share()?;
+        let declared = books.sets().share()?;
         Ok(Judge {
             format,
             domain,
-            ledger,
+            books,
             tracks,
             declared,
             alloc,
@@ -119,16 +119,16 @@ impl Judge {
 
     // Whether an object is killed.
     pub(crate) fn is_killed(&self, o: ObjId) -> bool
-        requires { o < length self.now.ledger.domain.objects }
-        ensures { result ≡ says.is_killed o self.now.ledger.journal }
+        requires { o < length self.now.books.domain.objects }
+        ensures { result ≡ says.is_killed o self.now.books.journal }
     {
-        self.ledger.killed(o).is_some()
+        self.books.killed(o).is_some()
     }
 
     // Whether a post is told that its target is killed exactly where it is.
     pub(crate) fn tells_the_dead(&self, target: ObjId, verdict: &Verdict) -> bool
-        requires { target < length self.now.ledger.domain.objects }
-        ensures { IsTrue result ↔ rules.TellsTheDead (says.is_killed target self.now.ledger.journal) verdict.now }
+        requires { target < length self.now.books.domain.objects }
+        ensures { IsTrue result ↔ rules.TellsTheDead (says.is_killed target self.now.books.journal) verdict.now }
     {
         match verdict {
             Verdict::Accepted(_) | Verdict::Full => !self.is_killed(target),
@@ -138,13 +138,13 @@ impl Judge {
 
     // Whether a post of an object has the next number, if it was accepted.
     pub(crate) fn has_number(&self, o: ObjId, target: ObjId, verdict: &Verdict) -> bool
-        requires within { o < length self.now.ledger.domain.objects }
-        requires target { target < length self.now.ledger.domain.objects }
+        requires within { o < length self.now.books.domain.objects }
+        requires target { target < length self.now.books.domain.objects }
         ensures { IsTrue result
-            ↔ rules.HasNumber (length (says.posts_between o target self.now.ledger.journal)) verdict.now }
+            ↔ rules.HasNumber (length (says.posts_between o target self.now.books.journal)) verdict.now }
     {
         match verdict {
-            Verdict::Accepted(number) => *number == self.ledger.posted(o, target) as u64,
+            Verdict::Accepted(number) => *number == self.books.posted(o, target) as u64,
             Verdict::Full | Verdict::Dead => true,
         }
     }
@@ -159,9 +159,9 @@ impl Judge {
         args: &Args,
     ) -> bool
         requires kept { IsKept self.now }
-        requires sender { a < length self.now.ledger.domain.objects }
-        requires within { o < length self.now.ledger.domain.objects }
-        ensures { IsTrue result ↔ (slice_get (says.posts_between a o self.now.ledger.journal) number
+        requires sender { a < length self.now.books.domain.objects }
+        requires within { o < length self.now.books.domain.objects }
+        ensures { IsTrue result ↔ (slice_get (says.posts_between a o self.now.books.journal) number
             ≡ Some (record { sender = Object a; action = action; args = args.now })) }
     {
         match self.tracks[a.get()].call(o, number) {

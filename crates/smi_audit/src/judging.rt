@@ -13,9 +13,7 @@ ghost use Rattle.smi_audit.specs.Judges.{FirstBroken, IsKept, Judges, JudgesOwn}
 ghost use Rattle.smi_audit.specs.Splitting.{is_two};
 ghost use Rattle.smi_audit.specs.Tracks.{IsReadingOf};
 
-use crate::books::{
-    add_insert, add_kill, add_none, add_post, add_remove, add_seen, add_start, add_wait, letter,
-};
+use crate::calls::letter;
 use crate::judge::{Judge, all_clear, are_states, read_clear};
 use crate::tracks::{cut_in, end_in, none_in, post_in, reads_in, see_in, start_in, turn_in};
 use smi_entry::args::{Args, Readings};
@@ -40,18 +38,18 @@ impl Judge {
         args: &Args,
     ) -> Option<Rule>
         requires kept { IsKept self.now }
-        requires within { o < length self.now.ledger.domain.objects }
-        requires known { IsKnown (length self.now.ledger.domain.objects) sender.now }
-        ensures { FirstBroken self.now.format self.now.ledger.domain self.now.ledger.journal
+        requires within { o < length self.now.books.domain.objects }
+        requires known { IsKnown (length self.now.books.domain.objects) sender.now }
+        ensures { FirstBroken self.now.format self.now.books.domain self.now.books.journal
             (entry.Start o sender.now number action args.now) result }
     {
         if self.is_killed(o) {
             return Some(Rule::Killed);
         }
-        if self.ledger.is_open(o) {
+        if self.books.is_open(o) {
             return Some(Rule::Open);
         }
-        if number != self.ledger.started(sender, o) as u64 {
+        if number != self.books.started(sender, o) as u64 {
             return Some(Rule::Number);
         }
         match sender {
@@ -61,7 +59,7 @@ impl Judge {
                 }
             }
             Sender::Operator(_) => {
-                if !are_arguments(args.values(), self.ledger.domain(), o, action) {
+                if !are_arguments(args.values(), self.books.domain(), o, action) {
                     return Some(Rule::BadRequest);
                 }
             }
@@ -71,6 +69,7 @@ impl Judge {
 
     fn start(
         &mut self,
+        e: &Entry,
         o: ObjId,
         sender: &Sender,
         number: u64,
@@ -78,8 +77,9 @@ impl Judge {
         args: &Args,
     ) -> Result<Option<Rule>, AllocError>
         requires kept { IsKept self.old }
-        requires within { o < length self.old.ledger.domain.objects }
-        requires known { IsKnown (length self.old.ledger.domain.objects) sender.now }
+        requires within { o < length self.old.books.domain.objects }
+        requires known { IsKnown (length self.old.books.domain.objects) sender.now }
+        requires is { e.now ≡ entry.Start o sender.now number action args.now }
         ensures { IfOk result (JudgesOwn self.old self.new (entry.Start o sender.now number action args.now)) }
     {
         match self.broken_by_start(o, sender, number, action, args) {
@@ -87,7 +87,7 @@ impl Judge {
             None => {}
         }
         let followed = letter(sender, number, action, args)?;
-        let state = self.ledger.state(o);
+        let state = self.books.state(o);
         start_in(
             &mut self.tracks,
             self.alloc,
@@ -98,12 +98,13 @@ impl Judge {
             state,
             followed,
         )?;
-        add_start(&mut self.ledger, o, sender, number, action, args)?;
+        self.books.add(self.alloc, e)?;
         Ok(None)
     }
 
     fn post(
         &mut self,
+        e: &Entry,
         o: ObjId,
         target: ObjId,
         verdict: &Verdict,
@@ -111,15 +112,16 @@ impl Judge {
         args: &Args,
     ) -> Result<Option<Rule>, AllocError>
         requires kept { IsKept self.old }
-        requires within { o < length self.old.ledger.domain.objects }
-        requires target { target < length self.old.ledger.domain.objects }
+        requires within { o < length self.old.books.domain.objects }
+        requires target { target < length self.old.books.domain.objects }
+        requires is { e.now ≡ entry.Post o target verdict.now action args.now }
         ensures { IfOk result (JudgesOwn self.old self.new (entry.Post o target verdict.now action args.now)) }
     {
-        if !self.ledger.is_open(o) {
+        if !self.books.is_open(o) {
             return Ok(Some(Rule::NotOpen));
         }
         laws_of_following();
-        let sets = self.ledger.sets();
+        let sets = self.books.sets();
         let goes = post_in(
             &mut self.tracks,
             self.alloc,
@@ -139,141 +141,167 @@ impl Judge {
         if !self.has_number(o, target, verdict) {
             return Ok(Some(Rule::Number));
         }
-        add_post(&mut self.ledger, o, target, verdict, action, args)?;
+        self.books.add(self.alloc, e)?;
         Ok(None)
     }
 
-    fn wait(&mut self, o: ObjId) -> Result<Option<Rule>, AllocError>
+    fn wait(&mut self, e: &Entry, o: ObjId) -> Result<Option<Rule>, AllocError>
         requires kept { IsKept self.old }
-        requires within { o < length self.old.ledger.domain.objects }
+        requires within { o < length self.old.books.domain.objects }
+        requires is { e.now ≡ entry.Wait o }
         ensures { IfOk result (JudgesOwn self.old self.new (entry.Wait o)) }
     {
-        if !self.ledger.is_open(o) {
+        if !self.books.is_open(o) {
             return Ok(Some(Rule::NotOpen));
         }
         laws_of_following();
-        let _sound = self.ledger.domain().objects();
+        let _sound = self.books.domain().objects();
         let Some(names) = reads_in(&self.tracks, o) else {
             return Ok(Some(Rule::Meaning));
         };
-        let sets = self.ledger.sets();
-        let objects = objects_for(self.alloc, self.ledger.domain(), sets, names)?;
-        if all_clear(&self.ledger, o, &objects) {
+        let sets = self.books.sets();
+        let objects = objects_for(self.alloc, self.books.domain(), sets, names)?;
+        if all_clear(&self.books, o, &objects) {
             return Ok(Some(Rule::Clear));
         }
-        add_wait(&mut self.ledger, o)?;
+        self.books.add(self.alloc, e)?;
         Ok(None)
     }
 
-    fn seen(&mut self, o: ObjId, readings: &Readings) -> Result<Option<Rule>, AllocError>
+    fn seen(
+        &mut self,
+        e: &Entry,
+        o: ObjId,
+        readings: &Readings,
+    ) -> Result<Option<Rule>, AllocError>
         requires kept { IsKept self.old }
-        requires within { o < length self.old.ledger.domain.objects }
-        requires there { All (IsReadingOf (length self.old.ledger.domain.objects)) readings.now }
+        requires within { o < length self.old.books.domain.objects }
+        requires there { All (IsReadingOf (length self.old.books.domain.objects)) readings.now }
+        requires is { e.now ≡ entry.Seen o readings.now }
         ensures { IfOk result (JudgesOwn self.old self.new (entry.Seen o readings.now)) }
     {
-        if !self.ledger.is_open(o) {
+        if !self.books.is_open(o) {
             return Ok(Some(Rule::NotOpen));
         }
         laws_of_following();
         let list = readings.list();
-        let sets = self.ledger.sets();
+        let sets = self.books.sets();
         let goes = see_in(&mut self.tracks, self.alloc, sets, o, list)?;
         if !goes {
             return Ok(Some(Rule::Meaning));
         }
-        if !read_clear(&self.ledger, o, list) {
+        if !read_clear(&self.books, o, list) {
             return Ok(Some(Rule::Busy));
         }
-        if !are_states(&self.ledger, list) {
+        if !are_states(&self.books, list) {
             return Ok(Some(Rule::Reading));
         }
-        add_seen(&mut self.ledger, o, readings)?;
+        self.books.add(self.alloc, e)?;
         Ok(None)
     }
 
     // Whether the state of an object declares the action that is open there.
     fn runs(&self, o: ObjId) -> bool
-        requires { o < length self.now.ledger.domain.objects }
-        ensures { result ≡ is_some (running_at self.now.format self.now.ledger.domain o self.now.ledger.journal) }
+        requires { o < length self.now.books.domain.objects }
+        ensures { result ≡ is_some (running_at self.now.format self.now.books.domain o self.now.books.journal) }
     {
-        match self.ledger.opened(o) {
+        match self.books.opened(o) {
             Some(letter) => {
-                let state = self.ledger.state(o);
-                self.ledger.domain().declares(o, state, letter.action)
+                let state = self.books.state(o);
+                self.books.domain().declares(o, state, letter.action)
             }
             None => false,
         }
     }
 
     // Where an action is open: it is skipped.
-    fn skip(&mut self, o: ObjId) -> Option<Rule>
+    fn skip(&mut self, e: &Entry, o: ObjId) -> Result<Option<Rule>, AllocError>
         requires kept { IsKept self.old }
-        requires within { o < length self.old.ledger.domain.objects }
-        requires open { says.is_open o self.old.ledger.journal ≡ true }
-        ensures { JudgesOwn self.old self.new (entry.End o ends.Skipped) result }
+        requires within { o < length self.old.books.domain.objects }
+        requires open { says.is_open o self.old.books.journal ≡ true }
+        requires is { e.now ≡ entry.End o ends.Skipped }
+        ensures { IfOk result (JudgesOwn self.old self.new (entry.End o ends.Skipped)) }
     {
         if self.runs(o) {
-            return Some(Rule::Meaning);
+            return Ok(Some(Rule::Meaning));
         }
         cut_in(&mut self.tracks, o);
-        self.ledger.add_end(o, ActionEnd::Skipped);
-        None
+        self.books.add(self.alloc, e)?;
+        Ok(None)
     }
 
     // Where an action of a device is open: it ends in a state.
-    fn end_device(&mut self, o: ObjId, state: StateId) -> Option<Rule>
+    fn end_device(
+        &mut self,
+        e: &Entry,
+        o: ObjId,
+        state: StateId,
+    ) -> Result<Option<Rule>, AllocError>
         requires kept { IsKept self.old }
-        requires within { o < length self.old.ledger.domain.objects }
-        requires open { says.is_open o self.old.ledger.journal ≡ true }
-        requires device { lookups.associated_at self.old.ledger.domain o ≡ true }
-        ensures { JudgesOwn self.old self.new (entry.End o (ends.State state)) result }
+        requires within { o < length self.old.books.domain.objects }
+        requires open { says.is_open o self.old.books.journal ≡ true }
+        requires device { lookups.associated_at self.old.books.domain o ≡ true }
+        requires is { e.now ≡ entry.End o (ends.State state) }
+        ensures { IfOk result (JudgesOwn self.old self.new (entry.End o (ends.State state))) }
     {
         if !self.runs(o) {
-            return Some(Rule::Meaning);
+            return Ok(Some(Rule::Meaning));
         }
-        if !self.ledger.domain().is_state(o, state) {
-            return Some(Rule::NotAState);
+        if !self.books.domain().is_state(o, state) {
+            return Ok(Some(Rule::NotAState));
         }
         cut_in(&mut self.tracks, o);
-        self.ledger.add_end(o, ActionEnd::State(state));
-        None
+        self.books.add(self.alloc, e)?;
+        Ok(None)
     }
 
     // Where an action is open that no device does: it ends in a state.
-    fn end_block(&mut self, o: ObjId, state: StateId) -> Option<Rule>
+    fn end_block(
+        &mut self,
+        e: &Entry,
+        o: ObjId,
+        state: StateId,
+    ) -> Result<Option<Rule>, AllocError>
         requires kept { IsKept self.old }
-        requires within { o < length self.old.ledger.domain.objects }
-        requires open { says.is_open o self.old.ledger.journal ≡ true }
-        requires logical { lookups.associated_at self.old.ledger.domain o ≡ false }
-        ensures { JudgesOwn self.old self.new (entry.End o (ends.State state)) result }
+        requires within { o < length self.old.books.domain.objects }
+        requires open { says.is_open o self.old.books.journal ≡ true }
+        requires logical { lookups.associated_at self.old.books.domain o ≡ false }
+        requires is { e.now ≡ entry.End o (ends.State state) }
+        ensures { IfOk result (JudgesOwn self.old self.new (entry.End o (ends.State state))) }
     {
         laws_of_following();
         laws_of_params();
         let Some(end) = end_in(&mut self.tracks, o) else {
-            return Some(Rule::Meaning);
+            return Ok(Some(Rule::Meaning));
         };
         if end.get() != state.get() {
-            return Some(Rule::Meaning);
+            return Ok(Some(Rule::Meaning));
         }
-        self.ledger.add_end(o, ActionEnd::State(state));
-        None
+        self.books.add(self.alloc, e)?;
+        Ok(None)
     }
 
-    fn end(&mut self, o: ObjId, how: &ActionEnd) -> Option<Rule>
+    fn end(
+        &mut self,
+        e: &Entry,
+        o: ObjId,
+        how: &ActionEnd,
+    ) -> Result<Option<Rule>, AllocError>
         requires kept { IsKept self.old }
-        requires within { o < length self.old.ledger.domain.objects }
-        ensures { JudgesOwn self.old self.new (entry.End o how.now) result }
+        requires within { o < length self.old.books.domain.objects }
+        requires is { e.now ≡ entry.End o how.now }
+        ensures { IfOk result (JudgesOwn self.old self.new (entry.End o how.now)) }
     {
-        if !self.ledger.is_open(o) {
-            return Some(Rule::NotOpen);
+        if !self.books.is_open(o) {
+            return Ok(Some(Rule::NotOpen));
         }
         match how {
-            ActionEnd::Skipped => self.skip(o),
+            ActionEnd::Skipped => self.skip(e, o),
             ActionEnd::State(state) => {
-                if self.ledger.domain().associated(o) {
-                    self.end_device(o, *state)
+                if self.books.domain().associated(o) {
+                    self.end_device(e, o, *state)
                 } else {
-                    self.end_block(o, *state)
+                    self.end_block(e, o, *state)
                 }
             }
         }
@@ -281,18 +309,24 @@ impl Judge {
 
     // Whether a cause may kill an object.
     fn may_kill(&self, o: ObjId, cause: &Cause) -> bool
-        requires { o < length self.now.ledger.domain.objects }
-        ensures { IsTrue result ↔ MayKill self.now.ledger.domain self.now.ledger.journal o cause.now }
+        requires { o < length self.now.books.domain.objects }
+        ensures { IsTrue result ↔ MayKill self.now.books.domain self.now.books.journal o cause.now }
     {
         match cause {
             Cause::By(_) => true,
-            Cause::Fault => self.ledger.domain().associated(o) && self.ledger.is_open(o),
+            Cause::Fault => self.books.domain().associated(o) && self.books.is_open(o),
         }
     }
 
-    fn kill(&mut self, o: ObjId, cause: &Cause) -> Result<Option<Rule>, AllocError>
+    fn kill(
+        &mut self,
+        e: &Entry,
+        o: ObjId,
+        cause: &Cause,
+    ) -> Result<Option<Rule>, AllocError>
         requires kept { IsKept self.old }
-        requires within { o < length self.old.ledger.domain.objects }
+        requires within { o < length self.old.books.domain.objects }
+        requires is { e.now ≡ entry.Kill o cause.now }
         ensures { IfOk result (JudgesOwn self.old self.new (entry.Kill o cause.now)) }
     {
         if self.is_killed(o) {
@@ -302,7 +336,7 @@ impl Judge {
             return Ok(Some(Rule::NotOpen));
         }
         cut_in(&mut self.tracks, o);
-        add_kill(&mut self.ledger, o, cause)?;
+        self.books.add(self.alloc, e)?;
         Ok(None)
     }
 
@@ -316,13 +350,20 @@ impl Judge {
         }
     }
 
-    fn insert(&mut self, o: ObjId, member: ObjId, set: SetId) -> Result<Option<Rule>, AllocError>
+    fn insert(
+        &mut self,
+        e: &Entry,
+        o: ObjId,
+        member: ObjId,
+        set: SetId,
+    ) -> Result<Option<Rule>, AllocError>
         requires kept { IsKept self.old }
-        requires within { o < length self.old.ledger.domain.objects }
-        requires member { member < length self.old.ledger.domain.objects }
+        requires within { o < length self.old.books.domain.objects }
+        requires member { member < length self.old.books.domain.objects }
+        requires is { e.now ≡ entry.Insert o member set }
         ensures { IfOk result (JudgesOwn self.old self.new (entry.Insert o member set)) }
     {
-        if !self.ledger.is_open(o) {
+        if !self.books.is_open(o) {
             return Ok(Some(Rule::NotOpen));
         }
         if !self.tells_of_sets() {
@@ -333,17 +374,24 @@ impl Judge {
         if !goes {
             return Ok(Some(Rule::Meaning));
         }
-        add_insert(&mut self.ledger, self.alloc, o, member, set)?;
+        self.books.add(self.alloc, e)?;
         Ok(None)
     }
 
-    fn remove(&mut self, o: ObjId, member: ObjId, set: SetId) -> Result<Option<Rule>, AllocError>
+    fn remove(
+        &mut self,
+        e: &Entry,
+        o: ObjId,
+        member: ObjId,
+        set: SetId,
+    ) -> Result<Option<Rule>, AllocError>
         requires kept { IsKept self.old }
-        requires within { o < length self.old.ledger.domain.objects }
-        requires member { member < length self.old.ledger.domain.objects }
+        requires within { o < length self.old.books.domain.objects }
+        requires member { member < length self.old.books.domain.objects }
+        requires is { e.now ≡ entry.Remove o member set }
         ensures { IfOk result (JudgesOwn self.old self.new (entry.Remove o member set)) }
     {
-        if !self.ledger.is_open(o) {
+        if !self.books.is_open(o) {
             return Ok(Some(Rule::NotOpen));
         }
         if !self.tells_of_sets() {
@@ -354,35 +402,41 @@ impl Judge {
         if !goes {
             return Ok(Some(Rule::Meaning));
         }
-        add_remove(&mut self.ledger, self.alloc, o, member, set)?;
+        self.books.add(self.alloc, e)?;
         Ok(None)
     }
 
-    fn no_member(&mut self, o: ObjId, set: SetId) -> Result<Option<Rule>, AllocError>
+    fn no_member(
+        &mut self,
+        e: &Entry,
+        o: ObjId,
+        set: SetId,
+    ) -> Result<Option<Rule>, AllocError>
         requires kept { IsKept self.old }
-        requires within { o < length self.old.ledger.domain.objects }
+        requires within { o < length self.old.books.domain.objects }
+        requires is { e.now ≡ entry.NoMember o set }
         ensures { IfOk result (JudgesOwn self.old self.new (entry.NoMember o set)) }
     {
-        if !self.ledger.is_open(o) {
+        if !self.books.is_open(o) {
             return Ok(Some(Rule::NotOpen));
         }
         if !self.tells_of_sets() {
             return Ok(Some(Rule::Meaning));
         }
         laws_of_following();
-        let sets = self.ledger.sets();
+        let sets = self.books.sets();
         let goes = none_in(&mut self.tracks, self.alloc, sets, o, set)?;
         if !goes {
             return Ok(Some(Rule::Meaning));
         }
-        add_none(&mut self.ledger, o, set)?;
+        self.books.add(self.alloc, e)?;
         Ok(None)
     }
 
     // Judges an entry that has a text by the rules of its kind, and adds it where it breaks none of them.
     fn take_own(&mut self, e: &Entry) -> Result<Option<Rule>, AllocError>
         requires kept { IsKept self.old }
-        requires text { has_text self.old.ledger.domain e.now ≡ true }
+        requires text { has_text self.old.books.domain e.now ≡ true }
         ensures { IfOk result (JudgesOwn self.old self.new e.now) }
     {
         match e {
@@ -392,40 +446,40 @@ impl Judge {
                 number,
                 action,
                 args,
-            } => self.start(*object, sender, *number, *action, args),
+            } => self.start(e, *object, sender, *number, *action, args),
             Entry::Post {
                 sender,
                 target,
                 verdict,
                 action,
                 args,
-            } => self.post(*sender, *target, verdict, *action, args),
-            Entry::Wait { object } => self.wait(*object),
-            Entry::Seen { object, readings } => self.seen(*object, readings),
+            } => self.post(e, *sender, *target, verdict, *action, args),
+            Entry::Wait { object } => self.wait(e, *object),
+            Entry::Seen { object, readings } => self.seen(e, *object, readings),
             Entry::End {
                 object,
                 result: how,
-            } => Ok(self.end(*object, how)),
-            Entry::Kill { object, cause } => self.kill(*object, cause),
+            } => self.end(e, *object, how),
+            Entry::Kill { object, cause } => self.kill(e, *object, cause),
             Entry::Insert {
                 object,
                 member,
                 set,
-            } => self.insert(*object, *member, *set),
+            } => self.insert(e, *object, *member, *set),
             Entry::Remove {
                 object,
                 member,
                 set,
-            } => self.remove(*object, *member, *set),
-            Entry::NoMember { object, set } => self.no_member(*object, *set),
+            } => self.remove(e, *object, *member, *set),
+            Entry::NoMember { object, set } => self.no_member(e, *object, *set),
         }
     }
 
     // Judges an entry that has a text, and adds it where it breaks no rule.
     pub(crate) fn take(&mut self, e: &Entry) -> Result<Option<Rule>, AllocError>
         requires kept { IsKept self.old }
-        requires legal { IsLegal self.old.format self.old.ledger.domain self.old.ledger.journal }
-        requires text { has_text self.old.ledger.domain e.now ≡ true }
+        requires legal { IsLegal self.old.format self.old.books.domain self.old.books.journal }
+        requires text { has_text self.old.books.domain e.now ≡ true }
         ensures { IfOk result (Judges self.old self.new e.now) }
     {
         if self.splits(e) {

@@ -2,7 +2,6 @@
 #![tactic(auto)]
 
 pub mod audit;
-mod books;
 mod calls;
 mod judge;
 pub mod judgement;

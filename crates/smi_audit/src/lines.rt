@@ -24,8 +24,8 @@ fn take_line<'a>(
 ) -> Option<&'a [u8]>
     requires names { HasNames domain.now }
     requires kept { IsKept judge.old }
-    requires legal { IsLegal judge.old.format judge.old.ledger.domain judge.old.ledger.journal }
-    requires of { judge.old.ledger.domain ≡ domain.now }
+    requires legal { IsLegal judge.old.format judge.old.books.domain judge.old.books.journal }
+    requires of { judge.old.books.domain ≡ domain.now }
     ensures follows { IfSome result (λ more. Follows format domain.now judge.old judge.new rest.now more.now) }
     ensures less { IfSome result (λ more. length more.now < length rest.now) }
 {
@@ -49,8 +49,8 @@ fn take_lines(
     requires names { HasNames domain.now }
     requires kept { IsKept judge.old }
     requires format { judge.old.format ≡ format }
-    requires of { judge.old.ledger.domain ≡ domain.now }
-    requires first { judge.old.ledger.journal ≡ [] }
+    requires of { judge.old.books.domain ≡ domain.now }
+    requires first { judge.old.books.journal ≡ [] }
     ensures { IsTrue result → AreLegal format domain.now bytes.now }
 {
     let mut rest = bytes;

@@ -10,7 +10,7 @@ use crate::judge::Judge;
 use smi_entry::entry::Entry;
 use smi_entry::journal::Format;
 use smi_follower::follower::Expected;
-use smi_ledger::ledger::Ledger;
+use smi_ledger::books::Books;
 use smi_rules::rule::Rule;
 use sml_domain::domain::Domain;
 use sml_domain::ids::ObjId;
@@ -30,11 +30,13 @@ pub enum PastError {
 /// The entries of a legal journal with their books, and what each open action shows next. So it can be told
 /// what could have stood in the place of a line that may not stand there.
 #[derive(Drop)]
-pub struct Past {
+pub struct Past<'a> {
     judge: Judge,
+    entries: &'a [Entry],
 }
 
-impl Model for Past {
+impl<'a> Model for Past<'a> {
+    ghost use Rattle.std.specs.Prelude.{◌≡◌};
     ghost use Rattle.std.specs.Coded.{codes};
     ghost use Rattle.sml_domain.specs.Codes.{formula_code};
     ghost use Rattle.smi_audit.specs.Judges.{IsKept};
@@ -44,12 +46,12 @@ impl Model for Past {
 
     ghost coded = { Prim.hlevel (codes, formula_code) };
 
-    ghost view = { λ p. record { format = p.judge.format; ledger = p.judge.ledger } };
+    ghost view = { λ p. record { format = p.judge.format; books = p.judge.books } };
 
-    ghost invariant = { λ p. IsKept p.judge };
+    ghost invariant = { λ p. IsKept p.judge × (p.entries.now ≡ p.judge.books.journal) };
 }
 
-impl Past {
+impl<'a> Past<'a> {
     /// Enters entries, one after another, as a journal of a format has them. The time grows with their count and
     /// with what their actions do, and the memory with their count. The square of the count of objects is spent
     /// once.
@@ -57,14 +59,14 @@ impl Past {
         alloc: Global,
         format: Format,
         domain: Arc<Domain>,
-        entries: &[Entry],
-    ) -> Result<Past, PastError>
+        entries: &'a [Entry],
+    ) -> Result<Past<'a>, PastError>
         requires texts { All (HasText (arc_value domain)) entries.now }
         requires few { length entries.now + 2 < 2 ^ 64 }
         ensures legal { IfOk result (λ p. IsLegal format (arc_value domain) entries.now) }
         ensures format { IfOk result (λ p. p.format ≡ format) }
-        ensures journal { IfOk result (λ p. p.ledger.journal ≡ entries.now) }
-        ensures domain { IfOk result (λ p. p.ledger.domain ≡ arc_value domain) }
+        ensures journal { IfOk result (λ p. p.books.journal ≡ entries.now) }
+        ensures domain { IfOk result (λ p. p.books.domain ≡ arc_value domain) }
         ensures none { IfErr result (IsNone format (arc_value domain) entries.now) }
     {
         let Ok(mut judge) = Judge::new(alloc, format, domain) else {
@@ -84,22 +86,29 @@ impl Past {
                 None => {}
             }
         }
-        Ok(Past { judge })
+        Ok(Past { judge, entries })
     }
 
-    /// The entries with their books. The cost is constant.
-    pub fn ledger(&self) -> &Ledger
-        ensures { result.now ≡ self.now.ledger }
+    /// The entries. The cost is constant.
+    pub fn entries(&self) -> &[Entry]
+        ensures { result.now ≡ self.now.books.journal }
     {
-        &self.judge.ledger
+        self.entries
+    }
+
+    /// The books of the entries. The cost is constant.
+    pub fn books(&self) -> &Books
+        ensures { result.now ≡ self.now.books }
+    {
+        &self.judge.books
     }
 
     /// What the action that runs at an object shows next, or None where none runs there. The cost is constant.
     pub fn next(&self, o: ObjId) -> Option<Expected<'_>>
-        requires { o < length self.now.ledger.domain.objects }
-        ensures some { IfSome result (Shows self.now.format self.now.ledger.domain self.now.ledger.journal o) }
+        requires { o < length self.now.books.domain.objects }
+        ensures some { IfSome result (Shows self.now.format self.now.books.domain self.now.books.journal o) }
         ensures none { IfNone result
-            (running_at self.now.format self.now.ledger.domain o self.now.ledger.journal ≡ None) }
+            (running_at self.now.format self.now.books.domain o self.now.books.journal ≡ None) }
     {
         self.judge.tracks[o.get()].next()
     }

@@ -1,11 +1,9 @@
 //! Sends that are begun, which no entry may split in the second format.
 ghost use Rattle.std.specs.Prelude.{◌≡◌, ◌↔◌, ℕ, IfNone, IfSome, IsTrue, MatchBool};
-ghost use Rattle.smi_entry.specs.Words as says;
 ghost use Rattle.smi_entry.specs.declared.journal.Format.TheVariants.{Two};
 ghost use Rattle.smi_meaning.specs.Items as items;
 ghost use Rattle.smi_meaning.specs.Legal.{IsLegal, IsPostOf, IsWithin, KeepsWhole};
 ghost use Rattle.smi_audit.specs.Judges.{IsKept};
-ghost use Rattle.smi_audit.specs.Splitting.{IsLast};
 
 use crate::judge::Judge;
 use crate::tracks::next_post_in;
@@ -14,33 +12,6 @@ use smi_entry::journal::Format;
 use smi_interp::contact::Post;
 use sml_domain::ids::ObjId;
 use sml_domain::value::same_values;
-
-// The object that an entry is of.
-fn object_of(e: &Entry) -> ObjId
-    ensures { result ≡ says.object_of e.now }
-{
-    match e {
-        Entry::Start { object, .. }
-        | Entry::Wait { object }
-        | Entry::Seen { object, .. }
-        | Entry::End { object, .. }
-        | Entry::Kill { object, .. }
-        | Entry::Insert { object, .. }
-        | Entry::Remove { object, .. }
-        | Entry::NoMember { object, .. } => *object,
-        Entry::Post { sender, .. } => *sender,
-    }
-}
-
-// The object that the last entry is of.
-fn last_object(entries: &[Entry]) -> Option<ObjId>
-    ensures { IsLast entries.now result }
-{
-    match entries {
-        [] => None,
-        [.., last] => Some(object_of(last)),
-    }
-}
 
 // The next post of a send that is begun, and whose it is.
 #[derive(Clone, Copy)]
@@ -79,13 +50,13 @@ impl Judge {
     fn begun(&self) -> Option<Begun<'_>>
         requires kept { IsKept self.now }
         requires two { self.now.format ≡ Two }
-        requires legal { IsLegal Two self.now.ledger.domain self.now.ledger.journal }
+        requires legal { IsLegal Two self.now.books.domain self.now.books.journal }
         ensures some { IfSome result
-            (λ b. IsWithin self.now.ledger.domain self.now.ledger.journal b.object b.post.now) }
+            (λ b. IsWithin self.now.books.domain self.now.books.journal b.object b.post.now) }
         ensures none { IfNone result ((o : ℕ) (p : items.Post)
-            → ¬ IsWithin self.now.ledger.domain self.now.ledger.journal o p) }
+            → ¬ IsWithin self.now.books.domain self.now.books.journal o p) }
     {
-        let Some(object) = last_object(self.ledger.journal()) else {
+        let Some(object) = self.books.last() else {
             return None;
         };
         match next_post_in(&self.tracks, object) {
@@ -98,10 +69,10 @@ impl Judge {
     // rule.
     pub(crate) fn splits(&self, e: &Entry) -> bool
         requires kept { IsKept self.now }
-        requires legal { IsLegal self.now.format self.now.ledger.domain self.now.ledger.journal }
+        requires legal { IsLegal self.now.format self.now.books.domain self.now.books.journal }
         ensures { MatchBool result
-            (¬ KeepsWhole self.now.format self.now.ledger.domain self.now.ledger.journal e.now)
-            (KeepsWhole self.now.format self.now.ledger.domain self.now.ledger.journal e.now) }
+            (¬ KeepsWhole self.now.format self.now.books.domain self.now.books.journal e.now)
+            (KeepsWhole self.now.format self.now.books.domain self.now.books.journal e.now) }
     {
         match self.format {
             Format::One => false,

@@ -1,5 +1,5 @@
 -- The members of sets, as entries change them.
-use Rattle.std.specs.Prelude.{ℕ, Bool, true, false, not, ◌==◌, nat_eq, if◌then◌else◌, List, [], ◌∷◌, ◌++◌, Option, None, Some, All, filter, fold, map, slice_get, slice_set}
+use Rattle.std.specs.Prelude.{◌≡◌, ℕ, Bool, true, false, not, ◌==◌, nat_eq, if◌then◌else◌, List, [], ◌∷◌, ◌++◌, Option, None, Some, All, filter, fold, map, slice_get, slice_set}
 use Rattle.std.specs.List.{list_any}
 use Rattle.std.specs.Option.{option_map_or}
 use Rattle.sml_domain.specs.Domain.{Domain, Group}
@@ -19,6 +19,16 @@ as_declared g = None
 -- so are those of each set
 abbrev pub unchanged : Domain → Sets
 unchanged d = map as_declared d.groups
+
+-- no set was changed
+abbrev pub NoneChanged : Sets → Type 0
+NoneChanged [] = Unit {0}
+NoneChanged (kept ∷ sets) = (kept ≡ None) × NoneChanged sets
+
+-- where it is noted that no set was changed, none was
+abbrev pub MayBeUnchanged : Bool → Sets → Type 0
+MayBeUnchanged true sets = NoneChanged sets
+MayBeUnchanged false sets = Unit {0}
 
 -- the members of a set that has these declared ones
 abbrev pub or_declared : List ℕ → Option (List ℕ) → List ℕ

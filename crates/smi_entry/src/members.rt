@@ -28,6 +28,8 @@ impl Model for Kept {
 #[derive(Drop)]
 pub struct Members {
     sets: Arc<Vec<Kept>, Global>,
+    // Whether no set was ever changed.
+    is_declared: bool,
 }
 
 impl Model for Members {
@@ -37,6 +39,8 @@ impl Model for Members {
     ghost Value = { says.Sets };
 
     ghost view = { λ m. (arc_value m.sets).items };
+
+    ghost invariant = { λ m. says.MayBeUnchanged m.is_declared (arc_value m.sets).items };
 }
 
 // A set whose members are the declared ones.
@@ -169,11 +173,16 @@ fn same_sets(sets: &[Kept], others: &[Kept]) -> bool
 
 impl Members {
     // The members of a list of sets, which are moved and not copied.
-    fn of_list(alloc: Global, sets: Vec<Kept>) -> Result<Members, AllocError>
+    fn of_list(
+        alloc: Global,
+        sets: Vec<Kept>,
+        is_declared: bool,
+    ) -> Result<Members, AllocError>
+        requires { says.MayBeUnchanged is_declared sets.items }
         ensures { IfOk result (λ m. m ≡ sets.items) }
     {
         match Arc::new(alloc, sets) {
-            Ok(sets) => Ok(Members { sets }),
+            Ok(sets) => Ok(Members { sets, is_declared }),
             Err(_) => Err(AllocError),
         }
     }
@@ -187,7 +196,7 @@ impl Members {
         for group in groups {
             sets.push(as_declared(group))?;
         }
-        Members::of_list(alloc, sets)
+        Members::of_list(alloc, sets, true)
     }
 
     /// The members of a set in order, each once. The cost is constant.
@@ -215,7 +224,7 @@ impl Members {
         let list = changed_to(alloc, add, object, self.of(domain, set))?;
         let mut sets = copies_of(alloc, &self.sets)?;
         put_members(&mut sets, set, list);
-        Members::of_list(alloc, sets)
+        Members::of_list(alloc, sets, false)
     }
 
     /// The same members, shared. Only the count of their owners changes.
@@ -224,14 +233,20 @@ impl Members {
     {
         Ok(Members {
             sets: Arc::try_clone(&self.sets)?,
+            is_declared: self.is_declared,
         })
     }
 
-    /// Whether these are the same sets, each changed to the same members or unchanged in both. The cost is the count of
-    /// the sets and of the members of those that were changed.
+    /// Whether these are the same sets, each changed to the same members or unchanged in both. The cost is constant
+    /// where no set was ever changed, and else the count of the sets and of the members of those that were changed.
     pub fn is(&self, other: &Members) -> bool
         ensures { IsTrue result ↔ (self.now ≡ other.now) }
     {
-        same_sets(&self.sets, &other.sets)
+        let sets = self.sets.as_slice();
+        let others = other.sets.as_slice();
+        if self.is_declared && other.is_declared {
+            return sets.len() == others.len();
+        }
+        same_sets(sets, others)
     }
 }

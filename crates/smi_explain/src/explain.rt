@@ -36,20 +36,20 @@ fn tell_numbered<W: Sink>(
 
 // What an object sent to another and has not ended: what is open there, or else the first post not started.
 fn busy_since(past: &Past, o: ObjId, busy: ObjId) -> Option<usize> {
-    let ledger = past.ledger();
-    if !ledger.domain().has(o) || !ledger.domain().has(busy) {
+    let books = past.books();
+    if !books.domain().has(o) || !books.domain().has(busy) {
         return None;
     }
-    if ledger.is_open(busy) {
-        return last(ledger.journal(), Earlier::Start(busy));
+    if books.is_open(busy) {
+        return last(past.entries(), Earlier::Start(busy));
     }
-    let started = ledger.started(&Sender::Object(o), busy);
-    post_of(ledger.journal(), o, busy, started as u64)
+    let started = books.started(&Sender::Object(o), busy);
+    post_of(past.entries(), o, busy, started as u64)
 }
 
 // The earlier entry that a number follows.
 fn counted_from(past: &Past, entry: &Entry) -> Option<usize> {
-    let entries = past.ledger().journal();
+    let entries = past.entries();
     match entry {
         Entry::Start { object, sender, .. } => last(entries, Earlier::StartOf(*sender, *object)),
         Entry::Post { sender, target, .. } => last(entries, Earlier::Post(*sender, *target)),
@@ -65,7 +65,7 @@ fn sent_as(past: &Past, entry: &Entry) -> Option<usize> {
             sender: Sender::Object(a),
             number,
             ..
-        } => post_of(past.ledger().journal(), *a, *object, *number),
+        } => post_of(past.entries(), *a, *object, *number),
         _ => None,
     }
 }
@@ -77,7 +77,7 @@ fn target_killed(past: &Past, entry: &Entry) -> Option<usize> {
             target,
             verdict: Verdict::Accepted(_) | Verdict::Full,
             ..
-        } => last(past.ledger().journal(), Earlier::Kill(*target)),
+        } => last(past.entries(), Earlier::Kill(*target)),
         _ => None,
     }
 }
@@ -92,17 +92,17 @@ fn read_against(past: &Past, entry: &Entry, is_busy: bool) -> Option<usize> {
         busy_since(past, *object, busy)
     } else {
         let misread = first_misread(past, readings.list())?;
-        last(past.ledger().journal(), Earlier::State(misread))
+        last(past.entries(), Earlier::State(misread))
     }
 }
 
 // The earlier entry behind which nothing is open at the object of an entry.
 fn closed_by(past: &Past, entry: &Entry) -> Option<usize> {
-    let ledger = past.ledger();
-    if is_fault_without_device(ledger.domain(), entry) {
+    let books = past.books();
+    if is_fault_without_device(books.domain(), entry) {
         None
     } else {
-        last(ledger.journal(), Earlier::Closed(owner(entry)))
+        last(past.entries(), Earlier::Closed(owner(entry)))
     }
 }
 
@@ -115,7 +115,7 @@ fn next_in_place(
 ) -> Result<Option<Next>, AllocError> {
     match rule {
         Rule::Meaning => next_of(alloc, past, owner(entry)),
-        Rule::Split => match last_owner(past.ledger().journal()) {
+        Rule::Split => match last_owner(past.entries()) {
             Some(o) => next_of(alloc, past, o),
             None => Ok(None),
         },
@@ -125,7 +125,7 @@ fn next_in_place(
 
 // The earlier entry that stands against an entry which breaks a rule.
 fn rests_on(past: &Past, entry: &Entry, rule: Rule) -> Option<usize> {
-    let entries = past.ledger().journal();
+    let entries = past.entries();
     let o = owner(entry);
     match rule {
         // The last post of the send stands right before.
@@ -186,11 +186,11 @@ pub fn explain<W: Sink>(
     };
     let entry = &rest[0];
     let next = next_in_place(alloc, &past, entry, rule)?;
-    tell_numbered(writer, failed, past.ledger().domain(), entries, place);
+    tell_numbered(writer, failed, past.books().domain(), entries, place);
     tell_sentence(writer, failed, &past, entry, rule, &next);
     tell(writer, failed, b".\n");
     if let Some(earlier) = rests_on(&past, entry, rule) {
-        tell_numbered(writer, failed, past.ledger().domain(), entries, earlier);
+        tell_numbered(writer, failed, past.books().domain(), entries, earlier);
     }
     Ok(())
 }

@@ -56,8 +56,8 @@ fn first_of(
 
 /// What the action that runs at an object does next, or None where none runs there.
 pub(crate) fn next_of(alloc: Global, past: &Past, o: ObjId) -> Result<Option<Next>, AllocError> {
-    let ledger = past.ledger();
-    let domain = ledger.domain();
+    let books = past.books();
+    let domain = books.domain();
     if !domain.has(o) {
         return Ok(None);
     }
@@ -66,9 +66,9 @@ pub(crate) fn next_of(alloc: Global, past: &Past, o: ObjId) -> Result<Option<Nex
     };
     match &expected {
         Expected::Post(post) => Ok(Some(Next::Post(copy_of(post)?))),
-        Expected::Send(wanted) => first_of(alloc, domain, ledger.sets(), wanted),
+        Expected::Send(wanted) => first_of(alloc, domain, books.sets(), wanted),
         Expected::Read(names) => {
-            let objects = objects_for(alloc, domain, ledger.sets(), names)?;
+            let objects = objects_for(alloc, domain, books.sets(), names)?;
             Ok(Some(Next::Read(objects)))
         }
         Expected::Change { add, member, set } => Ok(Some(Next::Change {

@@ -126,7 +126,7 @@ fn tell_next<W: Sink>(
     o: ObjId,
     next: &Option<Next>,
 ) {
-    let domain = past.ledger().domain();
+    let domain = past.books().domain();
     if !domain.has(o) {
         return;
     }
@@ -151,17 +151,17 @@ fn tell_next<W: Sink>(
 // Whose posts an entry splits, and which is the next of them.
 fn tell_split<W: Sink>(writer: &mut W, failed: &mut bool, past: &Past, next: &Option<Next>) {
     tell(writer, failed, UNSPLIT);
-    if let Some(o) = last_owner(past.ledger().journal()) {
+    if let Some(o) = last_owner(past.entries()) {
         tell_next(writer, failed, past, o, next);
     }
 }
 
 // The state of an object, which does not declare what is open there.
 fn tell_skip<W: Sink>(writer: &mut W, failed: &mut bool, past: &Past, o: ObjId) {
-    let domain = past.ledger().domain();
+    let domain = past.books().domain();
     if domain.has(o) {
         tell(writer, failed, b"the state");
-        tell_state(writer, failed, domain, past.ledger().state(o));
+        tell_state(writer, failed, domain, past.books().state(o));
         tell_of(writer, failed, domain, b" of", o, SKIPPED);
     }
 }
@@ -178,8 +178,8 @@ fn tell_not_open<W: Sink>(writer: &mut W, failed: &mut bool, domain: &Domain, en
 
 // The number that would be right.
 fn tell_right_number<W: Sink>(writer: &mut W, failed: &mut bool, past: &Past, entry: &Entry) {
-    let ledger = past.ledger();
-    let domain = ledger.domain();
+    let books = past.books();
+    let domain = books.domain();
     match entry {
         Entry::Start { object, sender, .. } => {
             if !domain.has(*object) || !is_known(domain, sender) {
@@ -188,7 +188,7 @@ fn tell_right_number<W: Sink>(writer: &mut W, failed: &mut bool, past: &Past, en
             tell(writer, failed, b"the next start of");
             tell_sender(writer, failed, domain, sender);
             tell_of(writer, failed, domain, b" at", *object, b" has the number");
-            tell_number(writer, failed, ledger.started(sender, *object) as u64);
+            tell_number(writer, failed, books.started(sender, *object) as u64);
         }
         Entry::Post { sender, target, .. } => {
             if !domain.has(*sender) || !domain.has(*target) {
@@ -203,7 +203,7 @@ fn tell_right_number<W: Sink>(writer: &mut W, failed: &mut bool, past: &Past, en
                 b" to",
             );
             tell_of(writer, failed, domain, b"", *target, b" has the number");
-            tell_number(writer, failed, ledger.posted(*sender, *target) as u64);
+            tell_number(writer, failed, books.posted(*sender, *target) as u64);
         }
         _ => {}
     }
@@ -237,12 +237,12 @@ fn tell_dead<W: Sink>(writer: &mut W, failed: &mut bool, domain: &Domain, entry:
 
 /// The object of the first reading that another object has to wait for.
 pub(crate) fn first_busy(past: &Past, o: ObjId, readings: &[Reading]) -> Option<ObjId> {
-    let ledger = past.ledger();
-    if !ledger.domain().has(o) {
+    let books = past.books();
+    if !books.domain().has(o) {
         return None;
     }
     for reading in readings {
-        if ledger.domain().has(reading.object) && !ledger.is_clear(o, reading.object) {
+        if books.domain().has(reading.object) && !books.is_clear(o, reading.object) {
             return Some(reading.object);
         }
     }
@@ -256,12 +256,12 @@ fn tell_busy<W: Sink>(
     o: ObjId,
     readings: &[Reading],
 ) {
-    let ledger = past.ledger();
-    let domain = ledger.domain();
+    let books = past.books();
+    let domain = books.domain();
     let Some(busy) = first_busy(past, o, readings) else {
         return;
     };
-    if domain.has(busy) && ledger.is_open(busy) {
+    if domain.has(busy) && books.is_open(busy) {
         tell_of(writer, failed, domain, b"an action is open at", busy, b"");
         return;
     }
@@ -271,10 +271,10 @@ fn tell_busy<W: Sink>(
 
 /// The object of the first reading whose state is another.
 pub(crate) fn first_misread(past: &Past, readings: &[Reading]) -> Option<ObjId> {
-    let ledger = past.ledger();
+    let books = past.books();
     for reading in readings {
-        if ledger.domain().has(reading.object)
-            && ledger.state(reading.object).get() != reading.state.get()
+        if books.domain().has(reading.object)
+            && books.state(reading.object).get() != reading.state.get()
         {
             return Some(reading.object);
         }
@@ -283,12 +283,12 @@ pub(crate) fn first_misread(past: &Past, readings: &[Reading]) -> Option<ObjId> 
 }
 
 fn tell_misread<W: Sink>(writer: &mut W, failed: &mut bool, past: &Past, readings: &[Reading]) {
-    let ledger = past.ledger();
-    let domain = ledger.domain();
+    let books = past.books();
+    let domain = books.domain();
     if let Some(object) = first_misread(past, readings) {
         if domain.has(object) {
             tell_of(writer, failed, domain, b"the state of", object, b" is");
-            tell_state(writer, failed, domain, ledger.state(object));
+            tell_state(writer, failed, domain, books.state(object));
         }
     }
 }
@@ -320,7 +320,7 @@ pub(crate) fn tell_sentence<W: Sink>(
     rule: Rule,
     next: &Option<Next>,
 ) {
-    let domain = past.ledger().domain();
+    let domain = past.books().domain();
     let o = owner(entry);
     match rule {
         Rule::Split => tell_split(writer, failed, past, next),

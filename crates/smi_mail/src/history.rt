@@ -9,7 +9,7 @@ use std::marker::{Model, PhantomData};
 
 /// What was added, in order.
 #[derive(Drop)]
-pub(crate) struct History<T> {
+pub struct History<T> {
     of: PhantomData<T>,
     pub ghost items: { List T },
 }
@@ -19,15 +19,15 @@ impl<T> Model for History<T> {
 }
 
 impl<T> History<T> {
-    // The history in which nothing was added.
-    pub(crate) fn new() -> History<T>
+    /// The history in which nothing was added.
+    pub fn new() -> History<T>
         ensures { result.items ≡ [] }
     {
         History { of: PhantomData }
     }
 
-    // The history with one item more.
-    pub(crate) fn and(&self, item: &T) -> History<T>
+    /// The history with one item more.
+    pub fn and(&self, item: &T) -> History<T>
         ensures { result.items ≡ self.now.items ++ item.now ∷ [] }
     {
         History { of: PhantomData }

@@ -2,7 +2,7 @@
 #![tactic(auto)]
 
 mod counts;
-mod history;
+pub mod history;
 pub mod mail;
 mod mailbox;
 pub mod plain;

@@ -18,22 +18,6 @@ use sml_tree::name::Name;
 use std::alloc::{AllocError, Global};
 use std::sync::Arc;
 
-// What is known of a run from its journal, which is written out for that and read again.
-fn past_of(alloc: Global, domain: &Arc<Domain>, core: &Core) -> Result<Past, AllocError> {
-    let mut text = Vec::new(alloc);
-    if write_journal(core.domain(), core.journal(), &mut text).is_err() {
-        return Err(AllocError);
-    }
-    let Ok((format, journal)) = read_journal(alloc, domain, text.as_slice()) else {
-        return Err(AllocError);
-    };
-    let shared = Arc::try_clone(domain)?;
-    match Past::of(alloc, format, shared, journal.entries()) {
-        Ok(past) => Ok(past),
-        Err(PastError::Illegal { .. } | PastError::Memory) => Err(AllocError),
-    }
-}
-
 // A name, with a blank in front.
 fn tell_name<W: Sink>(writer: &mut W, failed: &mut bool, name: Option<Name>) {
     if let Some(name) = name {
@@ -79,8 +63,8 @@ fn tell_params<W: Sink>(writer: &mut W, failed: &mut bool, core: &Core) {
 
 // Whether names stand for an object now.
 fn are_for(past: &Past, names: &[Asked], o: ObjId) -> bool {
-    let ledger = past.ledger();
-    names.iter().any(|name| objects_of(ledger.domain(), ledger.sets(), name).contains(&o))
+    let books = past.books();
+    names.iter().any(|name| objects_of(books.domain(), books.sets(), name).contains(&o))
 }
 
 // Those of the objects for which a name stands that are not clear for an object, and for which no earlier name stands.
@@ -94,11 +78,11 @@ fn tell_busy_of<W: Sink>(
     name: &Asked,
     is_first: bool,
 ) -> bool {
-    let ledger = past.ledger();
-    let domain = ledger.domain();
+    let books = past.books();
+    let domain = books.domain();
     let mut is_first = is_first;
-    for busy in objects_of(domain, ledger.sets(), name) {
-        let is_busy = domain.has(o) && domain.has(*busy) && !ledger.is_clear(o, *busy);
+    for busy in objects_of(domain, books.sets(), name) {
+        let is_busy = domain.has(o) && domain.has(*busy) && !books.is_clear(o, *busy);
         if is_busy && !are_for(past, before, *busy) {
             if is_first {
                 tell(writer, failed, b" waits");
@@ -121,7 +105,7 @@ fn tell_busy<W: Sink>(writer: &mut W, failed: &mut bool, past: &Past, o: ObjId, 
 
 // What the open action of an object waits for.
 fn tell_awaited<W: Sink>(writer: &mut W, failed: &mut bool, past: &Past, o: ObjId) {
-    if past.ledger().domain().has(o) {
+    if past.books().domain().has(o) {
         if let Some(Expected::Read(names)) = past.next(o) {
             tell_busy(writer, failed, past, o, names.list());
         }
@@ -161,20 +145,6 @@ fn has_open(domain: &Domain, history: &History) -> bool {
         }
     }
     false
-}
-
-// What is known of a run from its journal, where that is needed.
-fn past_wanted(
-    alloc: Global,
-    domain: &Arc<Domain>,
-    core: &Core,
-    history: &History,
-) -> Result<Option<Past>, AllocError> {
-    if has_open(domain, history) {
-        Ok(Some(past_of(alloc, domain, core)?))
-    } else {
-        Ok(None)
-    }
 }
 
 // How many requests wait at an object, where any do.
@@ -222,6 +192,27 @@ fn tell_members<W: Sink>(writer: &mut W, failed: &mut bool, core: &Core) {
     }
 }
 
+// All lines, with what the entries left behind where an action is open that asks other objects.
+fn tell_all<W: Sink>(
+    writer: &mut W,
+    failed: &mut bool,
+    core: &Core,
+    history: &History,
+    past: Option<&Past>,
+) {
+    let domain = core.domain();
+    tell_states(writer, failed, core);
+    tell_params(writer, failed, core);
+    for o in 0..domain.objects() {
+        let o = ObjId::new(o);
+        tell_open_at(writer, failed, core, history.opened(o), past, o);
+    }
+    for o in 0..domain.objects() {
+        tell_waiting_at(writer, failed, domain, history, ObjId::new(o));
+    }
+    tell_members(writer, failed, core);
+}
+
 /// Writes how all stands behind the steps of a core: a line for each state, each parameter, each open action with
 /// what it waits for, each mailbox that is not empty, and each set that has other members than the declared ones.
 /// (docs/FORMATS.md, "How all stands".)
@@ -237,16 +228,21 @@ pub fn tell_standing<W: Sink>(
     writer: &mut W,
     failed: &mut bool,
 ) -> Result<(), AllocError> {
-    let past = past_wanted(alloc, domain, core, history)?;
-    tell_states(writer, failed, core);
-    tell_params(writer, failed, core);
-    for o in 0..domain.objects() {
-        let o = ObjId::new(o);
-        tell_open_at(writer, failed, core, history.opened(o), past.as_ref(), o);
+    if !has_open(domain, history) {
+        tell_all(writer, failed, core, history, None);
+        return Ok(());
     }
-    for o in 0..domain.objects() {
-        tell_waiting_at(writer, failed, domain, history, ObjId::new(o));
+    let mut text = Vec::new(alloc);
+    if write_journal(core.domain(), core.journal(), &mut text).is_err() {
+        return Err(AllocError);
     }
-    tell_members(writer, failed, core);
+    let Ok((format, journal)) = read_journal(alloc, domain, text.as_slice()) else {
+        return Err(AllocError);
+    };
+    let shared = Arc::try_clone(domain)?;
+    match Past::of(alloc, format, shared, journal.entries()) {
+        Ok(past) => tell_all(writer, failed, core, history, Some(&past)),
+        Err(PastError::Illegal { .. } | PastError::Memory) => return Err(AllocError),
+    }
     Ok(())
 }

@@ -8,14 +8,14 @@ use Rattle.smi_audit.proofs.judge.are_states.Goals as goal
 pub loop-reading-preserved : goal.loop-reading-preserved
 loop-reading-preserved c =
     let r = c.reading-item.result in
-    let is : rules.IsStateNow c.args.ledger.now.domain c.args.ledger.now.journal r = cc in
-    All-more (rules.IsStateNow c.args.ledger.now.domain c.args.ledger.now.journal) c.args.readings.now
+    let is : rules.IsStateNow c.args.books.now.domain c.args.books.now.journal r = cc in
+    All-more (rules.IsStateNow c.args.books.now.domain c.args.books.now.journal) c.args.readings.now
     c.loop-reading.reading-index r c.loop-reading-test.true c.loop-reading.invariant
-    (subst (rules.IsStateNow c.args.ledger.now.domain c.args.ledger.now.journal) c.reading-item.is is)
+    (subst (rules.IsStateNow c.args.books.now.domain c.args.books.now.journal) c.reading-item.is is)
 
 pub returns : goal.returns
 returns c =
     let le : length c.args.readings.now ≤ c.loop-reading.reading-index = c.loop-reading-test.false in
-    let all = subst (All (rules.IsStateNow c.args.ledger.now.domain c.args.ledger.now.journal))
+    let all = subst (All (rules.IsStateNow c.args.books.now.domain c.args.books.now.journal))
     (take_all c.loop-reading.reading-index c.args.readings.now le) c.loop-reading.invariant in
     ((λ t. all), (λ h. refl))

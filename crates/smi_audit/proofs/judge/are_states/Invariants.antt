@@ -4,4 +4,4 @@ use Rattle.smi_rules.specs.Rules as rules
 use Rattle.smi_audit.proofs.judge.are_states.Given as goal
 
 abbrev pub invariant-loop-reading : goal.invariant-loop-reading
-invariant-loop-reading l = All (rules.IsStateNow l.ledger.domain l.ledger.journal) (take l.reading-index l.readings)
+invariant-loop-reading l = All (rules.IsStateNow l.books.domain l.books.journal) (take l.reading-index l.readings)

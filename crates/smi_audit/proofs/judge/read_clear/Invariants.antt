@@ -6,5 +6,5 @@ use Rattle.smi_audit.proofs.judge.read_clear.Given as goal
 
 abbrev pub invariant-loop-reading : goal.invariant-loop-reading
 invariant-loop-reading l =
-    list_all (is_clear_for l.ledger.journal l.o) (drop l.reading-index l.readings) ≡ list_all
-    (is_clear_for l.ledger.journal l.o) l.readings
+    list_all (is_clear_for l.books.journal l.o) (drop l.reading-index l.readings) ≡ list_all
+    (is_clear_for l.books.journal l.o) l.readings

@@ -21,5 +21,5 @@ pub take_line-requires-clause-legal : goal.take_line-requires-clause-legal
 take_line-requires-clause-legal c =
     let i = c.loop-rest.invariant in
     let j = c.loop-rest.judge in
-    subst (λ x. IsLegal x j.ledger.domain j.ledger.journal) (sym i.format_is)
-    (subst (λ x. IsLegal c.args.format x j.ledger.journal) (sym i.domain) i.legal)
+    subst (λ x. IsLegal x j.books.domain j.books.journal) (sym i.format_is)
+    (subst (λ x. IsLegal c.args.format x j.books.journal) (sym i.domain) i.legal)

@@ -14,8 +14,8 @@ abbrev pub invariant-loop-rest : goal.invariant-loop-rest
 invariant-loop-rest l = record {
   kept : IsKept l.judge;
   format_is : l.judge.format ≡ l.format;
-  domain : l.judge.ledger.domain ≡ l.domain;
-  texts : All (HasTextIn l.format l.domain) l.judge.ledger.journal;
-  split : l.bytes ≡ lines_text l.domain l.judge.ledger.journal ++ l.rest;
-  legal : IsLegal l.format l.domain l.judge.ledger.journal;
+  domain : l.judge.books.domain ≡ l.domain;
+  texts : All (HasTextIn l.format l.domain) l.judge.books.journal;
+  split : l.bytes ≡ lines_text l.domain l.judge.books.journal ++ l.rest;
+  legal : IsLegal l.format l.domain l.judge.books.journal;
 }

@@ -13,8 +13,8 @@ use Rattle.smi_audit.proofs.judge.Judge.broken_by_start.Goals as goal
 pub returns-then-not-are_arguments : goal.returns-then-not-are_arguments
 returns-then-not-are_arguments c =
     let j = c.args.self.now in
-    let d = j.ledger.domain in
-    let J = j.ledger.journal in
+    let d = j.books.domain in
+    let J = j.books.journal in
     let k = c.in-Operator.field-0 in
     let alive : is_killed c.args.o J ≡ false = sym c.is_killed.ensures ∙ c.if-is_killed.false in
     let closed : is_open c.args.o J ≡ false = sym c.is_open.ensures ∙ c.if-is_open.false in
@@ -24,14 +24,14 @@ returns-then-not-are_arguments c =
     subst (λ s. BreaksOwn j.format d J (Start c.args.o s c.args.number c.args.action c.args.args.now)
     rule.BadRequest) (sym c.in-Operator.is)
     (start_bad j.format d J c.args.o c.args.number c.args.action k c.args.args.now alive closed number
-    (failed d _ c.args.o c.args.action c.args.args.now _ c.are_arguments.result c.domain.ensures.is
+    (failed d _ c.args.o c.args.action c.args.args.now _ c.are_arguments.result c.domain.ensures
     c.values.ensures c.are_arguments.ensures c.if-not-are_arguments.true))
 
 pub returns-else-not-are_arguments : goal.returns-else-not-are_arguments
 returns-else-not-are_arguments c =
     let j = c.args.self.now in
-    let d = j.ledger.domain in
-    let J = j.ledger.journal in
+    let d = j.books.domain in
+    let J = j.books.journal in
     let k = c.in-Operator.field-0 in
     let alive : is_killed c.args.o J ≡ false = sym c.is_killed.ensures ∙ c.if-is_killed.false in
     let closed : is_open c.args.o J ≡ false = sym c.is_open.ensures ∙ c.if-is_open.false in
@@ -41,5 +41,5 @@ returns-else-not-are_arguments c =
     subst (λ s. MayFollow j.format d J (Start c.args.o s c.args.number c.args.action c.args.args.now))
     (sym c.in-Operator.is)
     (start_good j.format d J c.args.o c.args.number c.args.action k c.args.args.now alive closed number
-    (passed d _ c.args.o c.args.action c.args.args.now _ c.are_arguments.result c.domain.ensures.is
+    (passed d _ c.args.o c.args.action c.args.args.now _ c.are_arguments.result c.domain.ensures
     c.values.ensures c.are_arguments.ensures c.if-not-are_arguments.false))

@@ -23,5 +23,5 @@ pub take-requires-clause-legal : goal.take-requires-clause-legal
 take-requires-clause-legal c =
     let i = c.loop-i.invariant in
     let j = c.loop-i.judge in
-    subst (λ x. IsLegal x j.ledger.domain j.ledger.journal) (sym i.format_is)
-    (subst (λ x. IsLegal c.args.format x j.ledger.journal) (sym i.domain) i.legal)
+    subst (λ x. IsLegal x j.books.domain j.books.journal) (sym i.format_is)
+    (subst (λ x. IsLegal c.args.format x j.books.journal) (sym i.domain) i.legal)

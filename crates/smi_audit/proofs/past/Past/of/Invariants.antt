@@ -9,7 +9,7 @@ abbrev pub invariant-loop-i : goal.invariant-loop-i
 invariant-loop-i l = record {
   kept : IsKept l.judge;
   format_is : l.judge.format ≡ l.fn.format;
-  domain : l.judge.ledger.domain ≡ arc_value l.fn.domain;
-  journal : l.judge.ledger.journal ≡ take l.i l.entries;
-  legal : IsLegal l.fn.format (arc_value l.fn.domain) l.judge.ledger.journal;
+  domain : l.judge.books.domain ≡ arc_value l.fn.domain;
+  journal : l.judge.books.journal ≡ take l.i l.entries;
+  legal : IsLegal l.fn.format (arc_value l.fn.domain) l.judge.books.journal;
 }
