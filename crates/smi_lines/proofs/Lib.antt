@@ -1,2 +1,3 @@
 mod Fronts
 mod Tolds
+mod Wholes

@@ -150,6 +150,11 @@ step_in (Some verb) words = if same_name verb (codes "REQUEST") then request_in 
 abbrev pub lexemes : List Token → List Lexeme
 lexemes ts = map (λ (t : Token). t.lexeme) ts
 
+-- what is asked by tokens where they are the whole text, and nothing where something bad stops them
+abbrev pub whole : {X : Type 0} → (List Lexeme → Option X) → List Token → Option ℕ → Option X
+whole f ts None = f (lexemes ts)
+whole f ts (Some bad) = None
+
 -- the step, or else a bad line
 abbrev pub or_bad : Option Step → Result (Option Step) LineError
 or_bad None = Err error.BadLine

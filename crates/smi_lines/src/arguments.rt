@@ -1,12 +1,13 @@
 //! The arguments of a request, as they stand in a line.
-ghost use Rattle.std.specs.Prelude.{◌≡◌, ◌≤◌, ◌<◌, ◌^◌, ◌+◌, IfOk, IfSome, List, None, OnErr, Option, Some, length, option_map};
-ghost use Rattle.sml_text.specs.Stream.{tokens_from};
+ghost use Rattle.std.specs.Prelude.{◌≡◌, ◌≤◌, ◌<◌, ◌^◌, ◌+◌, List, Option, Some, None, IfOk, IfSome, IsTrue, OnErr};
+ghost use Rattle.std.specs.Prelude.{length, option_map};
+ghost use Rattle.sml_text.specs.Stream.{tokens_from, bad_from};
 ghost use Rattle.sml_text.specs.Views.{lexeme_of, IsLexeme};
 ghost use Rattle.sml_text.specs.declared.source.Source.TheVariants as source;
 ghost use Rattle.sml_domain.specs.Texts.{IsText};
 ghost use Rattle.sml_domain.specs.Completing.{Passed as Given};
 ghost use Rattle.smi_lines.specs.Line as spec;
-ghost use Rattle.smi_lines.specs.Line.{lexemes};
+ghost use Rattle.smi_lines.specs.Line.{lexemes, whole};
 
 use smi_entry::completing::Passed;
 use smi_world::step::Arguments;
@@ -14,7 +15,7 @@ use sml_domain::error::TextError;
 use sml_domain::text::Text;
 use sml_domain::value::Value;
 use sml_text::source::{Sign, Source};
-use sml_text::tokens::{Lexeme, next_token};
+use sml_text::tokens::{Lexeme, is_end, next_token};
 use sml_tree::limits::MAX_ARGUMENTS;
 use sml_tree::name::Name;
 use sml_tree::words::is_reserved;
@@ -109,11 +110,15 @@ struct Next<'a> {
 fn next_argument(alloc: Global, rest: &[u8], at: usize) -> Result<Option<Next>, AllocError>
     requires { at + length rest.now < 2 ^ 63 }
     ensures none { IfOk result (λ r. r ≡ None →
-        spec.arguments_in (lexemes (tokens_from source.Line at rest.now)) ≡ None) }
+        whole spec.arguments_in (tokens_from source.Line at rest.now) (bad_from source.Line at rest.now) ≡ None) }
     ensures some { IfOk result (λ r. IfSome r (λ x.
         spec.arguments_in (lexemes (tokens_from source.Line at rest.now))
         ≡ spec.with_passed (Some x.passed) (spec.unless_last x.is_last
         (spec.arguments_in (lexemes (tokens_from source.Line x.at x.rest.now)))))) }
+    ensures bad { IfOk result (λ r. IfSome r (λ x.
+        bad_from source.Line at rest.now ≡ bad_from source.Line x.at x.rest.now)) }
+    ensures last { IfOk result (λ r. IfSome r (λ x.
+        IsTrue x.is_last → bad_from source.Line x.at x.rest.now ≡ None)) }
     ensures within { IfOk result (λ r. IfSome r (λ x.
         (x.at + length x.rest.now ≡ at + length rest.now) × (length x.rest.now < length rest.now))) }
 {
@@ -139,10 +144,12 @@ fn next_argument(alloc: Global, rest: &[u8], at: usize) -> Result<Option<Next>, 
 fn followed<'a>(passed: Passed, sign: &Lexeme, rest: &'a [u8], at: usize) -> Option<Next<'a>>
     requires { at + length rest.now < 2 ^ 63 }
     ensures none { result ≡ None → (more : Option (List Given)) →
-        spec.behind (spec.sign_in (lexeme_of sign.now)) (lexemes (tokens_from source.Line at rest.now)) more ≡ None }
+        whole (λ words. spec.behind (spec.sign_in (lexeme_of sign.now)) words more)
+        (tokens_from source.Line at rest.now) (bad_from source.Line at rest.now) ≡ None }
     ensures some { IfSome result (λ x. (more : Option (List Given)) →
         spec.behind (spec.sign_in (lexeme_of sign.now)) (lexemes (tokens_from source.Line at rest.now)) more
         ≡ spec.unless_last x.is_last more) }
+    ensures last { IfSome result (λ x. IsTrue x.is_last → bad_from source.Line at rest.now ≡ None) }
     ensures same { IfSome result (λ x. (x.passed ≡ passed) × (x.rest.now ≡ rest.now) × (x.at ≡ at)) }
 {
     match sign_in(sign) {
@@ -152,7 +159,7 @@ fn followed<'a>(passed: Passed, sign: &Lexeme, rest: &'a [u8], at: usize) -> Opt
             rest,
             at,
         }),
-        Some(Sign::CloseBracket) if next_token(Source::Line, rest, at).is_none() => Some(Next {
+        Some(Sign::CloseBracket) if is_end(Source::Line, rest) => Some(Next {
             passed,
             is_last: true,
             rest,
@@ -166,7 +173,8 @@ fn followed<'a>(passed: Passed, sign: &Lexeme, rest: &'a [u8], at: usize) -> Opt
 fn arguments_in(alloc: Global, rest: &[u8], at: usize) -> Result<Option<Vec<Passed>>, AllocError>
     requires { at + length rest.now < 2 ^ 63 }
     ensures { IfOk result (λ r.
-        option_map (λ l. l.items) r ≡ spec.arguments_in (lexemes (tokens_from source.Line at rest.now))) }
+        option_map (λ l. l.items) r
+        ≡ whole spec.arguments_in (tokens_from source.Line at rest.now) (bad_from source.Line at rest.now)) }
 {
     let mut list = Vec::new(alloc);
     let mut rest = rest;
@@ -194,11 +202,15 @@ fn arguments_in(alloc: Global, rest: &[u8], at: usize) -> Result<Option<Vec<Pass
 /// more than a line may have.
 pub fn passed_in(alloc: Global, rest: &[u8], at: usize) -> Result<Option<Arguments>, AllocError>
     requires { at + length rest.now < 2 ^ 63 }
-    ensures passed { IfOk result (λ r. r ≡ spec.passed_in (lexemes (tokens_from source.Line at rest.now))) }
+    ensures passed { IfOk result (λ r.
+        r ≡ whole spec.passed_in (tokens_from source.Line at rest.now) (bad_from source.Line at rest.now)) }
     ensures memory { OnErr result (1 ≤ length (lexemes (tokens_from source.Line at rest.now))) }
 {
-    let Some((bracket, rest, at)) = next_token(Source::Line, rest, at) else {
+    if is_end(Source::Line, rest) {
         return Ok(Some(Arguments::new(Vec::new(alloc))));
+    }
+    let Some((bracket, rest, at)) = next_token(Source::Line, rest, at) else {
+        return Ok(None);
     };
     let Some(Sign::OpenBracket) = sign_in(&bracket.lexeme) else {
         return Ok(None);

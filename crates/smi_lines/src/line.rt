@@ -1,16 +1,18 @@
 //! Reading a line of a schedule.
-ghost use Rattle.std.specs.Prelude.{◌≡◌, ◌≤◌, ◌<◌, ◌^◌, ◌+◌, IfOk, List, OnErr, Option, Some, length, option_map};
+ghost use Rattle.std.specs.Prelude.{◌≡◌, ◌≤◌, ◌<◌, ◌^◌, ◌+◌, ◌&&◌, ℕ, List, Option, Some, None, Err, IfOk, OnErr};
+ghost use Rattle.std.specs.Prelude.{length, option_map};
 ghost use Rattle.std.specs.List.{list_all as all_of};
 ghost use Rattle.std.specs.Option.{option_and_then};
 ghost use Rattle.sml_text.specs.Bytes.{is_ascii as ascii, no_line_feed};
-ghost use Rattle.sml_text.specs.Stream.{tokens_from};
+ghost use Rattle.sml_text.specs.Stream.{tokens_from, bad_from};
 ghost use Rattle.sml_text.specs.Views.{lexeme_of, IsLexeme};
 ghost use Rattle.sml_text.specs.declared.source.Source.TheVariants as source;
 ghost use Rattle.sml_domain.specs.Completing.{Passed as Given};
 ghost use Rattle.smi_world.specs.declared.step.Step.TheVariants as step;
 ghost use Rattle.smi_lines.specs.Line as spec;
-ghost use Rattle.smi_lines.specs.Line.{LineReads, lexemes};
+ghost use Rattle.smi_lines.specs.Line.{LineReads, lexemes, whole};
 ghost use Rattle.smi_lines.specs.LineErrorText.{line_error_text};
+ghost use Rattle.smi_lines.specs.declared.line.LineError.TheVariants as error;
 ghost use Rattle.smi_lines.specs.declared.line.TheConstants.{LONGEST_LINE};
 
 use crate::arguments::{name_in, passed_in};
@@ -18,7 +20,7 @@ use smi_entry::session::SessionId;
 use smi_world::step::Step;
 use sml_text::laws::laws_of_tokens;
 use sml_text::source::Source;
-use sml_text::tokens::{Lexeme, first_bad, next_token};
+use sml_text::tokens::{Lexeme, first_bad, is_end, next_token};
 use sml_tree::name::Name;
 use std::alloc::{AllocError, Global};
 use std::error::Error;
@@ -49,25 +51,19 @@ impl Error for LineError {}
 /// How many bytes a line may have.
 pub const LONGEST_LINE: usize = 8192;
 
-// Whether all bytes are ASCII.
-fn is_all_ascii(line: &[u8]) -> bool
-    ensures { result ≡ all_of ascii line.now }
+// Whether each byte is ASCII and no line feed.
+fn has_line_bytes(line: &[u8]) -> bool
+    ensures { result ≡ all_of (λ c. ascii c && no_line_feed c) line.now }
 {
-    line.iter().all(|b| *b <= 127)
-}
-
-// Whether no byte is a line feed.
-fn is_one_line(line: &[u8]) -> bool
-    ensures { result ≡ all_of no_line_feed line.now }
-{
-    line.iter().all(|b| !(*b == b'\n'))
+    line.iter().all(|b| *b <= 127 && *b != b'\n')
 }
 
 // Whether bytes are a line: not too many, all of them ASCII, and none a line feed.
+#[tactic(auto, using(crate::proofs::Wholes::bytes_say))]
 fn is_line(line: &[u8]) -> bool
     ensures { result ≡ spec.is_line line.now }
 {
-    line.len() <= LONGEST_LINE && is_all_ascii(line) && is_one_line(line)
+    line.len() <= LONGEST_LINE && has_line_bytes(line)
 }
 
 // The session that a token is.
@@ -84,10 +80,10 @@ fn session_in(lexeme: &Lexeme) -> Option<SessionId>
 // The one name that stands in the rest of a line, whose first byte is at this place.
 fn sole_name(rest: &[u8], at: usize) -> Option<Name>
     requires { at + length rest.now < 2 ^ 63 }
-    ensures { result ≡ spec.sole_name (lexemes (tokens_from source.Line at rest.now)) }
+    ensures { result ≡ whole spec.sole_name (tokens_from source.Line at rest.now) (bad_from source.Line at rest.now) }
 {
-    let (object, rest, at) = next_token(Source::Line, rest, at)?;
-    if next_token(Source::Line, rest, at).is_some() {
+    let (object, rest, _) = next_token(Source::Line, rest, at)?;
+    if !is_end(Source::Line, rest) {
         return None;
     }
     name_in(&object.lexeme)
@@ -96,11 +92,11 @@ fn sole_name(rest: &[u8], at: usize) -> Option<Name>
 // What stands behind `answer`.
 fn answer_in(rest: &[u8], at: usize) -> Option<Step>
     requires { at + length rest.now < 2 ^ 63 }
-    ensures { result ≡ spec.answer_in (lexemes (tokens_from source.Line at rest.now)) }
+    ensures { result ≡ whole spec.answer_in (tokens_from source.Line at rest.now) (bad_from source.Line at rest.now) }
 {
     let (object, rest, at) = next_token(Source::Line, rest, at)?;
-    let (state, rest, at) = next_token(Source::Line, rest, at)?;
-    if next_token(Source::Line, rest, at).is_some() {
+    let (state, rest, _) = next_token(Source::Line, rest, at)?;
+    if !is_end(Source::Line, rest) {
         return None;
     }
     Some(Step::Answer {
@@ -112,11 +108,11 @@ fn answer_in(rest: &[u8], at: usize) -> Option<Step>
 // What stands behind `kill`.
 fn kill_in(rest: &[u8], at: usize) -> Option<Step>
     requires { at + length rest.now < 2 ^ 63 }
-    ensures { result ≡ spec.kill_in (lexemes (tokens_from source.Line at rest.now)) }
+    ensures { result ≡ whole spec.kill_in (tokens_from source.Line at rest.now) (bad_from source.Line at rest.now) }
 {
     let (object, rest, at) = next_token(Source::Line, rest, at)?;
-    let (session, rest, at) = next_token(Source::Line, rest, at)?;
-    if next_token(Source::Line, rest, at).is_some() {
+    let (session, rest, _) = next_token(Source::Line, rest, at)?;
+    if !is_end(Source::Line, rest) {
         return None;
     }
     Some(Step::Kill {
@@ -140,7 +136,8 @@ fn asker(session: &Lexeme, object: &Lexeme, action: &Lexeme) -> Option<(SessionI
 // What stands behind `request`.
 fn request_in(alloc: Global, rest: &[u8], at: usize) -> Result<Option<Step>, AllocError>
     requires { at + length rest.now < 2 ^ 63 }
-    ensures asked { IfOk result (λ s. s ≡ spec.request_in (lexemes (tokens_from source.Line at rest.now))) }
+    ensures asked { IfOk result (λ s.
+        s ≡ whole spec.request_in (tokens_from source.Line at rest.now) (bad_from source.Line at rest.now)) }
     ensures memory { OnErr result (4 ≤ length (lexemes (tokens_from source.Line at rest.now))) }
 {
     let Some((session, rest, at)) = next_token(Source::Line, rest, at) else {
@@ -170,7 +167,8 @@ fn request_in(alloc: Global, rest: &[u8], at: usize) -> Result<Option<Step>, All
 // The step of an object's name.
 fn named_step(verb: &Name, rest: &[u8], at: usize) -> Option<Step>
     requires { at + length rest.now < 2 ^ 63 }
-    ensures { result ≡ spec.named_in verb.now (lexemes (tokens_from source.Line at rest.now)) }
+    ensures { result ≡ whole (spec.named_in verb.now)
+        (tokens_from source.Line at rest.now) (bad_from source.Line at rest.now) }
 {
     if verb.as_bytes() == b"START".as_slice() {
         Some(Step::Start(sole_name(rest, at)?))
@@ -192,7 +190,8 @@ fn step_in(alloc: Global, verb: &Lexeme, rest: &[u8], at: usize) -> Result<Optio
     requires verb { IsLexeme verb.now }
     requires small { at + length rest.now < 2 ^ 63 }
     ensures asked { IfOk result (λ s.
-        s ≡ spec.step_in (spec.name_in (lexeme_of verb.now)) (lexemes (tokens_from source.Line at rest.now))) }
+        s ≡ whole (spec.step_in (spec.name_in (lexeme_of verb.now)))
+        (tokens_from source.Line at rest.now) (bad_from source.Line at rest.now)) }
     ensures memory { OnErr result (4 ≤ length (lexemes (tokens_from source.Line at rest.now))) }
 {
     let Some(verb) = name_in(verb) else {
@@ -205,28 +204,46 @@ fn step_in(alloc: Global, verb: &Lexeme, rest: &[u8], at: usize) -> Result<Optio
     }
 }
 
-// What the tokens of a line ask.
+// Why a line is no step where memory for its arguments was refused: something bad in it, or that alone.
+#[tactic(auto, using(crate::proofs::Wholes::no_bad))]
+fn memory_error(line: &[u8]) -> LineError
+    ensures tokens { bad_from source.Line 0 line.now ≡ None → result ≡ error.Memory }
+    ensures bad { (bad : ℕ) → bad_from source.Line 0 line.now ≡ Some bad → result ≡ error.BadLine }
+{
+    laws_of_tokens();
+    match first_bad(Source::Line, line) {
+        Some(_) => LineError::BadLine,
+        None => LineError::Memory,
+    }
+}
+
+// What a line asks, by its tokens.
 fn asked(alloc: Global, line: &[u8]) -> Result<Option<Step>, LineError>
     requires { length line.now ≤ LONGEST_LINE }
-    ensures { spec.Answers (lexemes (tokens_from source.Line 0 line.now)) result }
+    ensures tokens { bad_from source.Line 0 line.now ≡ None →
+        spec.Answers (lexemes (tokens_from source.Line 0 line.now)) result }
+    ensures bad { (bad : ℕ) → bad_from source.Line 0 line.now ≡ Some bad → result ≡ Err error.BadLine }
 {
     match next_token(Source::Line, line, 0) {
-        None => Ok(None),
+        None if is_end(Source::Line, line) => Ok(None),
+        None => Err(LineError::BadLine),
         Some((verb, rest, at)) => match step_in(alloc, &verb.lexeme, rest, at) {
             Ok(Some(step)) => Ok(Some(step)),
             Ok(None) => Err(LineError::BadLine),
-            Err(_) => Err(LineError::Memory),
+            Err(_) => Err(memory_error(line)),
         },
     }
 }
 
 /// Reads one line of a schedule without its line feed: the step that it asks, or None where it has no
-/// token. (docs/FORMATS.md, "Schedules".) The cost is the length of the line.
+/// token. (docs/FORMATS.md, "Schedules".) The cost is the length of the line: its tokens are read once,
+/// and once more where memory is refused.
 ///
 /// # Errors
 ///
 /// `BadLine` where it is of no form of a step, has more than 8,192 bytes, or a byte above 0x7F or a
 /// line feed; `Memory` where memory for its arguments is refused.
+#[tactic(auto, using(crate::proofs::Wholes::no_bad))]
 pub fn read_step(alloc: Global, line: &[u8]) -> Result<Option<Step>, LineError>
     ensures { LineReads line.now result }
 {
@@ -234,8 +251,5 @@ pub fn read_step(alloc: Global, line: &[u8]) -> Result<Option<Step>, LineError>
         return Err(LineError::BadLine);
     }
     laws_of_tokens();
-    match first_bad(Source::Line, line) {
-        Some(_) => Err(LineError::BadLine),
-        None => asked(alloc, line),
-    }
+    asked(alloc, line)
 }

@@ -14,4 +14,5 @@ more-preserved c =
     let here : now ≡ with_passed (Some next.passed) (unless_last false more) = read ∙ ap (λ b. with_passed (Some next.passed) (unless_last b more)) c.if-is_last.false in (
       front_more _ c.more.list.items next.passed now more c.more.invariant.0 here ∙ ap (λ l. in_front l more) (sym c.in_ok-push.ensures.items),
       (let w = of_some _ _ next c.in-Some.is c.in_ok-next.ensures.within in omega (arith, c.more.invariant.1, w.0)),
+      c.more.invariant.2 ∙ of_some _ _ next c.in-Some.is c.in_ok-next.ensures.bad,
     )
