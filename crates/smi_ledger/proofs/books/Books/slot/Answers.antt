@@ -1,5 +1,4 @@
 -- The slot of an object says what the journal says of it.
-use Rattle.std.specs.Arc.{arc_value}
 use Rattle.std.proofs.Common.{subst}
 use Rattle.smi_ledger.specs.Views.{BooksView}
 use Rattle.smi_ledger.specs.Books.{Says}

@@ -1,5 +1,5 @@
 use Rattle.std.proofs.Common.{◌∙◌, ap, sym}
-use Rattle.smi_entry.specs.declared.entry.Entry.TheVariants.{Start, Post, Wait, Seen, End, Kill, Insert, Remove, NoMember}
+use Rattle.smi_entry.specs.declared.entry.Entry.TheVariants.{Start, Post, Seen, NoMember}
 use Rattle.smi_ledger.specs.Slots.{slot_by}
 use Rattle.smi_ledger.proofs.slot.Slot.take.Goals as goal
 
@@ -7,7 +7,8 @@ pub returns-in_ok-args-in-Start-clause-ok : goal.returns-in_ok-args-in-Start-cla
 returns-in_ok-args-in-Start-clause-ok c =
     let by = slot_by c.args.dead c.args.place c.args.sets.now c.args.self.now in
     let s = c.in-Start in
-    c.start.ensures c.args.sets.now ∙ ap (λ args. by (Start s.object s.sender s.number s.action args)) c.in_ok-args-in-Start.ensures
+    c.start.ensures c.args.sets.now ∙ ap (λ args. by (Start s.object s.sender s.number s.action args))
+    c.in_ok-args-in-Start.ensures
     ∙ ap by (sym s.is)
 
 pub returns-in_ok-share-in-Post-clause-ok : goal.returns-in_ok-share-in-Post-clause-ok
@@ -28,7 +29,8 @@ returns-in_ok-share-in-Seen-clause-ok c =
     let s = c.in-Seen in
     let by = slot_by c.args.dead c.args.place in
     c.see.ensures c.args.dead c.args.place s.object
-    ∙ ap (λ sets. by sets c.args.self.now (Seen s.object c.in_ok-readings-in-Seen.readings)) c.in_ok-share-in-Seen.ensures
+    ∙ ap (λ sets. by sets c.args.self.now (Seen s.object c.in_ok-readings-in-Seen.readings))
+    c.in_ok-share-in-Seen.ensures
     ∙ ap (λ readings. by c.args.sets.now c.args.self.now (Seen s.object readings)) c.in_ok-readings-in-Seen.ensures
     ∙ ap (by c.args.sets.now c.args.self.now) (sym s.is)
 
@@ -46,7 +48,8 @@ pub returns-in_ok-share-in-NoMember-clause-ok : goal.returns-in_ok-share-in-NoMe
 returns-in_ok-share-in-NoMember-clause-ok c =
     let n = c.in-NoMember in
     c.none.ensures c.args.dead c.args.place n.object n.set
-    ∙ ap (λ sets. slot_by c.args.dead c.args.place sets c.args.self.now (NoMember n.object n.set)) c.in_ok-share-in-NoMember.ensures
+    ∙ ap (λ sets. slot_by c.args.dead c.args.place sets c.args.self.now (NoMember n.object n.set))
+    c.in_ok-share-in-NoMember.ensures
     ∙ ap (slot_by c.args.dead c.args.place c.args.sets.now c.args.self.now) (sym n.is)
 
 pub returns-in-Insert-clause-ok : goal.returns-in-Insert-clause-ok
