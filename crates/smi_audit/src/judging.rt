@@ -168,12 +168,7 @@ impl Judge {
         Ok(None)
     }
 
-    fn seen(
-        &mut self,
-        e: &Entry,
-        o: ObjId,
-        readings: &Readings,
-    ) -> Result<Option<Rule>, AllocError>
+    fn seen(&mut self, e: &Entry, o: ObjId, readings: &Readings) -> Result<Option<Rule>, AllocError>
         requires kept { IsKept self.old }
         requires within { o < length self.old.books.domain.objects }
         requires there { All (IsReadingOf (length self.old.books.domain.objects)) readings.now }
@@ -256,12 +251,7 @@ impl Judge {
     }
 
     // Where an action is open that no device does: it ends in a state.
-    fn end_block(
-        &mut self,
-        e: &Entry,
-        o: ObjId,
-        state: StateId,
-    ) -> Result<Option<Rule>, AllocError>
+    fn end_block(&mut self, e: &Entry, o: ObjId, state: StateId) -> Result<Option<Rule>, AllocError>
         requires kept { IsKept self.old }
         requires within { o < length self.old.books.domain.objects }
         requires open { says.is_open o self.old.books.journal ≡ true }
@@ -281,12 +271,7 @@ impl Judge {
         Ok(None)
     }
 
-    fn end(
-        &mut self,
-        e: &Entry,
-        o: ObjId,
-        how: &ActionEnd,
-    ) -> Result<Option<Rule>, AllocError>
+    fn end(&mut self, e: &Entry, o: ObjId, how: &ActionEnd) -> Result<Option<Rule>, AllocError>
         requires kept { IsKept self.old }
         requires within { o < length self.old.books.domain.objects }
         requires is { e.now ≡ entry.End o how.now }
@@ -318,12 +303,7 @@ impl Judge {
         }
     }
 
-    fn kill(
-        &mut self,
-        e: &Entry,
-        o: ObjId,
-        cause: &Cause,
-    ) -> Result<Option<Rule>, AllocError>
+    fn kill(&mut self, e: &Entry, o: ObjId, cause: &Cause) -> Result<Option<Rule>, AllocError>
         requires kept { IsKept self.old }
         requires within { o < length self.old.books.domain.objects }
         requires is { e.now ≡ entry.Kill o cause.now }
@@ -406,12 +386,7 @@ impl Judge {
         Ok(None)
     }
 
-    fn no_member(
-        &mut self,
-        e: &Entry,
-        o: ObjId,
-        set: SetId,
-    ) -> Result<Option<Rule>, AllocError>
+    fn no_member(&mut self, e: &Entry, o: ObjId, set: SetId) -> Result<Option<Rule>, AllocError>
         requires kept { IsKept self.old }
         requires within { o < length self.old.books.domain.objects }
         requires is { e.now ≡ entry.NoMember o set }

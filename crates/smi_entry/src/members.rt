@@ -173,11 +173,7 @@ fn same_sets(sets: &[Kept], others: &[Kept]) -> bool
 
 impl Members {
     // The members of a list of sets, which are moved and not copied.
-    fn of_list(
-        alloc: Global,
-        sets: Vec<Kept>,
-        is_declared: bool,
-    ) -> Result<Members, AllocError>
+    fn of_list(alloc: Global, sets: Vec<Kept>, is_declared: bool) -> Result<Members, AllocError>
         requires { says.MayBeUnchanged is_declared sets.items }
         ensures { IfOk result (λ m. m ≡ sets.items) }
     {

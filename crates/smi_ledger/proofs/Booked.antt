@@ -28,8 +28,14 @@ the_books d J = record { domain = d; journal = J }
 -- no room is kept beside that of what is open
 owned : (d : Domain) (J : List Entry) (held spare : ℕ) (slots : List SlotView) (starts : ℕ) (sets : Sets)
     → IsKept d J held spare slots starts sets → IsKept d J (sum_by closing_of slots) 0 slots starts sets
-owned d J held spare slots starts sets h = record { count = h.count; says = h.says; all = h.all; room = omega arith;
-    members = h.members; are = h.are }
+owned d J held spare slots starts sets h = record {
+  count = h.count;
+  says = h.says;
+  all = h.all;
+  room = omega arith;
+  members = h.members;
+  are = h.are;
+}
 
 -- the slot of an object of the domain stands at its place, and says what the journal says
 pub booked_at : (d : Domain) (J : List Entry) (count : ℕ) (last : Option ℕ) (slots : List SlotView) (sets : Sets)
