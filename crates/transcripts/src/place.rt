@@ -1,8 +1,9 @@
 //! What a script works with.
 
+use crate::bytes::escape;
 use std::alloc::{AllocError, Global};
 
-/// What the next command line finds, and all that is told.
+/// What the next command line finds, and what the last one told.
 #[derive(Drop)]
 pub struct Place {
     /// The text that is at hand: the standard input of a command line.
@@ -11,7 +12,7 @@ pub struct Place {
     pub is_open: bool,
     /// What the last command line wrote as its output.
     pub output: Vec<u8>,
-    /// The lines of the scripts, with what they wrote.
+    /// What the last line of the script told.
     pub told: Vec<u8>,
 }
 
@@ -54,7 +55,7 @@ impl Place {
 
 fn tell(told: &mut Vec<u8>, mark: &[u8], line: &[u8]) -> Result<(), AllocError> {
     told.extend_from_slice(mark)?;
-    told.extend_from_slice(line)?;
+    escape(told, line)?;
     told.push(b'\n')?;
     Ok(())
 }
