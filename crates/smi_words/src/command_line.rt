@@ -46,15 +46,33 @@ fn read_words<'a>(
     let Some(asked) = asked_of(alloc, &matches, is_terminal)? else {
         return Err(command.error(ErrorKind::MissingSubcommand, "no command is given")?);
     };
-    if inputs(&asked) > 1 {
-        let told = "`-` stands more than once, and standard input is read once";
-        return Err(command.error(ErrorKind::ArgumentConflict, told)?);
+    match conflict_of(&asked) {
+        Some(told) => Err(command.error(ErrorKind::ArgumentConflict, told)?),
+        None => Ok(asked),
     }
-    if has_no_file(&asked) {
-        let told = "`live` takes no domain from standard input, which has the lines";
-        return Err(command.error(ErrorKind::ArgumentConflict, told)?);
+}
+
+// Why paths of a command line can't stand together, if they can't.
+fn conflict_of(asked: &Asked<'_>) -> Option<&'static str> {
+    if inputs(asked) > 1 {
+        Some("`-` stands more than once, and standard input is read once")
+    } else if has_no_file(asked) {
+        Some("`live` takes no domain from standard input, which has the lines")
+    } else if written(asked) == Some(STANDARD_INPUT) {
+        Some("`-` is no file to write: take /dev/stdout, or ./- for a file of that name")
+    } else {
+        None
     }
-    Ok(asked)
+}
+
+// The path of the journal or of the log that is to be written, where there is to be one.
+fn written<'a>(asked: &Asked<'a>) -> Option<&'a str> {
+    match asked {
+        Asked::Step(options) => options.journal,
+        Asked::Run(options) => options.journal,
+        Asked::Live(options) => options.log,
+        _ => None,
+    }
 }
 
 // Whether a manager is to take its domain from where its lines come.

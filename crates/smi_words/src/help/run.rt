@@ -85,8 +85,8 @@ With `--journal PATH` the file PATH is made, or what stands there is deleted, on
 the journal of the run is written to it: what was started, sent, seen, put into sets, taken out of them,
 ended and killed, in its order.
 `smirun audit FILE PATH` judges it. A journal over 67108864 bytes is written, and `audit` and `graph` refuse it.
-Where PATH is FILE or SCRIPT, by this path or another, the command line is a wrong one, and nothing is read or
-written.
+Where PATH is FILE or SCRIPT, by this path or another, or is -, the command line is a wrong one, and nothing is
+read or written. Ctrl-C ends a run at once: then there is no summary, and what stands at PATH stays as it was.
 
 A file that is refused is told on standard error, by FILE and one of: `read NO KIND at OFFSET`, `check NO KIND
 NAME` (the domain; `smirun check --help` has the kinds), `unreadable` (a second line has why), and of the

@@ -129,8 +129,8 @@ With the domain above, the schedule on the left writes what is on the right:
 With `--journal PATH` the file PATH is made, or what stands there is deleted, before the first step; the
 journal is written to it when the whole schedule is done: the line `smi-journal 2`, and then the lines
 above but `accept`, `set`, `still` and `refused`. `smirun audit FILE PATH` judges it. A journal over 67108864
-bytes is written, and `audit` and `graph` refuse it. Where PATH is FILE or SCHEDULE, by this path or another, the
-command line is a wrong one, and nothing is read or written.
+bytes is written, and `audit` and `graph` refuse it. Where PATH is FILE or SCHEDULE, by this path or another, or
+is -, the command line is a wrong one, and nothing is read or written.
 
 With `--states` these lines follow what the schedule writes:
 
@@ -147,7 +147,8 @@ With `--explain` standard error has why, behind the line of each refused step: t
 SCHEDULE:LINE:COLUMN, both counted from 1, one sentence, the line and a caret under the place. With `--strict`
 the exit status is 1 where a line was refused, so that a schedule can be a test.
 
-Where SCHEDULE is -, what the lines that were read write is written before more is read.
+Where SCHEDULE is -, what the lines that were read write is written before more is read. Ctrl-D ends them. Ctrl-C
+ends the program at once, and its journal is then empty.
 
 A file that is refused is told on standard error, by FILE and one of: `read NO KIND at OFFSET` (no text
 of the language), `check NO KIND NAME` (not well-formed; `smirun check --help` has the kinds),
