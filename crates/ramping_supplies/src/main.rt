@@ -1,13 +1,17 @@
 //! A library example: two sessions command supplies of a type of their own, while four workers serve.
 #![tactic(auto)]
 
+mod fault;
 mod supplies;
 
 use std::io;
 
 fn main(rt: HostRuntime) -> io::Result<()> {
     match supplies::run(rt, rt.alloc(), &mut rt.stdout()) {
-        Some(()) => Ok(()),
-        None => Err(io::Error::from(io::ErrorKind::OutOfMemory)),
+        Ok(()) => Ok(()),
+        Err(fault) => {
+            fault.tell(&mut rt.stderr())?;
+            Err(io::Error::from(io::ErrorKind::Other))
+        }
     }
 }
