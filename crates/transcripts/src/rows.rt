@@ -59,20 +59,16 @@ impl Found {
 
     // Tells a line that told something else than it must.
     fn differs(&mut self, line: &Line<'_>, told: &[u8]) -> Result<(), AllocError> {
-        let parts: [&[u8]; 9] = [
-            b"# ",
-            line.row.as_bytes(),
-            b"\n",
-            line.text.as_bytes(),
-            b"\n  must tell:\n",
-            line.must.as_slice(),
-            b"  told:\n",
-            told,
-            b"\n",
-        ];
-        for part in parts {
-            self.others.extend_from_slice(part)?;
-        }
+        let others = &mut self.others;
+        others.extend_from_slice(b"# ")?;
+        others.extend_from_slice(line.row.as_bytes())?;
+        others.extend_from_slice(b"\n")?;
+        others.extend_from_slice(line.text.as_bytes())?;
+        others.extend_from_slice(b"\n  must tell:\n")?;
+        others.extend_from_slice(line.must.as_slice())?;
+        others.extend_from_slice(b"  told:\n")?;
+        others.extend_from_slice(told)?;
+        others.extend_from_slice(b"\n")?;
         Ok(())
     }
 }
