@@ -13,6 +13,8 @@ pub enum Fault {
     Script(ScriptError),
     /// The domain has no such action or state as the supplies know.
     Names,
+    /// The mailboxes are not for as many sessions as the script has.
+    Sessions,
     Open(OpenError),
     Memory,
     Output(io::Error),
@@ -26,6 +28,7 @@ impl Fault {
             Fault::Domain(TextFault::Check(error)) => writeln!(errors, "domain: check {error}"),
             Fault::Script(error) => writeln!(errors, "script: {error}"),
             Fault::Names => writeln!(errors, "domain: the supplies know other names"),
+            Fault::Sessions => writeln!(errors, "script: it has other sessions"),
             Fault::Open(OpenError::BadConfig) => writeln!(errors, "too many workers or starts"),
             Fault::Open(OpenError::DeviceCount) => writeln!(errors, "not one device an object"),
             Fault::Output(error) => writeln!(errors, "output: {error}"),

@@ -172,7 +172,7 @@ fn run_over<K: MailNames + Send + Sync, R: Threads + Wait + Copy + Send + Sync, 
         Err((error, _, _, _)) => return Err(Fault::Open(error)),
     };
     if sessions.len() != scripts.len() {
-        return Err(Fault::Names);
+        return Err(Fault::Sessions);
     }
     match run_scripts(&rt, alloc, runtime, sessions, &scripts) {
         Ok((_end, _refused, report)) => tell_report(output, &report).map_err(Fault::Output),
