@@ -7,13 +7,14 @@ ghost use Rattle.smi_board.specs.Turns.{IsOut};
 
 use crate::board::Board;
 use crate::holding::hold_shown;
+use crate::looking::free_all;
 use smi_interp::task::Task;
 use smi_mail::mail::Mail;
 use sml_domain::ids::{ObjId, SetId};
 
 impl<M: Mail> Board<M> {
-    // Puts an object into a set or takes it out, as a task that is out asks for. What is looked at is looked at again,
-    // since names stand for others now. Where memory is wanted the task comes back.
+    // Puts an object into a set or takes it out, as a task that is out asks for. Those that are listed with it are looked
+    // at again, since names may stand for it no more. Out of memory the task comes back.
     pub(crate) fn change(
         &mut self,
         task: Task,
@@ -45,7 +46,7 @@ impl<M: Mail> Board<M> {
         let Ok(()) = hold_shown(&mut self.ledger, o, 1) else {
             return Err(task);
         };
-        self.looked = 0;
+        free_all(&mut self.candidates, &mut self.holders, member);
         if add {
             self.ledger.add_insert(o, member, set, next);
         } else {

@@ -16,7 +16,7 @@ use Rattle.smi_board.specs.Posting.{AreApart, AreJudged, IsPostable, Lists, Parc
 use Rattle.smi_board.specs.Rings.{RingView}
 use Rattle.smi_board.specs.Turns.{IsOut}
 use Rattle.smi_board.proofs.Sent.{judged_long, keeps_sent, parcels_are, parcels_by, parcels_sent_by, posts_of_parcels, sendable_at, targets_there, wants_verdicts}
-use Rattle.smi_board.proofs.StillHeld.{looked_sent}
+use Rattle.smi_board.proofs.StillHeld.{placed_sent}
 use Rattle.smi_board.proofs.board.Board.post_out.Goals as goal
 
 pub make_sending-requires-clause-targets : goal.make_sending-requires-clause-targets
@@ -178,7 +178,7 @@ invariant_of-self-2 g c =
       keeps.all.tasks,
       c.post_all-verdicts.ensures.books ∙ c.in-Ok.ensures.books ∙ c.self.invariant.3,
       c.post_all-verdicts.ensures.domain ∙ c.in-Ok.ensures.domain ∙ c.self.invariant.4,
-      looked_sent d i.looked i.shelf.list i.ledger.journal J2 i.kept.items t.turn.object before after posts vs c.self.invariant.0.legal judged c.self.invariant.5,
+      placed_sent d i.ledger.journal J2 i.kept.items i.candidates.list i.holders t.turn.object before after posts vs c.self.invariant.0.legal judged c.self.invariant.5,
       ap (λ (r : RingView). r.places) c.wake_all.ensures ∙ c.self.invariant.6,
       c.self.invariant.7,
       c.self.invariant.8,

@@ -1,5 +1,5 @@
 -- That there is nobody to post to is noted, and leaves journal and mail tied.
-use Rattle.std.proofs.Common.{arith, ◌≡◌, ◌<◌, ◌++◌, ◌∷◌, ◌∙◌, [], length, ap, subst, sym}
+use Rattle.std.proofs.Common.{◌≡◌, ◌<◌, ◌++◌, ◌∷◌, ◌∙◌, [], length, ap, refl, subst, sym}
 use Rattle.std.specs.Arc.{arc_value}
 use Rattle.sml_domain.specs.Program.{ToMembers}
 use Rattle.sml_domain.specs.Trees.{target}
@@ -12,6 +12,7 @@ use Rattle.smi_interp.specs.Turn.{TurnView}
 use Rattle.smi_board.specs.Boards.{BoardView}
 use Rattle.smi_board.specs.Turns.{IsOut}
 use Rattle.smi_board.proofs.Changed.{keeps_nobody}
+use Rattle.smi_board.proofs.Held.{placed_quiet}
 use Rattle.smi_board.proofs.board.Board.send_nobody.Goals as goal
 
 pub invariant_of-self-in-Members-1 : goal.invariant_of-self-in-Members-1
@@ -34,4 +35,5 @@ invariant_of-self-in-Members-1 g c =
     let longer : c.add_none.new.self.journal ≡ J ++ NoMember t.turn.object set ∷ [] =
     ap (λ (l : LedgerView). l.journal) c.add_none.ensures ∙ ap (λ K. K ++ NoMember o set ∷ []) c.in-Ok.ensures.journal ∙ ap (λ x. J ++ NoMember x set ∷ []) at in
     let keeps = keeps_nobody d t J c.add_none.new.self.journal i.params.items i.kept.items _ _ _ set same c.self.invariant.0 c.self.invariant.1 c.self.invariant.2 within out asks longer in
-    (keeps.tied, keeps.all.runs, keeps.all.tasks, ap (λ (l : LedgerView). l.domain) c.add_none.ensures ∙ c.in-Ok.ensures.books ∙ c.self.invariant.3, c.self.invariant.4, λ x lt. absurd (omega (arith, lt)), c.self.invariant.6, c.self.invariant.7, c.self.invariant.8)
+    let placed = placed_quiet d J c.add_none.new.self.journal i.kept.items i.candidates.list i.holders (NoMember t.turn.object set) longer refl refl (λ x. refl) (λ x. refl) refl c.self.invariant.5 in
+    (keeps.tied, keeps.all.runs, keeps.all.tasks, ap (λ (l : LedgerView). l.domain) c.add_none.ensures ∙ c.in-Ok.ensures.books ∙ c.self.invariant.3, c.self.invariant.4, placed, c.self.invariant.6, c.self.invariant.7, c.self.invariant.8)
