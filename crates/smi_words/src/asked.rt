@@ -49,9 +49,10 @@ impl Asked<'_> {
 
 /// Does what is asked, and gives the exit status.
 ///
-/// A file that is named `-` is `input`, and so are the lines of a manager, which it takes in turn. What the command gives goes to `output`, and a fault line
-/// (docs/FORMATS.md, "Fault lines and exit statuses") to `errors`, and behind it what is advised, where that is asked
-/// for. A fault of `errors` changes nothing, since there is no place left to tell it.
+/// A file that is named `-` is `input`, and so are the lines of a manager, which it takes in turn. What the command
+/// gives goes to `output`, and a fault line (docs/FORMATS.md, "Fault lines and exit statuses") to `errors`, and behind
+/// it what is advised, where that is asked for. A fault of `errors` changes nothing, since there is no place left to
+/// tell it.
 pub fn perform<R: Host + LiveHost, I: Read, W: Write, E: Write>(
     rt: &R,
     asked: &Asked<'_>,
@@ -67,7 +68,8 @@ pub fn perform<R: Host + LiveHost, I: Read, W: Write, E: Write>(
     status
 }
 
-// Does what is asked, and gives the exit status. What is advised goes to the advice.
+// Does what is asked, and gives the exit status. What is advised goes to the advice. Each command is a function of its
+// own, so that this one only tells them apart: as one function it was among the slowest to prove.
 fn perform_advised<R: Host + LiveHost, I: Read, W: Write, E: Write>(
     rt: &R,
     asked: &Asked<'_>,
@@ -79,34 +81,14 @@ fn perform_advised<R: Host + LiveHost, I: Read, W: Write, E: Write>(
     ensures { result ≤ 4 }
 {
     match asked {
-        Asked::Check { files, explain } => {
-            status_of(
-                &run_check(rt, files, *explain, input, output, errors),
-                errors,
-            )
-        }
-        Asked::Print { file, .. } => ended(&run_print(rt, file, input, output, advice), errors),
-        Asked::List(file) => ended(&run_list(rt, file, input, output, advice), errors),
-        Asked::Graph(options) => ended(&run_graph(rt, options, input, output, advice), errors),
-        Asked::Step(options) => {
-            status_of(
-                &run_step(rt, options, input, output, errors, advice),
-                errors,
-            )
-        }
-        Asked::Run(options) => ended(&run_run(rt, options, input, output, errors, advice), errors),
-        Asked::Live(options) => {
-            ended(
-                &run_live(rt, options, input, output, errors, advice),
-                errors,
-            )
-        }
-        Asked::Audit(options) => {
-            status_of(
-                &run_audit(rt, options, input, output, errors, advice),
-                errors,
-            )
-        }
+        Asked::Check { files, explain } => check(rt, files, *explain, input, output, errors),
+        Asked::Print { file, .. } => print(rt, file, input, output, errors, advice),
+        Asked::List(file) => list(rt, file, input, output, errors, advice),
+        Asked::Graph(options) => graph(rt, options, input, output, errors, advice),
+        Asked::Step(options) => step(rt, options, input, output, errors, advice),
+        Asked::Run(options) => run(rt, options, input, output, errors, advice),
+        Asked::Live(options) => live(rt, options, input, output, errors, advice),
+        Asked::Audit(options) => audit(rt, options, input, output, errors, advice),
     }
 }
 
@@ -126,6 +108,126 @@ pub fn perform_live<
     let status = ended(&done, errors);
     advice.tell(errors);
     status
+}
+
+// Checks domain files.
+fn check<R: Host + LiveHost, I: Read, W: Write, E: Write>(
+    rt: &R,
+    files: &[&str],
+    explain: bool,
+    input: &mut I,
+    output: &mut W,
+    errors: &mut E,
+) -> u8
+    ensures { result ≤ 4 }
+{
+    let outcome = run_check(rt, files, explain, input, output, errors);
+    status_of(&outcome, errors)
+}
+
+// Prints the canonical text of a domain file.
+fn print<R: Host + LiveHost, I: Read, W: Write, E: Write>(
+    rt: &R,
+    file: &str,
+    input: &mut I,
+    output: &mut W,
+    errors: &mut E,
+    advice: &mut Advice,
+) -> u8
+    ensures { result ≤ 4 }
+{
+    let outcome = run_print(rt, file, input, output, advice);
+    ended(&outcome, errors)
+}
+
+// Lists what a domain file declares.
+fn list<R: Host + LiveHost, I: Read, W: Write, E: Write>(
+    rt: &R,
+    file: &str,
+    input: &mut I,
+    output: &mut W,
+    errors: &mut E,
+    advice: &mut Advice,
+) -> u8
+    ensures { result ≤ 4 }
+{
+    let outcome = run_list(rt, file, input, output, advice);
+    ended(&outcome, errors)
+}
+
+// Draws a domain, or the run of a journal.
+fn graph<R: Host + LiveHost, I: Read, W: Write, E: Write>(
+    rt: &R,
+    options: &GraphOptions<'_>,
+    input: &mut I,
+    output: &mut W,
+    errors: &mut E,
+    advice: &mut Advice,
+) -> u8
+    ensures { result ≤ 4 }
+{
+    let outcome = run_graph(rt, options, input, output, advice);
+    ended(&outcome, errors)
+}
+
+// Runs a schedule.
+fn step<R: Host + LiveHost, I: Read, W: Write, E: Write>(
+    rt: &R,
+    options: &StepOptions<'_>,
+    input: &mut I,
+    output: &mut W,
+    errors: &mut E,
+    advice: &mut Advice,
+) -> u8
+    ensures { result ≤ 4 }
+{
+    let outcome = run_step(rt, options, input, output, errors, advice);
+    status_of(&outcome, errors)
+}
+
+// Runs a script in threads.
+fn run<R: Host + LiveHost, I: Read, W: Write, E: Write>(
+    rt: &R,
+    options: &RunOptions<'_>,
+    input: &mut I,
+    output: &mut W,
+    errors: &mut E,
+    advice: &mut Advice,
+) -> u8
+    ensures { result ≤ 4 }
+{
+    let outcome = run_run(rt, options, input, output, errors, advice);
+    ended(&outcome, errors)
+}
+
+// Runs a manager over lines that are all there.
+fn live<R: Host + LiveHost, I: Read, W: Write, E: Write>(
+    rt: &R,
+    options: &LiveOptions<'_>,
+    input: &mut I,
+    output: &mut W,
+    errors: &mut E,
+    advice: &mut Advice,
+) -> u8
+    ensures { result ≤ 4 }
+{
+    let outcome = run_live(rt, options, input, output, errors, advice);
+    ended(&outcome, errors)
+}
+
+// Judges a journal.
+fn audit<R: Host + LiveHost, I: Read, W: Write, E: Write>(
+    rt: &R,
+    options: &AuditOptions<'_>,
+    input: &mut I,
+    output: &mut W,
+    errors: &mut E,
+    advice: &mut Advice,
+) -> u8
+    ensures { result ≤ 4 }
+{
+    let outcome = run_audit(rt, options, input, output, errors, advice);
+    status_of(&outcome, errors)
 }
 
 // The status of a command that gives one, or that of its fault, which is told.
