@@ -6,6 +6,8 @@ use smi_advice::bad_entry::explain_bad_entry;
 use smi_advice::bad_header::explain_bad_header;
 use smi_advice::bad_line::{LineKind, explain_bad_line};
 use smi_advice::source_line::SourceLine;
+use smi_entry::entry::Entry;
+use smi_reasons::reasons::tell_reasons;
 use sml_advice::{explain_check, explain_good, explain_read};
 use sml_domain::domain::Domain;
 use sml_text::writing::{Sink, put};
@@ -98,6 +100,15 @@ impl Advice {
                 &mut failed,
             ),
             _ => {}
+        }
+    }
+
+    /// Advises on a run, by its journal: which devices failed, which requests were skipped, and which objects wait, and
+    /// for whom. The cost is that of the entries, and where an object waits that of judging them.
+    pub fn of_run(&mut self, alloc: Global, domain: &Arc<Domain>, entries: &[Entry]) {
+        if self.is_wanted {
+            let mut failed = false;
+            let _ = tell_reasons(alloc, domain, entries, &mut self.text, &mut failed);
         }
     }
 

@@ -18,7 +18,8 @@ use std::io::{Read, Write};
 use std::sync::Arc;
 
 /// Runs the script on the domain, in threads, and writes the summary, and the journal where that is asked for. How far
-/// the run is goes to `errors`, where that is asked for, and what is advised on the domain and the script to `advice`.
+/// the run is goes to `errors`, where that is asked for, and what is advised on the domain, the script and the run to
+/// `advice`.
 ///
 /// A journal with the path of the domain or of the script is refused before anything is read (`Fault::Overwrites`).
 /// The domain is read and checked before the script is opened, and the script is read whole before anything runs. The
@@ -51,7 +52,10 @@ pub fn run_run<'a, R: Host, I: Read, W: Write, E: Write>(
         Err(fault) => return Err(fault),
     };
     match run_told(rt, &domain, plan, options, errors) {
-        Ok(outcome) => tell_outcome(rt, &domain, options.journal, &outcome, output),
+        Ok(outcome) => {
+            advice.of_run(rt.alloc(), &domain, outcome.journal.entries());
+            tell_outcome(rt, &domain, options.journal, &outcome, output)
+        }
         Err(RunError::BadConfig) => Err(Fault::WrongRunNumbers),
         Err(RunError::DeviceCount) => unreachable!(),
         Err(RunError::Memory) => Err(Fault::Memory),

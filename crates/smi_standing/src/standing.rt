@@ -3,14 +3,12 @@
 use smi_advice::history::History;
 use smi_audit::past::{Past, PastError};
 use smi_core::Core;
-use smi_follower::follower::Expected;
-use smi_interp::expanding::objects_of;
 use smi_journal::call_text::{tell_object, tell_value};
 use smi_journal::journal_text::write_journal;
 use smi_journal::read::read_journal;
+use smi_reasons::awaited::tell_awaited;
 use sml_domain::domain::Domain;
 use sml_domain::ids::{ActionId, ObjId, SetId};
-use sml_domain::instr::Asked;
 use sml_domain::rows::Group;
 use sml_text::decimal::tell_u64;
 use sml_text::writing::{Sink, tell};
@@ -61,57 +59,6 @@ fn tell_params<W: Sink>(writer: &mut W, failed: &mut bool, core: &Core) {
     }
 }
 
-// Whether names stand for an object now.
-fn are_for(past: &Past, names: &[Asked], o: ObjId) -> bool {
-    let books = past.books();
-    names.iter().any(|name| objects_of(books.domain(), books.sets(), name).contains(&o))
-}
-
-// Those of the objects for which a name stands that are not clear for an object, and for which no earlier name stands.
-// The word stands before the first of all.
-fn tell_busy_of<W: Sink>(
-    writer: &mut W,
-    failed: &mut bool,
-    past: &Past,
-    o: ObjId,
-    before: &[Asked],
-    name: &Asked,
-    is_first: bool,
-) -> bool {
-    let books = past.books();
-    let domain = books.domain();
-    let mut is_first = is_first;
-    for busy in objects_of(domain, books.sets(), name) {
-        let is_busy = domain.has(o) && domain.has(*busy) && !books.is_clear(o, *busy);
-        if is_busy && !are_for(past, before, *busy) {
-            if is_first {
-                tell(writer, failed, b" waits");
-                is_first = false;
-            }
-            tell_object(writer, failed, domain, *busy);
-        }
-    }
-    is_first
-}
-
-// The objects for which the open action of an object waits, each once, by the members that sets have now.
-fn tell_busy<W: Sink>(writer: &mut W, failed: &mut bool, past: &Past, o: ObjId, names: &[Asked]) {
-    let mut is_first = true;
-    for (place, name) in names.iter().enumerate() {
-        let before = &names[..place];
-        is_first = tell_busy_of(writer, failed, past, o, before, name, is_first);
-    }
-}
-
-// What the open action of an object waits for.
-fn tell_awaited<W: Sink>(writer: &mut W, failed: &mut bool, past: &Past, o: ObjId) {
-    if past.books().domain().has(o) {
-        if let Some(Expected::Read(names)) = past.next(o) {
-            tell_busy(writer, failed, past, o, names.list());
-        }
-    }
-}
-
 // The action that is open at an object, and what it waits for.
 fn tell_open_at<W: Sink>(
     writer: &mut W,
@@ -131,7 +78,7 @@ fn tell_open_at<W: Sink>(
     if domain.associated(o) {
         tell(writer, failed, b" waits device");
     } else if let Some(past) = past {
-        tell_awaited(writer, failed, past, o);
+        tell_awaited(writer, failed, past, b" waits", o);
     }
     tell(writer, failed, b"\n");
 }

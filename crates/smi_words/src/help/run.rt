@@ -97,7 +97,9 @@ says that a session was told of a kill which the journal does not have; it is a 
 
 With `--explain` standard error has why a text or a line of SCRIPT is refused: the place as FILE:LINE:COLUMN, both
 counted from 1, one sentence, the line and a caret under the place; and behind the summary the same for the
-requests and kills that the domain refuses whenever they come, up to twenty.
+requests and kills that the domain refuses whenever they come. Then it has what went wrong in the run: devices
+that failed, and at what; requests that were skipped, and in which state; objects that wait at its end, and for
+whom; of each up to twenty.
 
 SCRIPT is kept while the run goes on, and so are the journal, some 100 to 150 bytes an entry, and what each
 session was told is accepted.
