@@ -12,15 +12,15 @@ class: DESK
   parameters: int N = 1
   state: S
     action: OPEN
-      insert M2 in CLUB
-      insert M1 in CLUB
-      insert M2 in CLUB
+      insert BERT in CLUB
+      insert ANNA in CLUB
+      insert BERT in CLUB
     action: INVITE
       insert G in CLUB
     action: CLOSE
-      remove M1 from CLUB
+      remove ANNA from CLUB
       remove G from CLUB
-      remove M1 from CLUB
+      remove ANNA from CLUB
     action: TELL
       set N = 2
       do NOTE (V = N) all_in CLUB
@@ -37,11 +37,11 @@ class: SELF
       remove X from OWN
       move_to T
   state: T
-object: M1 is_of_class MEMBER
-object: M2 is_of_class MEMBER
+object: ANNA is_of_class MEMBER
+object: BERT is_of_class MEMBER
 object: G is_of_class GUEST
-object: D1 is_of_class DESK
-object: D2 is_of_class DESK
+object: FRONT is_of_class DESK
+object: BACK is_of_class DESK
 object: X is_of_class SELF
-objectset: CLUB { M1 }
+objectset: CLUB { ANNA }
 objectset: OWN { }
