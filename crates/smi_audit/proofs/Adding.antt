@@ -7,31 +7,31 @@ use Rattle.sml_domain.specs.declared.value.Value.{Value}
 use Rattle.sml_domain.specs.Domain.{Domain}
 use Rattle.sml_domain.specs.Lookups.{associated_at}
 use Rattle.sml_domain.specs.Truth.{Reading}
-use Rattle.smi_entry.specs.declared.letter.Letter.{Letter}
-use Rattle.smi_entry.specs.declared.entry.Verdict.{Verdict}
-use Rattle.smi_entry.specs.declared.entry.ActionEnd.TheVariants.{State, Skipped}
-use Rattle.smi_entry.specs.declared.entry.Cause.{Cause}
-use Rattle.smi_entry.specs.declared.entry.Entry.{Entry}
-use Rattle.smi_entry.specs.declared.entry.Entry.TheVariants.{Start, Post, Wait, Seen, End, Kill, Insert, Remove, NoMember}
-use Rattle.smi_entry.specs.declared.journal.Format.{Format}
-use Rattle.smi_entry.specs.declared.journal.Format.TheVariants.{One, Two}
-use Rattle.smi_entry.specs.Sets.{Sets, AreOf, sets_after, unchanged}
-use Rattle.smi_entry.specs.Words.{Item, Sent, HadNone, Saw, Turned, object_of, start_of, state_of}
-use Rattle.smi_entry.specs.Laws.{BeginDeclared}
-use Rattle.smi_entry.proofs.OneMore.{sets_more}
+use Rattle.smi_journal_entries.specs.declared.letter.Letter.{Letter}
+use Rattle.smi_journal_entries.specs.declared.entry.Verdict.{Verdict}
+use Rattle.smi_journal_entries.specs.declared.entry.ActionEnd.TheVariants.{State, Skipped}
+use Rattle.smi_journal_entries.specs.declared.entry.Cause.{Cause}
+use Rattle.smi_journal_entries.specs.declared.entry.Entry.{Entry}
+use Rattle.smi_journal_entries.specs.declared.entry.Entry.TheVariants.{Start, Post, Wait, Seen, End, Kill, Insert, Remove, NoMember}
+use Rattle.smi_journal_entries.specs.declared.journal.Format.{Format}
+use Rattle.smi_journal_entries.specs.declared.journal.Format.TheVariants.{One, Two}
+use Rattle.smi_journal_entries.specs.Sets.{Sets, AreOf, sets_after, unchanged}
+use Rattle.smi_journal_entries.specs.Words.{Item, Sent, HadNone, Saw, Turned, object_of, start_of, state_of}
+use Rattle.smi_journal_entries.specs.Laws.{BeginDeclared}
+use Rattle.smi_journal_entries.proofs.OneMore.{sets_more}
 use Rattle.smi_meaning.specs.Legal.{MayFollow}
 use Rattle.smi_meaning.specs.Quiet.{AreDeclared}
-use Rattle.smi_follower.specs.Following.{FollowerView, MayTell, with_item}
-use Rattle.smi_follower.specs.Laws.{IsFollowed, EndsLeave}
+use Rattle.smi_audit_follower.specs.Following.{FollowerView, MayTell, with_item}
+use Rattle.smi_audit_follower.specs.Laws.{IsFollowed, EndsLeave}
 use Rattle.smi_audit.specs.declared.judge.Judge.{Judge}
 use Rattle.smi_audit.specs.Views.{TrackView}
 use Rattle.smi_audit.specs.Tracks.{IsFollowing, IsTracked, AreTracked, track_at, begins_in, calls_with, Shows, EndsNow}
-use Rattle.smi_audit.specs.Judges.{Adds, IsEntryOf, IsKept}
+use Rattle.smi_audit.specs.Judges.{JudgeAdds, IsEntryOf, JudgeIsKept}
 use Rattle.smi_audit.proofs.Tracked.{tracked_set, tracked_start, tracked_post, tracked_seen, tracked_none, tracked_insert, tracked_remove, tracked_skip, tracked_device, tracked_end, tracked_kill, tracked_as}
 use Rattle.smi_audit.proofs.Followed.{shows_true}
 
 -- the track of an object of the domain
-pub track_of : (j : Judge) (o : ℕ) → o < length j.books.domain.objects → IsKept j
+pub track_of : (j : Judge) (o : ℕ) → o < length j.books.domain.objects → JudgeIsKept j
     → IsTracked j.format j.books.domain j.books.journal o (track_at j.tracks.items o)
 track_of j o lt h = h.tracked.each o lt
 
@@ -52,10 +52,10 @@ tells_more One d J (NoMember x set) h t = absurd h
 -- what is kept, of what is equal
 kept_as : (old new : Judge) (J : List Entry) → arc_value new.domain ≡ arc_value old.domain
     → new.declared ≡ old.declared → new.format ≡ old.format → new.books.domain ≡ old.books.domain
-    → new.books.journal ≡ J → IsKept old
+    → new.books.journal ≡ J → JudgeIsKept old
     → AreTracked old.format old.books.domain J new.tracks.items
     → All (IsEntryOf (length old.books.domain.objects)) J
-    → MayTell old.format old.books.domain (sets_after old.books.domain J) → IsKept new
+    → MayTell old.format old.books.domain (sets_after old.books.domain J) → JudgeIsKept new
 kept_as old new J arc declared format domain journal h tracks there tells = record {
   domain = domain ∙ h.domain ∙ sym arc;
   tracked = tracked_as old.format new.format old.books.domain new.books.domain J new.books.journal
@@ -71,11 +71,11 @@ kept_as old new J arc declared format domain journal h tracks there tells = reco
 
 -- a judge whose books and tracks have the entry
 pub adds : (old new : Judge) (e : Entry) → arc_value new.domain ≡ arc_value old.domain
-    → new.declared ≡ old.declared → new.format ≡ old.format → IsKept old
+    → new.declared ≡ old.declared → new.format ≡ old.format → JudgeIsKept old
     → object_of e < length old.books.domain.objects
     → MayFollow old.format old.books.domain old.books.journal e → new.books.domain ≡ old.books.domain
     → new.books.journal ≡ old.books.journal ++ e ∷ []
-    → AreTracked old.format old.books.domain (old.books.journal ++ e ∷ []) new.tracks.items → Adds old new e
+    → AreTracked old.format old.books.domain (old.books.journal ++ e ∷ []) new.tracks.items → JudgeAdds old new e
 adds old new e arc declared format h lt legal domain journal tracks =
     let n = length old.books.domain.objects in
     let there : All (IsEntryOf n) (old.books.journal ++ e ∷ []) =
@@ -100,7 +100,7 @@ first_tells law Two d = tt
 pub first_kept : BeginDeclared → (j : Judge) (d : Domain) (sets : Sets)
     → ((format : Format) → AreTracked format d [] j.tracks.items) → j.books.domain ≡ d → arc_value j.domain ≡ d
     → j.books.journal ≡ [] → j.declared ≡ sets
-    → sets ≡ sets_after j.books.domain j.books.journal → AreOf j.books.domain sets → IsKept j
+    → sets ≡ sets_after j.books.domain j.books.journal → AreOf j.books.domain sets → JudgeIsKept j
 first_kept law j d sets tracks domain arc journal declared is are =
     let begin : sets ≡ unchanged j.books.domain = is ∙ ap (sets_after j.books.domain) journal in
     record {

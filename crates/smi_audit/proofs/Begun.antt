@@ -1,33 +1,33 @@
--- What is followed is within a send exactly where one of its posts is expected next.
+-- What is followed is within a send exactly if one of its posts is expected next.
 use Rattle.std.proofs.Common.{◌≡◌, ◌∙◌, ℕ, ◌+◌, Bool, List, [], ◌∷◌, ◌++◌, length, map, refl, sym, ap, subst, inl, inr, arith, append_assoc, length-append, Option, Some, None}
 use Rattle.std.specs.Prelude.{◌⊎◌}
 use Rattle.std.proofs.lemmas.List.{length-map, map-append}
 use Rattle.sml_domain.specs.declared.value.Value.{Value}
-use Rattle.sml_domain.specs.Program.{Asked, Target, ToOne, ToMembers, Program, Nothing, SetThen, SendThen, SendNoneThen, IfThen, EndIn, TerminateIn, WaitThen, ChangeThen}
+use Rattle.sml_domain.specs.Program.{Subject, Target, ToOne, ToMembers, Program, Nothing, SetThen, SendThen, SendNoneThen, IfThen, EndIn, TerminateIn, WaitThen, ChangeThen}
 use Rattle.sml_domain.specs.Domain.{Domain}
-use Rattle.smi_entry.specs.declared.entry.Entry.{Entry}
-use Rattle.smi_entry.specs.declared.entry.Verdict.TheVariants.{Dead}
-use Rattle.smi_entry.specs.declared.journal.Format.TheVariants.{Two}
-use Rattle.smi_entry.specs.Sets.{Sets, members_in}
-use Rattle.smi_entry.specs.Words.{Item, Sent, HadNone, Saw, Turned, shown_of}
+use Rattle.smi_journal_entries.specs.declared.entry.Entry.{Entry}
+use Rattle.smi_journal_entries.specs.declared.entry.Verdict.TheVariants.{Dead}
+use Rattle.smi_journal_entries.specs.declared.journal.Format.TheVariants.{Two}
+use Rattle.smi_journal_entries.specs.Sets.{Sets, members_in}
+use Rattle.smi_journal_entries.specs.Words.{Item, Sent, HadNone, Saw, Turned, shown_of}
 use Rattle.smi_meaning.specs.Items.{Post, Posted, Sending, item_of, sent_shown}
 use Rattle.smi_meaning.specs.Environment.{Env}
 use Rattle.smi_meaning.specs.Meaning.{Move, DidSet, DidSend, DidRead, DidChange, Means, Wanted, post_of, post_to, wanted}
 use Rattle.smi_meaning.specs.Steps.{After}
 use Rattle.smi_meaning.specs.Shown.{items_of, shown_moves, sets_of, question_in, AreSame, Question, ToPost, ToChange}
 use Rattle.smi_meaning.specs.Laws.{ComesNext, LeadsTo}
-use Rattle.smi_meaning.specs.Legal.{ShowsNext, BlockEnds, IsWithin}
+use Rattle.smi_meaning.specs.Legal.{ShowsNext, BlockEnds, PostIsWithin}
 use Rattle.smi_meaning.specs.Params.{env_of}
 use Rattle.smi_meaning.proofs.Blocks.{first, leads_to}
 use Rattle.smi_meaning.proofs.Showing.{nobody_shown}
 use Rattle.smi_meaning.proofs.Journals.{next_is_legal, legal_is_next, done_or_shows}
 use Rattle.smi_meaning.proofs.Within.{same_count}
 use Rattle.smi_interp.specs.Expanded.{posts_in}
-use Rattle.smi_follower.specs.declared.follower.Expected.{Expected}
-use Rattle.smi_follower.specs.declared.follower.Expected.TheVariants as expected
-use Rattle.smi_follower.specs.Expecting.{PostsNext, SendsNext, ReadsNext, send_question}
-use Rattle.smi_follower.specs.Following.{FollowerView, Asks, MayShow, MayTell, MayEnd}
-use Rattle.smi_follower.specs.Laws.{IsFollowed, ShownIsLegal, EndIsLegal}
+use Rattle.smi_audit_follower.specs.declared.follower.Expected.{Expected}
+use Rattle.smi_audit_follower.specs.declared.follower.Expected.TheVariants as expected
+use Rattle.smi_audit_follower.specs.Expecting.{PostsNext, SendsNext, FollowerReadsNext, send_question}
+use Rattle.smi_audit_follower.specs.Following.{FollowerView, Asks, MayShow, MayTell, FollowerMayEnd}
+use Rattle.smi_audit_follower.specs.Laws.{IsFollowed, ShownIsLegal, EndIsLegal}
 use Rattle.smi_audit.specs.Pasts.{TrackShows}
 use Rattle.smi_audit.specs.Splitting.{IsNextPost, post_expected}
 
@@ -37,7 +37,7 @@ nothing : (xs : List Item) (x : Item) (ys : List Item) → [] ≡ xs ++ x ∷ ys
 nothing [] x ys e = absurd (cc e)
 nothing (z ∷ xs) x ys e = absurd (cc e)
 
--- an item of two lists together stands in the first, or in the second
+-- an item of two lists together is in the first, or in the second
 abbrev Stands : List Item → List Item → List Item → Item → List Item → Type 0
 Stands front back xs x ys =
     ((after : List Item) × (front ≡ xs ++ x ∷ after)) ⊎ ((zs : List Item) × (xs ≡ front ++ zs) × (back ≡ zs ++ x ∷ ys))
@@ -277,7 +277,7 @@ sets_are sets other q p e = cc e
 
 -- where posts of this request go by these members alone, the send is begun
 within_of : ShownIsLegal → (d : Domain) (J : List Entry) (o : ℕ) (f : FollowerView) (p : Post)
-    → IsFollowed Two d J o f → PostsNext f p → IsWithin d J o p
+    → IsFollowed Two d J o f → PostsNext f p → PostIsWithin d J o p
 within_of law d J o f p h n = go at.before refl
   where
     sets : Sets
@@ -315,7 +315,7 @@ within_of law d J o f p h n = go at.before refl
         let same : others sets ≡ sets = cc both in
         are_others sets same
 
-    begun : (z : Item) (zs : List Item) → at.before ≡ z ∷ zs → IsWithin d J o p
+    begun : (z : Item) (zs : List Item) → at.before ≡ z ∷ zs → PostIsWithin d J o p
     begun z zs some =
         let s = in_send at.move z zs item at.after (at.items ∙ ap (λ l. l ++ item ∷ at.after) some) in
         let same : s.sending.sets ≡ sets = sets_are s.sending.sets sets s.one p s.item in
@@ -341,14 +341,14 @@ within_of law d J o f p h n = go at.before refl
           is = post_is s.sending.sets sets s.one p s.item;
         }
 
-    go : (l : List Item) → at.before ≡ l → IsWithin d J o p
+    go : (l : List Item) → at.before ≡ l → PostIsWithin d J o p
     go [] none = absurd (fresh none)
     go (z ∷ zs) some = begun z zs some
 
 -- ---- nothing else is expected within a send
 
 -- the next post of a send may be shown
-within_shows : (d : Domain) (J : List Entry) (o : ℕ) (p : Post) → (w : IsWithin d J o p)
+within_shows : (d : Domain) (J : List Entry) (o : ℕ) (p : Post) → (w : PostIsWithin d J o p)
     → ShowsNext Two d J o (item_of w.sending.sets w.one)
 within_shows d J o p w =
     let k = w.sending.sets in
@@ -360,7 +360,7 @@ within_shows d J o p w =
     w.after items w.shown
 
 -- and what is shown next goes by the members of the send
-within_by : (d : Domain) (J : List Entry) (o : ℕ) (p : Post) (w : IsWithin d J o p) (item : Item)
+within_by : (d : Domain) (J : List Entry) (o : ℕ) (p : Post) (w : PostIsWithin d J o p) (item : Item)
     → ShowsNext Two d J o item → sets_of item ≡ Some w.sending.sets
 within_by d J o p w item s = go (stands_in (items_of next.0) (shown_moves comes.rest) before item next.1 comes.shown)
   where
@@ -412,7 +412,7 @@ two_told f sets is = subst (λ x. MayTell x f.domain sets) (sym is) tt
 
 -- where a send is expected, it is not begun
 not_sends : ShownIsLegal → (d : Domain) (J : List Entry) (o : ℕ) (f : FollowerView) (p : Post) (sent : Wanted)
-    → IsFollowed Two d J o f → SendsNext f sent → IsWithin d J o p → ⊥
+    → IsFollowed Two d J o f → SendsNext f sent → PostIsWithin d J o p → ⊥
 not_sends law d J o f p sent h sends w =
     let sets : Sets = others w.sending.sets in
     let n = sends sets (two_told f sets h.format_is) in
@@ -425,13 +425,13 @@ not_sends law d J o f p sent h sends w =
 -- nor is any where something else is asked
 not_asks : ShownIsLegal → (d : Domain) (J : List Entry) (o : ℕ) (f : FollowerView) (p : Post) (q : Question)
     → ((post : Post) → ToPost post ≡ q → ⊥) → IsFollowed Two d J o f → ((sets : Sets) → Asks f sets q)
-    → IsWithin d J o p → ⊥
+    → PostIsWithin d J o p → ⊥
 not_asks law d J o f p q apart h asks w =
     let x : Item = item_of w.sending.sets w.one in
     apart w.one.post ((asks w.sending.sets x refl).0 ((law Two d J o f x h).0 (within_shows d J o p w)))
 
-not_reads : ShownIsLegal → (d : Domain) (J : List Entry) (o : ℕ) (f : FollowerView) (p : Post) (names : List Asked)
-    → IsFollowed Two d J o f → ReadsNext f names → IsWithin d J o p → ⊥
+not_reads : ShownIsLegal → (d : Domain) (J : List Entry) (o : ℕ) (f : FollowerView) (p : Post) (names : List Subject)
+    → IsFollowed Two d J o f → FollowerReadsNext f names → PostIsWithin d J o p → ⊥
 not_reads law d J o f p names h reads w =
     let sets : Sets = w.sending.sets in
     let x : Item = item_of sets w.one in
@@ -439,7 +439,7 @@ not_reads law d J o f p names h reads w =
     absurd (cc e)
 
 not_ends : EndIsLegal → (d : Domain) (J : List Entry) (o : ℕ) (f : FollowerView) (p : Post) (s : ℕ)
-    → IsFollowed Two d J o f → MayEnd f s → IsWithin d J o p → ⊥
+    → IsFollowed Two d J o f → FollowerMayEnd f s → PostIsWithin d J o p → ⊥
 not_ends law d J o f p s h ends w =
     let b : BlockEnds Two d J o s = (law Two d J o f s h).1 ends in
     done_or_shows Two d J o b.own b.env2 b.outcome (item_of w.sending.sets w.one) b.params b.done

@@ -6,28 +6,28 @@ use Rattle.sml_domain.specs.declared.value.Value.{Value}
 use Rattle.sml_domain.specs.Domain.{Domain}
 use Rattle.sml_domain.specs.Lookups.{associated_at, is_state_of}
 use Rattle.sml_domain.specs.Truth.{Reading}
-use Rattle.smi_entry.specs.declared.entry.Verdict.{Verdict}
-use Rattle.smi_entry.specs.declared.entry.Sender.{Sender}
-use Rattle.smi_entry.specs.declared.entry.Sender.TheVariants.{Operator, Object}
-use Rattle.smi_entry.specs.declared.entry.ActionEnd.{ActionEnd}
-use Rattle.smi_entry.specs.declared.entry.ActionEnd.TheVariants.{State}
-use Rattle.smi_entry.specs.declared.entry.Cause.{Cause}
-use Rattle.smi_entry.specs.declared.entry.Entry.{Entry}
-use Rattle.smi_entry.specs.declared.entry.Entry.TheVariants.{Start, Post, Wait, Seen, End, Kill, Insert, Remove, NoMember}
-use Rattle.smi_entry.specs.declared.journal.Format.{Format}
-use Rattle.smi_entry.specs.declared.journal.Format.TheVariants.{One, Two}
-use Rattle.smi_entry.specs.declared.letter.Letter.{Letter}
-use Rattle.smi_entry.specs.Fits.{are_arguments}
-use Rattle.smi_entry.specs.Requests.{from_sender}
-use Rattle.smi_entry.specs.Sets.{sets_after}
-use Rattle.smi_entry.specs.Words.{Sent, HadNone, Saw, Turned, starts_at, posts_between, open_at, is_open, is_killed}
+use Rattle.smi_journal_entries.specs.declared.entry.Verdict.{Verdict}
+use Rattle.smi_journal_entries.specs.declared.entry.Sender.{Sender}
+use Rattle.smi_journal_entries.specs.declared.entry.Sender.TheVariants.{Operator, Object}
+use Rattle.smi_journal_entries.specs.declared.entry.ActionEnd.{ActionEnd}
+use Rattle.smi_journal_entries.specs.declared.entry.ActionEnd.TheVariants.{State}
+use Rattle.smi_journal_entries.specs.declared.entry.Cause.{Cause}
+use Rattle.smi_journal_entries.specs.declared.entry.Entry.{Entry}
+use Rattle.smi_journal_entries.specs.declared.entry.Entry.TheVariants.{Start, Post, Wait, Seen, End, Kill, Insert, Remove, NoMember}
+use Rattle.smi_journal_entries.specs.declared.journal.Format.{Format}
+use Rattle.smi_journal_entries.specs.declared.journal.Format.TheVariants.{One, Two}
+use Rattle.smi_journal_entries.specs.declared.letter.Letter.{Letter}
+use Rattle.smi_journal_entries.specs.Fits.{are_arguments}
+use Rattle.smi_journal_entries.specs.Requests.{from_sender}
+use Rattle.smi_journal_entries.specs.Sets.{sets_after}
+use Rattle.smi_journal_entries.specs.Words.{Sent, HadNone, Saw, Turned, starts_at, posts_between, open_at, is_open, is_killed}
 use Rattle.smi_meaning.specs.Environment.{ArgumentsAre}
 use Rattle.smi_meaning.specs.Legal.{ShowsNext, is_clear_for, WaitsToRead, BlockEnds, InTwo, MayFollow, MayKill}
 use Rattle.smi_meaning.specs.Params.{Running, running_at}
-use Rattle.smi_rules.specs.declared.rule.Rule.TheVariants as rule
-use Rattle.smi_rules.specs.Rules.{TellsTheDead, HasNumber, ReadsNext, IsStateNow, EndMeans, EndsInState}
+use Rattle.smi_audit_rules.specs.declared.rule.Rule.TheVariants as rule
+use Rattle.smi_audit_rules.specs.Rules.{TellsTheDead, VerdictHasNumber, ObjectReadsNext, IsStateNow, EndMeans, EndsInState}
 use Rattle.smi_meaning.proofs.Tested.{arguments_are_tested}
-use Rattle.smi_rules.proofs.Kept.{own_out}
+use Rattle.smi_audit_rules.proofs.Kept.{own_out}
 use Rattle.smi_audit.specs.Judges.{BreaksOwn}
 use Rattle.smi_audit.specs.Splitting.{is_two}
 
@@ -101,13 +101,13 @@ post_not_dead format d J o t a v args k s h = inr (k, inr (s, inl (refl, h)))
 
 pub post_number : (format : Format) (d : Domain) (J : List Entry) (o t a : ℕ) (v : Verdict) (args : List Value)
     → is_open o J ≡ true → ShowsNext format d J o (Sent (sets_after d J) t v a args)
-    → TellsTheDead (is_killed t J) v → (HasNumber (length (posts_between o t J)) v → ⊥)
+    → TellsTheDead (is_killed t J) v → (VerdictHasNumber (length (posts_between o t J)) v → ⊥)
     → BreaksOwn format d J (Post o t v a args) rule.Number
 post_number format d J o t a v args k s e h = inr (k, inr (s, inr (e, inl (refl, h))))
 
 pub post_good : (format : Format) (d : Domain) (J : List Entry) (o t a : ℕ) (v : Verdict) (args : List Value)
     → is_open o J ≡ true → ShowsNext format d J o (Sent (sets_after d J) t v a args)
-    → TellsTheDead (is_killed t J) v → HasNumber (length (posts_between o t J)) v
+    → TellsTheDead (is_killed t J) v → VerdictHasNumber (length (posts_between o t J)) v
     → MayFollow format d J (Post o t v a args)
 post_good format d J o t a v args k s e h = own_out format d J (Post o t v a args) (k, (s, (e, (h, tt))))
 
@@ -118,11 +118,11 @@ pub wait_closed : (format : Format) (d : Domain) (J : List Entry) (o : ℕ) → 
 wait_closed format d J o h = inl (refl, λ k. differ (is_open o J) k h)
 
 pub wait_not_meant : (format : Format) (d : Domain) (J : List Entry) (o : ℕ) → is_open o J ≡ true
-    → (ReadsNext format d J o → ⊥) → BreaksOwn format d J (Wait o) rule.Meaning
+    → (ObjectReadsNext format d J o → ⊥) → BreaksOwn format d J (Wait o) rule.Meaning
 wait_not_meant format d J o k h = inr (k, inl (refl, h))
 
 pub wait_clear : (format : Format) (d : Domain) (J : List Entry) (o : ℕ) → is_open o J ≡ true
-    → ReadsNext format d J o → (WaitsToRead format d J o → ⊥) → BreaksOwn format d J (Wait o) rule.Clear
+    → ObjectReadsNext format d J o → (WaitsToRead format d J o → ⊥) → BreaksOwn format d J (Wait o) rule.Clear
 wait_clear format d J o k r h = inr (k, inr (r, inl (refl, h)))
 
 pub seen_closed : (format : Format) (d : Domain) (J : List Entry) (o : ℕ) (rs : List Reading) → is_open o J ≡ false

@@ -3,19 +3,19 @@ use Rattle.std.proofs.Common.{◌≡◌, ◌≢◌, ℕ, Bool, true, false, List
 use Rattle.std.specs.Prelude.{◌↔◌, All, IsSomeAnd, is_some, option_map, MatchBool}
 use Rattle.std.specs.Option.{option_and_then}
 use Rattle.sml_domain.specs.declared.value.Value.{Value}
-use Rattle.sml_domain.specs.Program.{Asked, Target, ToOne, ToMembers, Program, Nothing, SetThen, SendThen, SendNoneThen, IfThen, EndIn, TerminateIn, WaitThen, ChangeThen}
+use Rattle.sml_domain.specs.Program.{Subject, Target, ToOne, ToMembers, Program, Nothing, SetThen, SendThen, SendNoneThen, IfThen, EndIn, TerminateIn, WaitThen, ChangeThen}
 use Rattle.sml_domain.specs.Domain.{Domain, Class, Param, Signature}
 use Rattle.sml_domain.specs.Fits.{ProgramFits}
 use Rattle.sml_domain.specs.Lookups.{associated_at, block_at, class_at, signature_in, tree_of_block}
 use Rattle.sml_domain.specs.Sound.{IsObject, IsSound, FitsClass, TakesParams}
 use Rattle.sml_domain.specs.Truth.{Reading}
 use Rattle.sml_domain.proofs.Ranges.{class_fits, this_block_fits}
-use Rattle.smi_entry.specs.declared.letter.Letter.{Letter}
-use Rattle.smi_entry.specs.declared.entry.Entry.{Entry}
-use Rattle.smi_entry.specs.declared.entry.ActionEnd.TheVariants.{State}
-use Rattle.smi_entry.specs.declared.journal.Format.{Format}
-use Rattle.smi_entry.specs.Sets.{Sets, AreOf, members_in, sets_after}
-use Rattle.smi_entry.specs.Words.{Item, Sent, HadNone, Saw, Turned, open_at, shown_of, state_of}
+use Rattle.smi_journal_entries.specs.declared.letter.Letter.{Letter}
+use Rattle.smi_journal_entries.specs.declared.entry.Entry.{Entry}
+use Rattle.smi_journal_entries.specs.declared.entry.ActionEnd.TheVariants.{State}
+use Rattle.smi_journal_entries.specs.declared.journal.Format.{Format}
+use Rattle.smi_journal_entries.specs.Sets.{Sets, AreOf, members_in, sets_after}
+use Rattle.smi_journal_entries.specs.Words.{Item, Sent, HadNone, Saw, Turned, open_at, shown_of, state_of}
 use Rattle.smi_meaning.specs.Items.{Posted, item_of, sent_shown}
 use Rattle.smi_meaning.specs.Conditions.{object_read, is_true_over}
 use Rattle.smi_meaning.specs.Environment.{Env, value_of, with_set}
@@ -25,19 +25,19 @@ use Rattle.smi_meaning.specs.LegalLaws.{DoneOnce, ParamsAreOne}
 use Rattle.smi_meaning.specs.Meaning.{Move, Outcome, Through, To, Means, Goes, state_left}
 use Rattle.smi_meaning.specs.Params.{Running, run_with, running_in, running_at, env_of, IsDone}
 use Rattle.smi_meaning.specs.Shown.{shown_moves, ToRead}
-use Rattle.smi_meaning.specs.Quiet.{said_in}
+use Rattle.smi_meaning.specs.Quiet.{said_of_block}
 use Rattle.smi_meaning.proofs.Silence.{said_fits}
 use Rattle.smi_meaning.proofs.There.{AreThere, objects_there, objects_named_there}
 use Rattle.smi_meaning.proofs.Picked.{on_branch, same_some}
 use Rattle.smi_meaning.proofs.Showing.{shown-append}
-use Rattle.smi_rules.specs.Rules.{ReadsNext as ReadsSome, EndMeans}
+use Rattle.smi_audit_rules.specs.Rules.{ObjectReadsNext as ReadsSome, EndMeans}
 use Rattle.smi_interp.specs.Expanded.{objects_by_names}
-use Rattle.smi_follower.specs.Expecting.{ReadsNext as ReadsNamed}
-use Rattle.smi_follower.specs.Following.{FollowerView, Asks, MayTell}
-use Rattle.smi_follower.specs.Laws.{IsFollowed, ShownIsLegal, WaitIsLegal, EndIsLegal}
+use Rattle.smi_audit_follower.specs.Expecting.{FollowerReadsNext as ReadsNamed}
+use Rattle.smi_audit_follower.specs.Following.{FollowerView, Asks, MayTell}
+use Rattle.smi_audit_follower.specs.Laws.{IsFollowed, ShownIsLegal, WaitIsLegal, EndIsLegal}
 use Rattle.smi_audit.specs.declared.calls.Call.{Call}
 use Rattle.smi_audit.specs.Views.{TrackView}
-use Rattle.smi_audit.specs.Tracks.{IsFollowing, IsTracked, MayBeTold, CannotShow, GoesOn, Shows, ReadsNext, CannotRead, CannotEnd, EndsNow}
+use Rattle.smi_audit.specs.Tracks.{IsFollowing, IsTracked, MayBeTold, CannotShow, TrackGoesOn, Shows, TrackReadsNext, CannotRead, CannotEnd, EndsNow}
 
 -- ---- what may be shown
 
@@ -47,7 +47,7 @@ follows : (format : Format) (d : Domain) (J : List Entry) (o : ℕ) (was : Optio
 follows format d J o was f is h = subst (IsFollowing format d J o) is h
 
 pub shows_true : (was now : TrackView) (item : Item) (calls : List (List Call)) (b : Bool) → b ≡ true
-    → Shows was now item calls b → GoesOn was now item calls
+    → Shows was now item calls b → TrackGoesOn was now item calls
 shows_true was now item calls true e h = h
 shows_true was now item calls false e h = absurd (cc)
 
@@ -135,13 +135,13 @@ pub not_read : ShownIsLegal → (format : Format) (d : Domain) (J : List Entry) 
 not_read law format d J o t m h c s = cannot_read law format d J o t.follower m h.follows c s
 
 -- the follower that reads next
-reading : (was : Option FollowerView) (names : List Asked) → ReadsNext was names → (f : FollowerView)
+reading : (was : Option FollowerView) (names : List Subject) → TrackReadsNext was names → (f : FollowerView)
     × (was ≡ Some f) × ReadsNamed f names
 reading None names h = absurd h
 reading (Some f) names h = (f, refl, h)
 
 -- the objects that it asks for
-asks_for : (format : Format) (d : Domain) (J : List Entry) (o : ℕ) (f : FollowerView) (names : List Asked)
+asks_for : (format : Format) (d : Domain) (J : List Entry) (o : ℕ) (f : FollowerView) (names : List Subject)
     (objects : List ℕ) → MayTell format d (sets_after d J) → IsFollowed format d J o f → ReadsNamed f names
     → objects ≡ objects_by_names d (sets_after d J) names
     → Asks f (sets_after d J) (ToRead objects)
@@ -153,8 +153,8 @@ asks_for format d J o f names objects m h asks is =
 
 -- readings of the objects that it reads may be shown
 reads_these : ShownIsLegal → (format : Format) (d : Domain) (J : List Entry) (o : ℕ) (t : TrackView)
-    (names : List Asked) (objects : List ℕ) → MayTell format d (sets_after d J) → IsTracked format d J o t
-    → ReadsNext t.follower names → objects ≡ objects_by_names d (sets_after d J) names
+    (names : List Subject) (objects : List ℕ) → MayTell format d (sets_after d J) → IsTracked format d J o t
+    → TrackReadsNext t.follower names → objects ≡ objects_by_names d (sets_after d J) names
     → ShowsNext format d J o (Saw (record { sets = sets_after d J; readings = any_readings objects }))
 reads_these law format d J o t names objects m h r is =
     let f = reading t.follower names r in
@@ -164,16 +164,16 @@ reads_these law format d J o t names objects m h r is =
     refl).1 (ap ToRead (any_objects objects)))
 
 pub is_read : ShownIsLegal → (format : Format) (d : Domain) (J : List Entry) (o : ℕ) (t : TrackView)
-    (names : List Asked) (objects : List ℕ) → MayTell format d (sets_after d J) → IsTracked format d J o t
-    → ReadsNext t.follower names → objects ≡ objects_by_names d (sets_after d J) names
+    (names : List Subject) (objects : List ℕ) → MayTell format d (sets_after d J) → IsTracked format d J o t
+    → TrackReadsNext t.follower names → objects ≡ objects_by_names d (sets_after d J) names
     → ReadsSome format d J o
 is_read law format d J o t names objects m h r is =
     (any_readings objects, reads_these law format d J o t names objects m h r is)
 
--- it may wait exactly where one of them is not clear
+-- it may wait exactly if one of them is not clear
 pub waits_for : WaitIsLegal → (format : Format) (d : Domain) (J : List Entry) (o : ℕ) (t : TrackView)
-    (names : List Asked) (objects : List ℕ) → MayTell format d (sets_after d J) → IsTracked format d J o t
-    → ReadsNext t.follower names → objects ≡ objects_by_names d (sets_after d J) names
+    (names : List Subject) (objects : List ℕ) → MayTell format d (sets_after d J) → IsTracked format d J o t
+    → TrackReadsNext t.follower names → objects ≡ objects_by_names d (sets_after d J) names
     → WaitsToRead format d J o ↔ (are_clear J o objects ≡ false)
 waits_for law format d J o t names objects m h r is =
     let f = reading t.follower names r in
@@ -308,13 +308,13 @@ all_there d c given (ChangeThen add member set rest) env ms env2 r f m =
 -- so are those of all that runs shows
 block_there : (format : Format) (d : Domain) (a b : ℕ) (cs : Option Class) (env : Env) (ms : List Move)
     (env2 : Env) (r : Outcome) → IsSomeAnd cs (FitsClass d a b)
-    → Means d (said_in format d (tree_of_block d b)) env ms env2 r → EachThere d (shown_moves ms)
+    → Means d (said_of_block format d (tree_of_block d b)) env ms env2 r → EachThere d (shown_moves ms)
 block_there format d a b None env ms env2 r h m = absurd h
 block_there format d a b (Some c) env ms env2 r h m = go (signature_in a c) h
   where
     go : (x : Option Signature) → IsSomeAnd x (TakesParams d c (tree_of_block d b)) → EachThere d (shown_moves ms)
     go None h = absurd h
-    go (Some x) h = all_there d c x.params (said_in format d (tree_of_block d b)) env ms env2 r
+    go (Some x) h = all_there d c x.params (said_of_block format d (tree_of_block d b)) env ms env2 r
         (said_fits format d c x.params (tree_of_block d b) h) m
 
 run_there : (format : Format) (d : Domain) (o : ℕ) (J : List Entry) (own : List Value) (run : Running)
@@ -323,13 +323,13 @@ run_there : (format : Format) (d : Domain) (o : ℕ) (J : List Entry) (own : Lis
 run_there format d o J own run ms env2 r sound runs m = go (open_at o J) runs
   where
     block : (l : Letter) (b : Option ℕ) → block_at d o (state_of d o J) l.action ≡ b
-        → option_map (run_with l.args) (option_map (said_in format d) (option_map (tree_of_block d) b)) ≡ Some run
+        → option_map (run_with l.args) (option_map (said_of_block format d) (option_map (tree_of_block d) b)) ≡ Some run
         → EachThere d (shown_moves ms)
     block l None is e = absurd (cc e)
     block l (Some b) is e =
         let fits = this_block_fits d o (state_of d o J) l.action b (class_fits d o sound) (sym is) in
-        let same : run_with l.args (said_in format d (tree_of_block d b)) ≡ run =
-        same_some (run_with l.args (said_in format d (tree_of_block d b))) run e in
+        let same : run_with l.args (said_of_block format d (tree_of_block d b)) ≡ run =
+        same_some (run_with l.args (said_of_block format d (tree_of_block d b))) run e in
         block_there format d l.action b (class_at d o) (env_of own run) ms env2 r fits.1
         (subst (λ x. Means d x.program (env_of own run) ms env2 r) (sym same) m)
 
@@ -347,9 +347,9 @@ shown_there format d J o item sound s =
 
 -- the objects that a track reads next are there
 pub reads_there : ShownIsLegal → (format : Format) (d : Domain) (J : List Entry) (o : ℕ) (t : TrackView)
-    (names : List Asked) (objects : List ℕ) → IsSound d → AreOf d (sets_after d J)
+    (names : List Subject) (objects : List ℕ) → IsSound d → AreOf d (sets_after d J)
     → MayTell format d (sets_after d J) → IsTracked format d J o t
-    → ReadsNext t.follower names → objects ≡ objects_by_names d (sets_after d J) names → All (IsObject d) objects
+    → TrackReadsNext t.follower names → objects ≡ objects_by_names d (sets_after d J) names → All (IsObject d) objects
 reads_there law format d J o t names objects sound are m h r is =
     subst (All (IsObject d)) (any_objects objects)
     (shown_there format d J o (Saw (record { sets = sets_after d J; readings = any_readings objects })) sound

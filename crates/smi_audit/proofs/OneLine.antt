@@ -3,8 +3,8 @@ use Rattle.std.proofs.Common.{◌≡◌, ◌∙◌, ℕ, List, [], ◌∷◌, �
 use Rattle.std.proofs.lemmas.List.{flat_map_more}
 use Rattle.std.proofs.lemmas.List.Elements.{All-push}
 use Rattle.sml_domain.specs.Domain.{Domain}
-use Rattle.smi_entry.specs.declared.entry.Entry.{Entry}
-use Rattle.smi_entry.specs.declared.journal.Format.{Format}
+use Rattle.smi_journal_entries.specs.declared.entry.Entry.{Entry}
+use Rattle.smi_journal_entries.specs.declared.journal.Format.{Format}
 use Rattle.smi_journal.specs.EntryText.{line_text}
 use Rattle.smi_journal.specs.HasText.{HasTextIn}
 use Rattle.smi_journal.specs.JournalText.{lines_text}
@@ -12,12 +12,12 @@ use Rattle.smi_journal.specs.ReadJournal.{BeginsWith}
 use Rattle.smi_meaning.specs.Legal.{IsLegalAt, IsLegal}
 use Rattle.smi_meaning.proofs.Journals.{legal_more}
 use Rattle.smi_audit.specs.declared.judge.Judge.{Judge}
-use Rattle.smi_audit.specs.Judges.{IsKept}
-use Rattle.smi_audit.specs.Lines.{Follows}
+use Rattle.smi_audit.specs.Judges.{JudgeIsKept}
+use Rattle.smi_audit.specs.Lines.{FollowsLine}
 
 -- what is kept from one line to the next
 pub record IsBehind (format : Format) (d : Domain) (bytes rest : List ℕ) (k : Judge) : Type 0 where
-  pub kept : IsKept k
+  pub kept : JudgeIsKept k
   pub format_is : k.format ≡ format
   pub domain : k.books.domain ≡ d
   pub texts : All (HasTextIn format d) k.books.journal
@@ -33,7 +33,7 @@ lines_more format d es e bytes rest more is h =
 pub one_line : (format : Format) (d : Domain) (bytes rest more : List ℕ) (j k : Judge) → j.format ≡ format
     → j.books.domain ≡ d → All (HasTextIn format d) j.books.journal
     → bytes ≡ lines_text d j.books.journal ++ rest → IsLegal format d j.books.journal
-    → Follows format d j k rest more → IsBehind format d bytes more k
+    → FollowsLine format d j k rest more → IsBehind format d bytes more k
 one_line format d bytes rest more j k same domain texts split legal f =
     let J = j.books.journal in
     let e = f.entry in

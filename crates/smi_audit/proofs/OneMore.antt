@@ -3,15 +3,15 @@ use Rattle.std.proofs.Common.{◌≡◌, ◌∙◌, ◌<◌, ◌+◌, ℕ, List,
 use Rattle.std.specs.Prelude.{Option}
 use Rattle.std.proofs.lemmas.List.{drop_more, take_more, take-append-drop}
 use Rattle.sml_domain.specs.Domain.{Domain}
-use Rattle.smi_entry.specs.declared.entry.Entry.{Entry}
-use Rattle.smi_entry.specs.declared.journal.Format.{Format}
+use Rattle.smi_journal_entries.specs.declared.entry.Entry.{Entry}
+use Rattle.smi_journal_entries.specs.declared.journal.Format.{Format}
 use Rattle.smi_meaning.specs.Legal.{IsLegalAt, IsLegal}
 use Rattle.smi_meaning.proofs.Journals.{legal_more}
-use Rattle.smi_rules.specs.declared.rule.Rule.{Rule}
-use Rattle.smi_rules.specs.Rules.{Breaks}
-use Rattle.smi_rules.specs.Judged.{IsBrokenAt}
+use Rattle.smi_audit_rules.specs.declared.rule.Rule.{Rule}
+use Rattle.smi_audit_rules.specs.Rules.{Breaks}
+use Rattle.smi_audit_rules.specs.Judged.{IsBrokenAt}
 use Rattle.smi_audit.specs.declared.judge.Judge.{Judge}
-use Rattle.smi_audit.specs.Judges.{AddsLegal, IsKept, Judges}
+use Rattle.smi_audit.specs.Judges.{AddsLegal, JudgeIsKept, Judges}
 
 -- the entries before one, the one, and those behind
 split_at : (xs : List Entry) (i : ℕ) (e : Entry) → i < length xs → e ≡ get_or xs i e
@@ -45,7 +45,7 @@ broken_at format d entries j k i e x r lt is same domain journal legal h some =
 
 -- what is kept from one entry to the next
 pub record GoesOn (format : Format) (d : Domain) (entries : List Entry) (k : Judge) (i : ℕ) : Type 0 where
-  pub kept : IsKept k
+  pub kept : JudgeIsKept k
   pub format_is : k.format ≡ format
   pub domain : k.books.domain ≡ d
   pub journal : k.books.journal ≡ take (i + 1) entries

@@ -8,27 +8,27 @@ use Rattle.sml_domain.specs.declared.value.Value.{Value}
 use Rattle.sml_domain.specs.Domain.{Domain}
 use Rattle.sml_domain.specs.Lookups.{associated_at, block_at, class_params_at, program_at, tree_of_block}
 use Rattle.sml_domain.specs.Truth.{Reading}
-use Rattle.smi_entry.specs.declared.letter.Letter.{Letter}
-use Rattle.smi_entry.specs.declared.entry.Verdict.{Verdict}
-use Rattle.smi_entry.specs.declared.entry.Verdict.TheVariants.{Accepted, Full, Dead}
-use Rattle.smi_entry.specs.declared.entry.ActionEnd.{ActionEnd}
-use Rattle.smi_entry.specs.declared.entry.ActionEnd.TheVariants.{State, Skipped}
-use Rattle.smi_entry.specs.declared.entry.Cause.{Cause}
-use Rattle.smi_entry.specs.declared.entry.Entry.{Entry}
-use Rattle.smi_entry.specs.declared.entry.Entry.TheVariants.{Post, Wait, Seen, End, Kill, Insert, Remove, NoMember}
-use Rattle.smi_entry.specs.declared.journal.Format.{Format}
-use Rattle.smi_entry.specs.Sets.{sets_after}
-use Rattle.smi_entry.specs.Words.{Item, Sent, HadNone, Saw, Turned, object_of, start_of, open_at, opened_by, shown_of, shown_by, state_of, state_by, initial_of, dead_of, posts_between, posted_to}
-use Rattle.smi_entry.proofs.OneMore.{open_more, shown_more, state_more, posts_more}
+use Rattle.smi_journal_entries.specs.declared.letter.Letter.{Letter}
+use Rattle.smi_journal_entries.specs.declared.entry.Verdict.{Verdict}
+use Rattle.smi_journal_entries.specs.declared.entry.Verdict.TheVariants.{Accepted, Full, Dead}
+use Rattle.smi_journal_entries.specs.declared.entry.ActionEnd.{ActionEnd}
+use Rattle.smi_journal_entries.specs.declared.entry.ActionEnd.TheVariants.{State, Skipped}
+use Rattle.smi_journal_entries.specs.declared.entry.Cause.{Cause}
+use Rattle.smi_journal_entries.specs.declared.entry.Entry.{Entry}
+use Rattle.smi_journal_entries.specs.declared.entry.Entry.TheVariants.{Post, Wait, Seen, End, Kill, Insert, Remove, NoMember}
+use Rattle.smi_journal_entries.specs.declared.journal.Format.{Format}
+use Rattle.smi_journal_entries.specs.Sets.{sets_after}
+use Rattle.smi_journal_entries.specs.Words.{Item, Sent, HadNone, Saw, Turned, object_of, start_of, open_at, opened_by, shown_of, shown_by, state_of, state_by, initial_of, dead_of, posts_between, posted_to}
+use Rattle.smi_journal_entries.proofs.OneMore.{open_more, shown_more, state_more, posts_more}
 use Rattle.smi_meaning.specs.Params.{Running, run_with, running_at, LeavesParams, is_logical_at, ParamsAfter, ParamsNext}
-use Rattle.smi_meaning.specs.Quiet.{said_in}
+use Rattle.smi_meaning.specs.Quiet.{said_of_block}
 use Rattle.smi_meaning.proofs.Parameters.{params_more}
 use Rattle.smi_meaning.proofs.Leaving.{others_change_nothing, devices_give_states}
-use Rattle.smi_follower.specs.Following.{FollowerView, EndsIn, with_item, followed}
-use Rattle.smi_follower.specs.Laws.{IsFollowed, EndsLeave}
+use Rattle.smi_audit_follower.specs.Following.{FollowerView, EndsIn, with_item, followed}
+use Rattle.smi_audit_follower.specs.Laws.{IsFollowed, EndsLeave}
 use Rattle.smi_audit.specs.declared.calls.Call.{Call}
 use Rattle.smi_audit.specs.Views.{TrackView}
-use Rattle.smi_audit.specs.Tracks.{calls_to, request_by, IsFollowing, IsTracked, first_track, no_track, track_at, AreTracked, begins_in, calls_with}
+use Rattle.smi_audit.specs.Tracks.{calls_to, request_of_call, IsFollowing, IsTracked, first_track, no_track, track_at, AreTracked, begins_in, calls_with}
 
 -- ---- words after an entry
 
@@ -36,7 +36,7 @@ use Rattle.smi_audit.specs.Tracks.{calls_to, request_by, IsFollowing, IsTracked,
 abbrev pub runs_in : Format → Domain → ℕ → ℕ → Option Letter → Option Running
 runs_in format d o s opened =
     option_and_then (λ (l : Letter). option_map (run_with l.args)
-    (option_map (said_in format d) (program_at d o s l.action))) opened
+    (option_map (said_of_block format d) (program_at d o s l.action))) opened
 
 open_elsewhere : (J : List Entry) (e : Entry) (x : ℕ) → x ≢ object_of e → open_at x (J ++ e ∷ []) ≡ open_at x J
 open_elsewhere J e x apart = open_more x J e ∙ rw (ne_eqb x (object_of e) apart) refl
@@ -144,7 +144,7 @@ tracked_first : (format : Format) (d : Domain) (o : ℕ)
 tracked_first format d o = record {
   params = refl;
   follows = refl;
-  calls = λ b lt. ap (map (request_by o)) (none_asked (length d.objects) b);
+  calls = λ b lt. ap (map (request_of_call o)) (none_asked (length d.objects) b);
   targets = length-replicate (length d.objects) [];
 }
 
@@ -192,8 +192,8 @@ tracked_set format d J e tracks t lt h is = record {
 
 -- an entry that posts nothing
 quiet_calls : (J : List Entry) (e : Entry) (b : ℕ) (calls : List Call) → posted_to b e ≡ []
-    → map (request_by (object_of e)) calls ≡ posts_between (object_of e) b J
-    → map (request_by (object_of e)) calls ≡ posts_between (object_of e) b (J ++ e ∷ [])
+    → map (request_of_call (object_of e)) calls ≡ posts_between (object_of e) b J
+    → map (request_of_call (object_of e)) calls ≡ posts_between (object_of e) b (J ++ e ∷ [])
 quiet_calls J e b calls none h =
     h ∙ sym (posts_here J e b ∙ ap (λ xs. posts_between (object_of e) b J ++ xs) none
     ∙ append-nil (posts_between (object_of e) b J))
@@ -216,7 +216,7 @@ starts_following format d J o l own params = go (block_at d o (state_of d o J) l
     go None is =
         ap (λ s. runs_in format d o s (open_at o (J ++ start_of o l ∷ []))) state
         ∙ ap (runs_in format d o (state_of d o J)) opened
-        ∙ ap (λ b. option_map (run_with l.args) (option_map (said_in format d) (option_map (tree_of_block d) b))) is
+        ∙ ap (λ b. option_map (run_with l.args) (option_map (said_of_block format d) (option_map (tree_of_block d) b))) is
     go (Some b) is = record {
       format_is = refl;
       domain = refl;
@@ -242,8 +242,8 @@ tracked_start format d J o l t h = record {
 -- a post
 posted_calls : (d : Domain) (J : List Entry) (o target a : ℕ) (v : Verdict) (args : List Value)
     (calls : List (List Call)) (b : ℕ) → target < length calls
-    → map (request_by o) (calls_to calls b) ≡ posts_between o b J
-    → map (request_by o) (calls_to (calls_with calls target v (record { action = a; args = args })) b)
+    → map (request_of_call o) (calls_to calls b) ≡ posts_between o b J
+    → map (request_of_call o) (calls_to (calls_with calls target v (record { action = a; args = args })) b)
     ≡ posts_between o b (J ++ Post o target v a args ∷ [])
 posted_calls d J o target a Full args calls b lt h =
     quiet_calls J (Post o target Full a args) b (calls_to calls b) refl h
@@ -255,17 +255,17 @@ posted_calls d J o target a (Accepted n) args calls b lt h =
     c : Call
     c = record { action = a; args = args }
 
-    go : (t : Bool) → (b == target) ≡ t → map (request_by o)
+    go : (t : Bool) → (b == target) ≡ t → map (request_of_call o)
         (calls_to (slice_set calls target (calls_to calls target ++ c ∷ [])) b) ≡ posts_between o b J
-        ++ (if t then request_by o c ∷ [] else [])
+        ++ (if t then request_of_call o c ∷ [] else [])
     go true is =
         let same : b ≡ target = eqb-true b target is in
-        ap (map (request_by o)) (ap (calls_to (slice_set calls target (calls_to calls target ++ c ∷ []))) same
+        ap (map (request_of_call o)) (ap (calls_to (slice_set calls target (calls_to calls target ++ c ∷ []))) same
         ∙ get_or-set_same calls target (calls_to calls target ++ c ∷ []) [] lt)
-        ∙ map-append (request_by o) (calls_to calls target) (c ∷ [])
-        ∙ ap (λ xs. xs ++ request_by o c ∷ []) (ap (λ y. map (request_by o) (calls_to calls y)) (sym same) ∙ h)
+        ∙ map-append (request_of_call o) (calls_to calls target) (c ∷ [])
+        ∙ ap (λ xs. xs ++ request_of_call o c ∷ []) (ap (λ y. map (request_of_call o) (calls_to calls y)) (sym same) ∙ h)
     go false is =
-        ap (map (request_by o)) (get_or-set_other calls target b (calls_to calls target ++ c ∷ []) []
+        ap (map (request_of_call o)) (get_or-set_other calls target b (calls_to calls target ++ c ∷ []) []
         (eqb-false b target is)) ∙ h ∙ sym (append-nil (posts_between o b J))
 
 calls_long : (calls : List (List Call)) (target : ℕ) (v : Verdict) (c : Call)

@@ -1,12 +1,12 @@
 -- What a judgement says.
 use Rattle.std.specs.Prelude.{◌≡◌, ℕ, List, All}
 use Rattle.sml_domain.specs.Domain.{Domain}
-use Rattle.smi_entry.specs.declared.entry.Entry.{Entry}
-use Rattle.smi_entry.specs.declared.journal.Format.{Format}
+use Rattle.smi_journal_entries.specs.declared.entry.Entry.{Entry}
+use Rattle.smi_journal_entries.specs.declared.journal.Format.{Format}
 use Rattle.smi_journal.specs.HasText.{HasTextIn}
 use Rattle.smi_journal.specs.JournalText.{journal_text}
 use Rattle.smi_meaning.specs.Legal.{IsLegal}
-use Rattle.smi_rules.specs.Judged.{IsBrokenAt}
+use Rattle.smi_audit_rules.specs.Judged.{IsBrokenAt}
 use Rattle.smi_audit.specs.declared.judgement.Judgement.{Judgement}
 use Rattle.smi_audit.specs.declared.judgement.Judgement.TheVariants.{Legal, Illegal}
 

@@ -1,8 +1,8 @@
 -- Judging line by line.
 use Rattle.std.specs.Prelude.{◌≡◌, ℕ, List, All}
 use Rattle.sml_domain.specs.Domain.{Domain}
-use Rattle.smi_entry.specs.declared.entry.Entry.{Entry}
-use Rattle.smi_entry.specs.declared.journal.Format.{Format}
+use Rattle.smi_journal_entries.specs.declared.entry.Entry.{Entry}
+use Rattle.smi_journal_entries.specs.declared.journal.Format.{Format}
 use Rattle.smi_journal.specs.HasText.{HasTextIn}
 use Rattle.smi_journal.specs.JournalText.{lines_text}
 use Rattle.smi_journal.specs.ReadJournal.{BeginsWith}
@@ -10,8 +10,8 @@ use Rattle.smi_meaning.specs.Legal.{IsLegal}
 use Rattle.smi_audit.specs.declared.judge.Judge.{Judge}
 use Rattle.smi_audit.specs.Judges.{AddsLegal}
 
--- the line of an entry of a format stands in front, and that entry was added
-pub record Follows (format : Format) (d : Domain) (old new : Judge) (rest more : List ℕ) : Type 0 where
+-- the line of an entry of a format is in front, and that entry was added
+pub record FollowsLine (format : Format) (d : Domain) (old new : Judge) (rest more : List ℕ) : Type 0 where
   pub entry : Entry
   pub begins : BeginsWith format d rest entry more
   pub adds : AddsLegal old new entry

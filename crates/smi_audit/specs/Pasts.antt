@@ -1,23 +1,23 @@
 -- What a past says.
 use Rattle.std.specs.Prelude.{ℕ, List, None, Some, Option}
 use Rattle.sml_domain.specs.Domain.{Domain}
-use Rattle.smi_entry.specs.declared.entry.Entry.{Entry}
-use Rattle.smi_entry.specs.declared.journal.Format.{Format}
-use Rattle.smi_rules.specs.Judged.{IsBrokenAt}
-use Rattle.smi_follower.specs.declared.follower.Expected.{Expected}
-use Rattle.smi_follower.specs.Following.{FollowerView}
-use Rattle.smi_follower.specs.Expecting.{IsExpected}
-use Rattle.smi_follower.specs.Laws.{IsFollowed}
+use Rattle.smi_journal_entries.specs.declared.entry.Entry.{Entry}
+use Rattle.smi_journal_entries.specs.declared.journal.Format.{Format}
+use Rattle.smi_audit_rules.specs.Judged.{IsBrokenAt}
+use Rattle.smi_audit_follower.specs.declared.follower.Expected.{Expected}
+use Rattle.smi_audit_follower.specs.Following.{FollowerView}
+use Rattle.smi_audit_follower.specs.Expecting.{IsExpected}
+use Rattle.smi_audit_follower.specs.Laws.{IsFollowed}
 use Rattle.smi_audit.specs.declared.past.PastError.{PastError}
 use Rattle.smi_audit.specs.declared.past.PastError.TheVariants.{Illegal, Memory}
 
--- why entries have no past: this line is the first that breaks a rule, and this rule is the first that it breaks
+-- why entries cannot be replayed: this line is the first that breaks a rule, and this rule is the first that it breaks
 abbrev pub IsNone : Format → Domain → List Entry → PastError → Type 0
 IsNone format d J (Illegal line rule) = IsBrokenAt format d J line rule
 IsNone format d J Memory = Unit {0}
 
 -- what runs at an object shows this next
-pub record Shows (format : Format) (d : Domain) (J : List Entry) (o : ℕ) (e : Expected) : Type 0 where
+pub record PastShows (format : Format) (d : Domain) (J : List Entry) (o : ℕ) (e : Expected) : Type 0 where
   pub follower : FollowerView
   pub followed : IsFollowed format d J o follower
   pub expected : IsExpected follower e

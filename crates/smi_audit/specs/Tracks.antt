@@ -4,21 +4,21 @@ use Rattle.std.specs.List.{slice_index_or, filter_map}
 use Rattle.sml_domain.specs.declared.value.Value.{Value}
 use Rattle.sml_domain.specs.Domain.{Domain, Param}
 use Rattle.sml_domain.specs.Lookups.{block_at}
-use Rattle.sml_domain.specs.Program.{Asked}
+use Rattle.sml_domain.specs.Program.{Subject}
 use Rattle.sml_domain.specs.Truth.{Reading}
-use Rattle.smi_entry.specs.declared.entry.Sender.TheVariants.{Object}
-use Rattle.smi_entry.specs.declared.entry.Verdict.{Verdict}
-use Rattle.smi_entry.specs.declared.entry.Verdict.TheVariants.{Accepted, Full, Dead}
-use Rattle.smi_entry.specs.declared.entry.Entry.{Entry}
-use Rattle.smi_entry.specs.declared.journal.Format.{Format}
-use Rattle.smi_entry.specs.declared.letter.Letter.{Letter}
-use Rattle.smi_entry.specs.Requests.{Request}
-use Rattle.smi_entry.specs.Sets.{Sets, AreOf}
-use Rattle.smi_entry.specs.Words.{Item, Saw, posts_between}
+use Rattle.smi_journal_entries.specs.declared.entry.Sender.TheVariants.{Object}
+use Rattle.smi_journal_entries.specs.declared.entry.Verdict.{Verdict}
+use Rattle.smi_journal_entries.specs.declared.entry.Verdict.TheVariants.{Accepted, Full, Dead}
+use Rattle.smi_journal_entries.specs.declared.entry.Entry.{Entry}
+use Rattle.smi_journal_entries.specs.declared.journal.Format.{Format}
+use Rattle.smi_journal_entries.specs.declared.letter.Letter.{Letter}
+use Rattle.smi_journal_entries.specs.Requests.{Request}
+use Rattle.smi_journal_entries.specs.Sets.{Sets, AreOf}
+use Rattle.smi_journal_entries.specs.Words.{Item, Saw, posts_between}
 use Rattle.smi_meaning.specs.Params.{first_value, running_at, ParamsAfter}
-use Rattle.smi_follower.specs.Expecting.{ReadsNext as ReadsNamed}
-use Rattle.smi_follower.specs.Following.{FollowerView, MayShow, MayTell, EndsIn, MayEnd, with_item, followed}
-use Rattle.smi_follower.specs.Laws.{IsFollowed}
+use Rattle.smi_audit_follower.specs.Expecting.{FollowerReadsNext as ReadsNamed}
+use Rattle.smi_audit_follower.specs.Following.{FollowerView, MayShow, MayTell, EndsIn, FollowerMayEnd, with_item, followed}
+use Rattle.smi_audit_follower.specs.Laws.{IsFollowed}
 use Rattle.smi_audit.specs.declared.calls.Call.{Call}
 use Rattle.smi_audit.specs.Views.{TrackView}
 
@@ -27,8 +27,8 @@ abbrev pub calls_to : List (List Call) → ℕ → List Call
 calls_to calls b = slice_index_or calls b []
 
 -- the request of an object's call
-abbrev pub request_by : ℕ → Call → Request
-request_by o c = record { sender = Object o; action = c.action; args = c.args }
+abbrev pub request_of_call : ℕ → Call → Request
+request_of_call o c = record { sender = Object o; action = c.action; args = c.args }
 
 -- what is followed of an object is what runs there, if anything does
 abbrev pub IsFollowing : Format → Domain → List Entry → ℕ → Option FollowerView → Type 0
@@ -39,10 +39,10 @@ IsFollowing format d J o (Some f) = IsFollowed format d J o f
 pub record IsTracked (format : Format) (d : Domain) (J : List Entry) (o : ℕ) (t : TrackView) : Type 0 where
   pub params : ParamsAfter format d o J t.params
   pub follows : IsFollowing format d J o t.follower
-  pub calls : (b : ℕ) → b < length d.objects → map (request_by o) (calls_to t.calls b) ≡ posts_between o b J
+  pub calls : (b : ℕ) → b < length d.objects → map (request_of_call o) (calls_to t.calls b) ≡ posts_between o b J
   pub targets : length t.calls ≡ length d.objects
 
--- the track of an object with these parameters, one of this many, before its first entry
+-- the track of an object with these parameters, one of `objects` objects, before its first entry
 abbrev pub first_track : List Param → ℕ → TrackView
 first_track params objects = record {
   params = filter_map first_value params;
@@ -89,8 +89,8 @@ abbrev pub CannotShow : Option FollowerView → Item → Type 0
 CannotShow None item = Unit {0}
 CannotShow (Some f) item = ¬ MayShow f item
 
--- what is followed goes on with this
-pub record GoesOn (was now : TrackView) (item : Item) (calls : List (List Call)) : Type 0 where
+-- what is followed continues with this
+pub record TrackGoesOn (was now : TrackView) (item : Item) (calls : List (List Call)) : Type 0 where
   pub follower : FollowerView
   pub is : was.follower ≡ Some follower
   pub may : MayShow follower item
@@ -98,13 +98,13 @@ pub record GoesOn (was now : TrackView) (item : Item) (calls : List (List Call))
 
 -- whether it does
 abbrev pub Shows : TrackView → TrackView → Item → List (List Call) → Bool → Type 0
-Shows was now item calls true = GoesOn was now item calls
+Shows was now item calls true = TrackGoesOn was now item calls
 Shows was now item calls false = CannotShow was.follower item
 
--- what is followed reads those next whom these names stand for by then
-abbrev pub ReadsNext : Option FollowerView → List Asked → Type 0
-ReadsNext None names = ⊥
-ReadsNext (Some f) names = ReadsNamed f names
+-- what is followed reads next the objects that these names stand for by then
+abbrev pub TrackReadsNext : Option FollowerView → List Subject → Type 0
+TrackReadsNext None names = ⊥
+TrackReadsNext (Some f) names = ReadsNamed f names
 
 -- what is followed reads nothing next
 abbrev pub CannotRead : Option FollowerView → Type 0
@@ -115,7 +115,7 @@ CannotRead (Some f) = (sets : Sets) (readings : List Reading) → MayTell f.form
 -- what is followed cannot end now
 abbrev pub CannotEnd : Option FollowerView → Type 0
 CannotEnd None = Unit {0}
-CannotEnd (Some f) = (s : ℕ) → ¬ MayEnd f s
+CannotEnd (Some f) = (s : ℕ) → ¬ FollowerMayEnd f s
 
 -- what is followed ends in a state, and leaves the parameters
 pub record EndsNow (was now : TrackView) (s : ℕ) : Type 0 where
@@ -125,6 +125,6 @@ pub record EndsNow (was now : TrackView) (s : ℕ) : Type 0 where
   pub goes : now ≡ record { params = now.params; follower = None; calls = was.calls }
 
 -- whether it does
-abbrev pub Ends : TrackView → TrackView → Option ℕ → Type 0
-Ends was now (Some s) = EndsNow was now s
-Ends was now None = CannotEnd was.follower
+abbrev pub TrackEnds : TrackView → TrackView → Option ℕ → Type 0
+TrackEnds was now (Some s) = EndsNow was now s
+TrackEnds was now None = CannotEnd was.follower

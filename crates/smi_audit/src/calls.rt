@@ -1,10 +1,8 @@
 //! The accepted posts of one object to another, and the letters of starts.
 ghost use Rattle.std.specs.Prelude.{◌≡◌, ◌++◌, ◌∷◌, [], IfOk, OnOk, map, slice_get, option_map};
 
-use smi_entry::args::Args;
-use smi_entry::entry::Sender;
-use smi_entry::letter::Letter;
-use sml_domain::ids::ActionId;
+use smi_journal::{Args, Letter, Sender};
+use sml_domain::ActionId;
 use std::alloc::{AllocError, Global};
 use std::marker::Model;
 

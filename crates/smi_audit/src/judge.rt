@@ -3,25 +3,19 @@ ghost use Rattle.std.specs.Prelude.{◌≡◌, ◌<◌, ◌↔◌, ℕ, [], All,
 ghost use Rattle.std.specs.Arc.{arc_value};
 ghost use Rattle.std.specs.List.{list_all};
 ghost use Rattle.sml_domain.specs.Truth as truth;
-ghost use Rattle.smi_entry.specs.declared.entry.Sender.TheVariants.{Object};
-ghost use Rattle.smi_entry.specs.declared.journal.Format.{Format};
-ghost use Rattle.smi_entry.specs.Words as says;
+ghost use Rattle.smi_journal_entries.specs.declared.entry.Sender.TheVariants.{Object};
+ghost use Rattle.smi_journal_entries.specs.declared.journal.Format.{Format};
+ghost use Rattle.smi_journal_entries.specs.Words as says;
 ghost use Rattle.smi_meaning.specs.EntryLaws.{are_clear};
 ghost use Rattle.smi_meaning.specs.Legal.{is_clear_for};
-ghost use Rattle.smi_rules.specs.Rules as rules;
-ghost use Rattle.smi_audit.specs.Judges.{IsKept};
+ghost use Rattle.smi_audit_rules.specs.Rules as rules;
+ghost use Rattle.smi_audit.specs.Judges.{JudgeIsKept};
 ghost use Rattle.smi_audit.specs.Tracks.{AreTracked, IsReadingOf};
 
 use crate::track::Track;
-use smi_entry::args::{Args, Reading};
-use smi_entry::entry::Verdict;
-use smi_entry::journal::Format;
-use smi_entry::laws::laws_of_members;
-use smi_entry::members::Members;
-use smi_ledger::books::Books;
-use sml_domain::domain::Domain;
-use sml_domain::ids::{ActionId, ObjId};
-use sml_domain::value::same_values;
+use smi_journal::{Args, Format, Members, Reading, Verdict, laws_of_members};
+use smi_ledger::Books;
+use sml_domain::{ActionId, Domain, ObjId, same_values};
 use std::alloc::{AllocError, Global};
 use std::sync::Arc;
 
@@ -98,7 +92,7 @@ impl Judge {
         format: Format,
         domain: Arc<Domain>,
     ) -> Result<Judge, AllocError>
-        ensures kept { IfOk result IsKept }
+        ensures kept { IfOk result JudgeIsKept }
         ensures format { IfOk result (λ j. j.format ≡ format) }
         ensures journal { IfOk result (λ j. j.books.journal ≡ []) }
         ensures domain { IfOk result (λ j. j.books.domain ≡ arc_value domain) }
@@ -125,7 +119,7 @@ impl Judge {
         self.books.killed(o).is_some()
     }
 
-    // Whether a post is told that its target is killed exactly where it is.
+    // Whether a post is answered `Dead` exactly if its target is killed.
     pub(crate) fn tells_the_dead(&self, target: ObjId, verdict: &Verdict) -> bool
         requires { target < length self.now.books.domain.objects }
         ensures { IsTrue result ↔ rules.TellsTheDead (says.is_killed target self.now.books.journal) verdict.now }
@@ -141,7 +135,7 @@ impl Judge {
         requires within { o < length self.now.books.domain.objects }
         requires target { target < length self.now.books.domain.objects }
         ensures { IsTrue result
-            ↔ rules.HasNumber (length (says.posts_between o target self.now.books.journal)) verdict.now }
+            ↔ rules.VerdictHasNumber (length (says.posts_between o target self.now.books.journal)) verdict.now }
     {
         match verdict {
             Verdict::Accepted(number) => *number == self.books.posted(o, target) as u64,
@@ -158,7 +152,7 @@ impl Judge {
         action: ActionId,
         args: &Args,
     ) -> bool
-        requires kept { IsKept self.now }
+        requires kept { JudgeIsKept self.now }
         requires sender { a < length self.now.books.domain.objects }
         requires within { o < length self.now.books.domain.objects }
         ensures { IsTrue result ↔ (slice_get (says.posts_between a o self.now.books.journal) number

@@ -1,6 +1,6 @@
 //! What is said of a journal.
 
-use smi_rules::rule::Rule;
+use smi_audit_rules::Rule;
 
 /// Whether a journal is legal.
 #[derive(Clone, Copy, Eq, PartialEq)]

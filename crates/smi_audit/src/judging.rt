@@ -1,30 +1,29 @@
 //! Judging entries, one kind after another: an entry that breaks no rule of its kind is added, and for one that
-//! does the first such rule is told.
+//! breaks some the first such rule is reported.
 ghost use Rattle.std.specs.Prelude.{◌≡◌, ◌<◌, ◌↔◌, All, IfOk, IsTrue, Some, is_some, length, false, true};
-ghost use Rattle.smi_entry.specs.declared.entry.ActionEnd.TheVariants as ends;
-ghost use Rattle.smi_entry.specs.declared.entry.Entry.TheVariants as entry;
-ghost use Rattle.smi_entry.specs.Words as says;
+ghost use Rattle.smi_journal_entries.specs.declared.entry.ActionEnd.TheVariants as ends;
+ghost use Rattle.smi_journal_entries.specs.declared.entry.Entry.TheVariants as entry;
+ghost use Rattle.smi_journal_entries.specs.Words as says;
 ghost use Rattle.sml_domain.specs.Lookups as lookups;
 ghost use Rattle.smi_journal.specs.HasText.{has_text};
 ghost use Rattle.smi_ledger.specs.Tables.{IsKnown};
 ghost use Rattle.smi_meaning.specs.Params.{running_at};
 ghost use Rattle.smi_meaning.specs.Legal.{IsLegal, MayKill};
-ghost use Rattle.smi_audit.specs.Judges.{FirstBroken, IsKept, Judges, JudgesOwn};
+ghost use Rattle.smi_audit.specs.Judges.{FirstBroken, JudgeIsKept, Judges, JudgesOwn};
 ghost use Rattle.smi_audit.specs.Splitting.{is_two};
 ghost use Rattle.smi_audit.specs.Tracks.{IsReadingOf};
 
 use crate::calls::letter;
 use crate::judge::{Judge, all_clear, are_states, read_clear};
 use crate::tracks::{cut_in, end_in, none_in, post_in, reads_in, see_in, start_in, turn_in};
-use smi_entry::args::{Args, Readings};
-use smi_entry::entry::{ActionEnd, Cause, Entry, Sender, Verdict};
-use smi_entry::fits::are_arguments;
-use smi_entry::journal::Format;
-use smi_follower::laws::laws_of_following;
-use smi_interp::expanding::objects_for;
-use smi_meaning::legal_laws::laws_of_params;
-use smi_rules::rule::Rule;
-use sml_domain::ids::{ActionId, ObjId, SetId, StateId};
+use smi_audit_follower::laws_of_following;
+use smi_audit_rules::Rule;
+use smi_interp::objects_for;
+use smi_journal::{
+    ActionEnd, Args, Cause, Entry, Format, Readings, Sender, Verdict, are_arguments,
+};
+use smi_meaning::laws_of_params;
+use sml_domain::{ActionId, ObjId, SetId, StateId};
 use std::alloc::AllocError;
 
 impl Judge {
@@ -37,7 +36,7 @@ impl Judge {
         action: ActionId,
         args: &Args,
     ) -> Option<Rule>
-        requires kept { IsKept self.now }
+        requires kept { JudgeIsKept self.now }
         requires within { o < length self.now.books.domain.objects }
         requires known { IsKnown (length self.now.books.domain.objects) sender.now }
         ensures { FirstBroken self.now.format self.now.books.domain self.now.books.journal
@@ -76,7 +75,7 @@ impl Judge {
         action: ActionId,
         args: &Args,
     ) -> Result<Option<Rule>, AllocError>
-        requires kept { IsKept self.old }
+        requires kept { JudgeIsKept self.old }
         requires within { o < length self.old.books.domain.objects }
         requires known { IsKnown (length self.old.books.domain.objects) sender.now }
         requires is { e.now ≡ entry.Start o sender.now number action args.now }
@@ -111,7 +110,7 @@ impl Judge {
         action: ActionId,
         args: &Args,
     ) -> Result<Option<Rule>, AllocError>
-        requires kept { IsKept self.old }
+        requires kept { JudgeIsKept self.old }
         requires within { o < length self.old.books.domain.objects }
         requires target { target < length self.old.books.domain.objects }
         requires is { e.now ≡ entry.Post o target verdict.now action args.now }
@@ -146,7 +145,7 @@ impl Judge {
     }
 
     fn wait(&mut self, e: &Entry, o: ObjId) -> Result<Option<Rule>, AllocError>
-        requires kept { IsKept self.old }
+        requires kept { JudgeIsKept self.old }
         requires within { o < length self.old.books.domain.objects }
         requires is { e.now ≡ entry.Wait o }
         ensures { IfOk result (JudgesOwn self.old self.new (entry.Wait o)) }
@@ -169,7 +168,7 @@ impl Judge {
     }
 
     fn seen(&mut self, e: &Entry, o: ObjId, readings: &Readings) -> Result<Option<Rule>, AllocError>
-        requires kept { IsKept self.old }
+        requires kept { JudgeIsKept self.old }
         requires within { o < length self.old.books.domain.objects }
         requires there { All (IsReadingOf (length self.old.books.domain.objects)) readings.now }
         requires is { e.now ≡ entry.Seen o readings.now }
@@ -211,7 +210,7 @@ impl Judge {
 
     // Where an action is open: it is skipped.
     fn skip(&mut self, e: &Entry, o: ObjId) -> Result<Option<Rule>, AllocError>
-        requires kept { IsKept self.old }
+        requires kept { JudgeIsKept self.old }
         requires within { o < length self.old.books.domain.objects }
         requires open { says.is_open o self.old.books.journal ≡ true }
         requires is { e.now ≡ entry.End o ends.Skipped }
@@ -232,7 +231,7 @@ impl Judge {
         o: ObjId,
         state: StateId,
     ) -> Result<Option<Rule>, AllocError>
-        requires kept { IsKept self.old }
+        requires kept { JudgeIsKept self.old }
         requires within { o < length self.old.books.domain.objects }
         requires open { says.is_open o self.old.books.journal ≡ true }
         requires device { lookups.associated_at self.old.books.domain o ≡ true }
@@ -252,7 +251,7 @@ impl Judge {
 
     // Where an action is open that no device does: it ends in a state.
     fn end_block(&mut self, e: &Entry, o: ObjId, state: StateId) -> Result<Option<Rule>, AllocError>
-        requires kept { IsKept self.old }
+        requires kept { JudgeIsKept self.old }
         requires within { o < length self.old.books.domain.objects }
         requires open { says.is_open o self.old.books.journal ≡ true }
         requires logical { lookups.associated_at self.old.books.domain o ≡ false }
@@ -272,7 +271,7 @@ impl Judge {
     }
 
     fn end(&mut self, e: &Entry, o: ObjId, how: &ActionEnd) -> Result<Option<Rule>, AllocError>
-        requires kept { IsKept self.old }
+        requires kept { JudgeIsKept self.old }
         requires within { o < length self.old.books.domain.objects }
         requires is { e.now ≡ entry.End o how.now }
         ensures { IfOk result (JudgesOwn self.old self.new (entry.End o how.now)) }
@@ -304,7 +303,7 @@ impl Judge {
     }
 
     fn kill(&mut self, e: &Entry, o: ObjId, cause: &Cause) -> Result<Option<Rule>, AllocError>
-        requires kept { IsKept self.old }
+        requires kept { JudgeIsKept self.old }
         requires within { o < length self.old.books.domain.objects }
         requires is { e.now ≡ entry.Kill o cause.now }
         ensures { IfOk result (JudgesOwn self.old self.new (entry.Kill o cause.now)) }
@@ -337,7 +336,7 @@ impl Judge {
         member: ObjId,
         set: SetId,
     ) -> Result<Option<Rule>, AllocError>
-        requires kept { IsKept self.old }
+        requires kept { JudgeIsKept self.old }
         requires within { o < length self.old.books.domain.objects }
         requires member { member < length self.old.books.domain.objects }
         requires is { e.now ≡ entry.Insert o member set }
@@ -365,7 +364,7 @@ impl Judge {
         member: ObjId,
         set: SetId,
     ) -> Result<Option<Rule>, AllocError>
-        requires kept { IsKept self.old }
+        requires kept { JudgeIsKept self.old }
         requires within { o < length self.old.books.domain.objects }
         requires member { member < length self.old.books.domain.objects }
         requires is { e.now ≡ entry.Remove o member set }
@@ -387,7 +386,7 @@ impl Judge {
     }
 
     fn no_member(&mut self, e: &Entry, o: ObjId, set: SetId) -> Result<Option<Rule>, AllocError>
-        requires kept { IsKept self.old }
+        requires kept { JudgeIsKept self.old }
         requires within { o < length self.old.books.domain.objects }
         requires is { e.now ≡ entry.NoMember o set }
         ensures { IfOk result (JudgesOwn self.old self.new (entry.NoMember o set)) }
@@ -408,9 +407,9 @@ impl Judge {
         Ok(None)
     }
 
-    // Judges an entry that has a text by the rules of its kind, and adds it where it breaks none of them.
+    // Judges an entry that has a text by the rules of its kind, and adds it if it breaks none of them.
     fn take_own(&mut self, e: &Entry) -> Result<Option<Rule>, AllocError>
-        requires kept { IsKept self.old }
+        requires kept { JudgeIsKept self.old }
         requires text { has_text self.old.books.domain e.now ≡ true }
         ensures { IfOk result (JudgesOwn self.old self.new e.now) }
     {
@@ -450,9 +449,9 @@ impl Judge {
         }
     }
 
-    // Judges an entry that has a text, and adds it where it breaks no rule.
+    // Judges an entry that has a text, and adds it if it breaks no rule.
     pub(crate) fn take(&mut self, e: &Entry) -> Result<Option<Rule>, AllocError>
-        requires kept { IsKept self.old }
+        requires kept { JudgeIsKept self.old }
         requires legal { IsLegal self.old.format self.old.books.domain self.old.books.journal }
         requires text { has_text self.old.books.domain e.now ≡ true }
         ensures { IfOk result (Judges self.old self.new e.now) }

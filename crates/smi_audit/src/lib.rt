@@ -1,16 +1,20 @@
-//! The judge of journals: whether a journal is legal, or where it is not and why.
+//! The judge of journals: whether a journal is legal, or at which line it is not and why.
 #![tactic(auto)]
 
-pub mod audit;
+mod auditing;
 mod calls;
 mod judge;
-pub mod judgement;
+mod judgement;
 mod judging;
 mod lines;
-pub mod past;
+mod past;
 mod splitting;
 mod track;
 mod tracks;
 
-pub use smi_journal::read::JournalError;
-pub use smi_rules::rule::Rule;
+pub use auditing::audit;
+pub use judgement::Judgement;
+pub use past::{Past, PastError};
+pub use smi_audit_follower::Expected;
+pub use smi_audit_rules::Rule;
+pub use smi_journal::JournalError;

@@ -1,20 +1,19 @@
-//! Judging lines as they are read: of each entry nothing is kept but what the books keep.
+//! Judging lines as they are read: of each entry only what the books keep is kept.
 ghost use Rattle.std.specs.Prelude.{◌≡◌, ◌<◌, [], IfOk, IfSome, IsTrue, length};
 ghost use Rattle.std.specs.Arc.{arc_value};
 ghost use Rattle.smi_journal.specs.HasText.{HasNames};
 ghost use Rattle.smi_meaning.specs.Legal.{IsLegal};
-ghost use Rattle.smi_audit.specs.Judges.{IsKept};
-ghost use Rattle.smi_audit.specs.Lines.{AreLegal, Follows};
+ghost use Rattle.smi_audit.specs.Judges.{JudgeIsKept};
+ghost use Rattle.smi_audit.specs.Lines.{AreLegal, FollowsLine};
 
 use crate::judge::Judge;
-use smi_entry::journal::Format;
-use smi_journal::read::LineReader;
-use sml_domain::domain::Domain;
+use smi_journal::{Format, LineReader};
+use sml_domain::Domain;
 use std::alloc::Global;
 use std::sync::Arc;
 
-// Takes the entry whose line stands in front, if it may follow: what stands behind the line. None also for want of
-// memory, since who asks reads the whole text again then.
+// Takes the entry whose line is in front, if it may follow, and returns what is behind the line. Returns None also if
+// memory runs out, since the caller then reads the whole text again.
 fn take_line<'a>(
     judge: &mut Judge,
     reader: &mut LineReader,
@@ -23,10 +22,10 @@ fn take_line<'a>(
     rest: &'a [u8],
 ) -> Option<&'a [u8]>
     requires names { HasNames domain.now }
-    requires kept { IsKept judge.old }
+    requires kept { JudgeIsKept judge.old }
     requires legal { IsLegal judge.old.format judge.old.books.domain judge.old.books.journal }
     requires of { judge.old.books.domain ≡ domain.now }
-    ensures follows { IfSome result (λ more. Follows format domain.now judge.old judge.new rest.now more.now) }
+    ensures follows { IfSome result (λ more. FollowsLine format domain.now judge.old judge.new rest.now more.now) }
     ensures less { IfSome result (λ more. length more.now < length rest.now) }
 {
     let Ok(Some((entry, more))) = reader.next_entry(judge.alloc, domain, format, rest) else {
@@ -38,7 +37,7 @@ fn take_line<'a>(
     }
 }
 
-// Takes all lines, if each is that of an entry which may follow. No also for want of memory.
+// Takes all lines, if each is that of an entry which may follow. Returns false also if memory runs out.
 fn take_lines(
     judge: &mut Judge,
     reader: &mut LineReader,
@@ -47,7 +46,7 @@ fn take_lines(
     bytes: &[u8],
 ) -> bool
     requires names { HasNames domain.now }
-    requires kept { IsKept judge.old }
+    requires kept { JudgeIsKept judge.old }
     requires format { judge.old.format ≡ format }
     requires of { judge.old.books.domain ≡ domain.now }
     requires first { judge.old.books.journal ≡ [] }
@@ -63,7 +62,7 @@ fn take_lines(
     true
 }
 
-// Whether bytes are the lines of a legal journal of a format. No also for want of memory.
+// Whether bytes are the lines of a legal journal of a format. Returns false also if memory runs out.
 pub(crate) fn are_legal(alloc: Global, format: Format, domain: &Arc<Domain>, bytes: &[u8]) -> bool
     requires { HasNames (arc_value domain.now) }
     ensures { IsTrue result → AreLegal format (arc_value domain.now) bytes.now }

@@ -4,31 +4,29 @@ ghost use Rattle.std.specs.Arc.{arc_value};
 ghost use Rattle.smi_journal.specs.HasText.{HasText};
 ghost use Rattle.smi_meaning.specs.Legal.{IsLegal};
 ghost use Rattle.smi_meaning.specs.Params.{running_at};
-ghost use Rattle.smi_audit.specs.Pasts.{IsNone, Shows};
+ghost use Rattle.smi_audit.specs.Pasts.{IsNone, PastShows};
 
 use crate::judge::Judge;
-use smi_entry::entry::Entry;
-use smi_entry::journal::Format;
-use smi_follower::follower::Expected;
-use smi_ledger::books::Books;
-use smi_rules::rule::Rule;
-use sml_domain::domain::Domain;
-use sml_domain::ids::ObjId;
+use smi_audit_follower::Expected;
+use smi_audit_rules::Rule;
+use smi_journal::{Entry, Format};
+use smi_ledger::Books;
+use sml_domain::{Domain, ObjId};
 use std::alloc::Global;
 use std::marker::Model;
 use std::sync::Arc;
 
-/// Why entries have no past.
+/// Why entries cannot be replayed.
 #[derive(Clone, Copy, Debug, Eq, PartialEq)]
 pub enum PastError {
-    /// The first line whose entry may not stand, and the first rule that it breaks, as in a `Judgement`.
+    /// The first illegal line, and the first rule that its entry breaks, as in a `Judgement`.
     Illegal { line: u64, rule: Rule },
     /// Out of memory.
     Memory,
 }
 
-/// The entries of a legal journal with their books, and what each open action shows next. So it can be told
-/// what could have stood in the place of a line that may not stand there.
+/// The entries of a legal journal with their books, and what each open action shows next. So an explanation can
+/// say what would have been legal in the place of an illegal line.
 #[derive(Drop)]
 pub struct Past<'a> {
     judge: Judge,
@@ -39,7 +37,7 @@ impl<'a> Model for Past<'a> {
     ghost use Rattle.std.specs.Prelude.{◌≡◌};
     ghost use Rattle.std.specs.Coded.{codes};
     ghost use Rattle.sml_domain.specs.Codes.{formula_code};
-    ghost use Rattle.smi_audit.specs.Judges.{IsKept};
+    ghost use Rattle.smi_audit.specs.Judges.{JudgeIsKept};
     ghost use Rattle.smi_audit.specs.Views.{PastView};
 
     ghost Value = { PastView };
@@ -48,7 +46,7 @@ impl<'a> Model for Past<'a> {
 
     ghost view = { λ p. record { format = p.judge.format; books = p.judge.books } };
 
-    ghost invariant = { λ p. IsKept p.judge × (p.entries.now ≡ p.judge.books.journal) };
+    ghost invariant = { λ p. JudgeIsKept p.judge × (p.entries.now ≡ p.judge.books.journal) };
 }
 
 impl<'a> Past<'a> {
@@ -103,10 +101,10 @@ impl<'a> Past<'a> {
         &self.judge.books
     }
 
-    /// What the action that runs at an object shows next, or None where none runs there. The cost is constant.
+    /// What the action that runs at an object shows next, or None if no action runs there. The cost is constant.
     pub fn next(&self, o: ObjId) -> Option<Expected<'_>>
         requires { o < length self.now.books.domain.objects }
-        ensures some { IfSome result (Shows self.now.format self.now.books.domain self.now.books.journal o) }
+        ensures some { IfSome result (PastShows self.now.format self.now.books.domain self.now.books.journal o) }
         ensures none { IfNone result
             (running_at self.now.format self.now.books.domain o self.now.books.journal ≡ None) }
     {

@@ -1,17 +1,15 @@
 //! Sends that are begun, which no entry may split in the second format.
 ghost use Rattle.std.specs.Prelude.{◌≡◌, ◌↔◌, ℕ, IfNone, IfSome, IsTrue, MatchBool};
-ghost use Rattle.smi_entry.specs.declared.journal.Format.TheVariants.{Two};
+ghost use Rattle.smi_journal_entries.specs.declared.journal.Format.TheVariants.{Two};
 ghost use Rattle.smi_meaning.specs.Items as items;
-ghost use Rattle.smi_meaning.specs.Legal.{IsLegal, IsPostOf, IsWithin, KeepsWhole};
-ghost use Rattle.smi_audit.specs.Judges.{IsKept};
+ghost use Rattle.smi_meaning.specs.Legal.{IsLegal, IsPostOf, PostIsWithin, KeepsWhole};
+ghost use Rattle.smi_audit.specs.Judges.{JudgeIsKept};
 
 use crate::judge::Judge;
 use crate::tracks::next_post_in;
-use smi_entry::entry::Entry;
-use smi_entry::journal::Format;
-use smi_interp::contact::Post;
-use sml_domain::ids::ObjId;
-use sml_domain::value::same_values;
+use smi_interp::Post;
+use smi_journal::{Entry, Format};
+use sml_domain::{ObjId, same_values};
 
 // The next post of a send that is begun, and whose it is.
 #[derive(Clone, Copy)]
@@ -48,13 +46,13 @@ impl Judge {
     // The send that has some of its posts in the journal and more to come. Only the object of the last entry can have
     // one.
     fn begun(&self) -> Option<Begun<'_>>
-        requires kept { IsKept self.now }
+        requires kept { JudgeIsKept self.now }
         requires two { self.now.format ≡ Two }
         requires legal { IsLegal Two self.now.books.domain self.now.books.journal }
         ensures some { IfSome result
-            (λ b. IsWithin self.now.books.domain self.now.books.journal b.object b.post.now) }
+            (λ b. PostIsWithin self.now.books.domain self.now.books.journal b.object b.post.now) }
         ensures none { IfNone result ((o : ℕ) (p : items.Post)
-            → ¬ IsWithin self.now.books.domain self.now.books.journal o p) }
+            → ¬ PostIsWithin self.now.books.domain self.now.books.journal o p) }
     {
         let Some(object) = self.books.last() else {
             return None;
@@ -68,7 +66,7 @@ impl Judge {
     // Whether an entry splits a send that is begun: it is not the next post of that. The first format knows no such
     // rule.
     pub(crate) fn splits(&self, e: &Entry) -> bool
-        requires kept { IsKept self.now }
+        requires kept { JudgeIsKept self.now }
         requires legal { IsLegal self.now.format self.now.books.domain self.now.books.journal }
         ensures { MatchBool result
             (¬ KeepsWhole self.now.format self.now.books.domain self.now.books.journal e.now)

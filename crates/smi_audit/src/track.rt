@@ -2,27 +2,18 @@
 ghost use Rattle.std.specs.Prelude.{◌≡◌, ◌<◌, ℕ, [], IfOk, IfSome, IfNone, None, OnOk, length, map, option_map, replicate, slice_get};
 ghost use Rattle.std.specs.Arc.{arc_value};
 ghost use Rattle.std.specs.List.{filter_map};
-ghost use Rattle.smi_entry.specs.Sets.{AreOf, unchanged};
-ghost use Rattle.smi_entry.specs.Words.{HadNone, Saw, Sent, Turned};
+ghost use Rattle.smi_journal_entries.specs.Sets.{AreOf, unchanged};
+ghost use Rattle.smi_journal_entries.specs.Words.{HadNone, Saw, Sent, Turned};
 ghost use Rattle.smi_meaning.specs.Params.{first_value};
 ghost use Rattle.smi_audit.specs.Pasts.{TrackShows};
 ghost use Rattle.smi_audit.specs.Splitting.{IsNextPost, post_expected};
 ghost use Rattle.smi_audit.specs.Tracks as says;
 
 use crate::calls::{Call, Calls};
-use smi_entry::args::{Args, Reading};
-use smi_entry::entry::Verdict;
-use smi_entry::journal::Format;
-use smi_entry::letter::Letter;
-use smi_entry::members::Members;
-use smi_follower::follower::{Expected, Follower};
-use smi_follower::laws::laws_of_following;
-use smi_interp::contact::{Names, Post};
-use smi_interp::task::Ready;
-use sml_domain::domain::Domain;
-use sml_domain::ids::{ActionId, ObjId, SetId, StateId};
-use sml_domain::param::Param;
-use sml_domain::value::Value;
+use smi_audit_follower::{Expected, Follower, laws_of_following};
+use smi_interp::{ContactNames, Post, Ready};
+use smi_journal::{Args, Format, Letter, Members, Reading, Verdict};
+use sml_domain::{ActionId, Domain, ObjId, Param, SetId, StateId, Value};
 use std::alloc::{AllocError, Global};
 use std::marker::Model;
 use std::sync::Arc;
@@ -65,7 +56,7 @@ fn first_values(alloc: Global, params: &[Param]) -> Result<Vec<Value>, AllocErro
     Ok(values)
 }
 
-// Nothing was asked of any object, of which there are this many.
+// Nothing was asked of any of `objects` objects.
 fn no_calls(alloc: Global, objects: usize) -> Result<Vec<Calls>, AllocError>
     ensures { IfOk result (λ calls. calls.items ≡ replicate objects []) }
 {
@@ -76,7 +67,7 @@ fn no_calls(alloc: Global, objects: usize) -> Result<Vec<Calls>, AllocError>
     Ok(calls)
 }
 
-// Notes a post, where it was accepted.
+// Notes a post, if it was accepted.
 fn note(
     calls: &mut Vec<Calls>,
     target: ObjId,
@@ -97,7 +88,7 @@ fn note(
     }
 }
 
-// The post that is expected, where it is one of a send that is begun.
+// The post that is expected, if it is one of a send that is begun.
 fn post_of<'a>(expected: &Expected<'a>) -> Option<&'a Post>
     ensures { option_map (λ p. p.now) result ≡ post_expected expected.now }
 {
@@ -108,7 +99,7 @@ fn post_of<'a>(expected: &Expected<'a>) -> Option<&'a Post>
 }
 
 impl Track {
-    // The track of an object with these parameters, one of this many, before its first entry.
+    // The track of an object with these parameters, one of `objects` objects, before its first entry.
     pub(crate) fn new(alloc: Global, params: &[Param], objects: usize) -> Result<Track, AllocError>
         ensures { IfOk result (λ t. t ≡ says.first_track params.now objects) }
     {
@@ -127,9 +118,9 @@ impl Track {
         self.calls[target.get()].get(number)
     }
 
-    // Those whom what runs reads next, by their names.
-    pub(crate) fn reads(&self) -> Option<&Names>
-        ensures some { IfSome result (λ names. says.ReadsNext self.now.follower names.now) }
+    // The objects that what runs reads next, by their names.
+    pub(crate) fn reads(&self) -> Option<&ContactNames>
+        ensures some { IfSome result (λ names. says.TrackReadsNext self.now.follower names.now) }
         ensures none { IfNone result (says.CannotRead self.now.follower) }
     {
         match &self.follower {
@@ -138,7 +129,7 @@ impl Track {
         }
     }
 
-    // What it shows next, where something runs.
+    // What it shows next, if something runs.
     pub(crate) fn next(&self) -> Option<Expected<'_>>
         ensures some { IfSome result (TrackShows self.now.follower) }
         ensures none { IfNone result (self.now.follower ≡ None) }
@@ -149,7 +140,7 @@ impl Track {
         }
     }
 
-    // The next post of a send that is begun, where what runs is within one.
+    // The next post of a send that is begun, if what runs is within one.
     pub(crate) fn next_post(&self) -> Option<&Post>
         ensures { IsNextPost self.now.follower (option_map (λ p. p.now) result) }
     {
@@ -160,7 +151,7 @@ impl Track {
         }
     }
 
-    // Follows the action of a letter, where the state declares it.
+    // Follows the action of a letter, if the state declares it.
     pub(crate) fn start(
         &mut self,
         alloc: Global,
@@ -188,7 +179,7 @@ impl Track {
         Ok(())
     }
 
-    // Goes on with a post, where sets have these members and what runs may make it next.
+    // Continues with a post, if what runs may make it next where sets have these members.
     pub(crate) fn post(
         &mut self,
         alloc: Global,
@@ -215,8 +206,8 @@ impl Track {
         Ok(true)
     }
 
-    // Goes on with a set that has no member to send to, where sets have these members and what runs may send to it
-    // next.
+    // Continues with a set that has no member to send to, if what runs may send to it next where sets have these
+    // members.
     pub(crate) fn none(
         &mut self,
         alloc: Global,
@@ -236,7 +227,7 @@ impl Track {
         Ok(true)
     }
 
-    // Goes on with a change of a set, where what runs may make it next.
+    // Continues with a change of a set, if what runs may make it next.
     pub(crate) fn turn(&mut self, add: bool, member: ObjId, set: SetId) -> Result<bool, AllocError>
         ensures { IfOk result (says.Shows self.old self.new (Turned add member set) self.old.calls) }
     {
@@ -250,7 +241,7 @@ impl Track {
         Ok(true)
     }
 
-    // Goes on with what was read, where sets have these members and what runs may read it next.
+    // Continues with what was read, if what runs may read it next where sets have these members.
     pub(crate) fn see(
         &mut self,
         alloc: Global,
@@ -271,9 +262,9 @@ impl Track {
         Ok(true)
     }
 
-    // Ends what runs, where it may end now: in which state. The parameters are those that it leaves.
+    // Ends what runs, if it may end now, and returns its state. The parameters are those that it leaves.
     pub(crate) fn end(&mut self) -> Option<StateId>
-        ensures { says.Ends self.old self.new result }
+        ensures { says.TrackEnds self.old self.new result }
     {
         let Some(follower) = self.follower.take() else {
             return None;

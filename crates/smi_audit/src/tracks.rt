@@ -1,33 +1,28 @@
 //! The tracks of all objects, each at its object's place.
 ghost use Rattle.std.specs.Prelude.{◌≡◌, ◌<◌, IfNone, IfOk, IfSome, None, OnOk, length, option_map, slice_set};
 ghost use Rattle.std.specs.Arc.{arc_value};
-ghost use Rattle.smi_entry.specs.Sets.{AreOf, unchanged};
-ghost use Rattle.smi_entry.specs.Words.{HadNone, Saw, Sent, Turned};
+ghost use Rattle.smi_journal_entries.specs.Sets.{AreOf, unchanged};
+ghost use Rattle.smi_journal_entries.specs.Words.{HadNone, Saw, Sent, Turned};
 ghost use Rattle.smi_audit.specs.Splitting.{IsNextPost};
 ghost use Rattle.smi_audit.specs.Tracks as says;
 
 use crate::track::Track;
-use smi_entry::args::{Args, Reading};
-use smi_entry::entry::Verdict;
-use smi_entry::journal::Format;
-use smi_entry::letter::Letter;
-use smi_entry::members::Members;
-use smi_interp::contact::{Names, Post};
-use sml_domain::domain::Domain;
-use sml_domain::ids::{ActionId, ObjId, SetId, StateId};
+use smi_interp::{ContactNames, Post};
+use smi_journal::{Args, Format, Letter, Members, Reading, Verdict};
+use sml_domain::{ActionId, Domain, ObjId, SetId, StateId};
 use std::alloc::{AllocError, Global};
 use std::sync::Arc;
 
-// Those whom what runs at an object reads next, by their names.
-pub(crate) fn reads_in(tracks: &[Track], o: ObjId) -> Option<&Names>
+// The objects that what runs at an object reads next, by their names.
+pub(crate) fn reads_in(tracks: &[Track], o: ObjId) -> Option<&ContactNames>
     requires { o < length tracks.now }
-    ensures some { IfSome result (λ names. says.ReadsNext (says.track_at tracks.now o).follower names.now) }
+    ensures some { IfSome result (λ names. says.TrackReadsNext (says.track_at tracks.now o).follower names.now) }
     ensures none { IfNone result (says.CannotRead (says.track_at tracks.now o).follower) }
 {
     tracks[o.get()].reads()
 }
 
-// The next post of a send that is begun, where what runs at an object is within one.
+// The next post of a send that is begun, if what runs at an object is within one.
 pub(crate) fn next_post_in(tracks: &[Track], o: ObjId) -> Option<&Post>
     requires { o < length tracks.now }
     ensures { IsNextPost (says.track_at tracks.now o).follower (option_map (λ p. p.now) result) }
@@ -35,7 +30,7 @@ pub(crate) fn next_post_in(tracks: &[Track], o: ObjId) -> Option<&Post>
     tracks[o.get()].next_post()
 }
 
-// Follows the action of a letter at an object, where the state declares it.
+// Follows the action of a letter at an object, if the state declares it.
 pub(crate) fn start_in(
     tracks: &mut Vec<Track>,
     alloc: Global,
@@ -58,7 +53,7 @@ pub(crate) fn start_in(
     tracks[o.get()].start(alloc, format, declared, domain, o, state, letter)
 }
 
-// Goes on with a post of an object, where sets have these members and what runs there may make it next.
+// Continues with a post of an object, if what runs there may make it next where sets have these members.
 pub(crate) fn post_in(
     tracks: &mut Vec<Track>,
     alloc: Global,
@@ -81,7 +76,7 @@ pub(crate) fn post_in(
     tracks[o.get()].post(alloc, members, target, verdict, action, args)
 }
 
-// Goes on with a set without members, where sets have these and what runs at an object may send to it next.
+// Continues with a set without members, if what runs at an object may send to it next where sets have these members.
 pub(crate) fn none_in(
     tracks: &mut Vec<Track>,
     alloc: Global,
@@ -98,7 +93,7 @@ pub(crate) fn none_in(
     tracks[o.get()].none(alloc, members, set)
 }
 
-// Goes on with a change of a set, where what runs at an object may make it next.
+// Continues with a change of a set, if what runs at an object may make it next.
 pub(crate) fn turn_in(
     tracks: &mut Vec<Track>,
     o: ObjId,
@@ -114,7 +109,7 @@ pub(crate) fn turn_in(
     tracks[o.get()].turn(add, member, set)
 }
 
-// Goes on with what an object read, where sets have these members and what runs there may read it next.
+// Continues with what an object read, if what runs there may read it next where sets have these members.
 pub(crate) fn see_in(
     tracks: &mut Vec<Track>,
     alloc: Global,
@@ -131,10 +126,10 @@ pub(crate) fn see_in(
     tracks[o.get()].see(alloc, members, readings)
 }
 
-// Ends what runs at an object, where it may end now: in which state.
+// Ends what runs at an object, if it may end now, and returns its state.
 pub(crate) fn end_in(tracks: &mut Vec<Track>, o: ObjId) -> Option<StateId>
     requires { o < length tracks.old.items }
-    ensures ends { says.Ends (says.track_at tracks.old.items o) (says.track_at tracks.new.items o) result }
+    ensures ends { says.TrackEnds (says.track_at tracks.old.items o) (says.track_at tracks.new.items o) result }
     ensures written { tracks.new.items ≡ slice_set tracks.old.items o (says.track_at tracks.new.items o) }
 {
     tracks[o.get()].end()

@@ -7,14 +7,14 @@ use Rattle.sml_domain.specs.Program.{Program, Nothing, SetThen, SendThen, SendNo
 use Rattle.sml_domain.specs.Domain.{Class, Domain, Param}
 use Rattle.sml_domain.specs.Fits.{ProgramFits}
 use Rattle.sml_domain.specs.Sound.{IsSound}
-use Rattle.smi_entry.specs.declared.entry.Sender.{Sender}
-use Rattle.smi_entry.specs.declared.entry.Entry.{Entry}
-use Rattle.smi_entry.specs.declared.entry.Entry.TheVariants.{Insert, Remove, NoMember}
-use Rattle.smi_entry.specs.declared.journal.Format.TheVariants.{Two}
-use Rattle.smi_entry.specs.Requests.{Request}
-use Rattle.smi_entry.specs.Sets.{sets_after}
-use Rattle.smi_entry.specs.Words.{HadNone, Item, Turned, dead_of, initial_of, object_of, open_at, post_in, shown_of, start_in, state_of}
-use Rattle.smi_entry.proofs.OneMore.{open_more, shown_more, state_more}
+use Rattle.smi_journal_entries.specs.declared.entry.Sender.{Sender}
+use Rattle.smi_journal_entries.specs.declared.entry.Entry.{Entry}
+use Rattle.smi_journal_entries.specs.declared.entry.Entry.TheVariants.{Insert, Remove, NoMember}
+use Rattle.smi_journal_entries.specs.declared.journal.Format.TheVariants.{Two}
+use Rattle.smi_journal_entries.specs.Requests.{Request}
+use Rattle.smi_journal_entries.specs.Sets.{sets_after}
+use Rattle.smi_journal_entries.specs.Words.{HadNone, Item, Turned, dead_of, initial_of, object_of, open_at, post_in, shown_of, start_in, state_of, change_entry}
+use Rattle.smi_journal_entries.proofs.OneMore.{open_more, shown_more, state_more}
 use Rattle.smi_meaning.specs.Environment.{Env}
 use Rattle.smi_meaning.specs.Legal.{IsLegalAt, MayFollow, ShowsNext}
 use Rattle.smi_meaning.specs.Meaning.{DidChange, DidSend, Move}
@@ -32,7 +32,6 @@ use Rattle.smi_interp.specs.Expanded.{Send}
 use Rattle.smi_interp.specs.Cursor.{first_contact}
 use Rattle.smi_interp.specs.Task.{HasLeft, LeftAsks, LeftNames, TaskView, body, env_before, env_now}
 use Rattle.smi_board.specs.Boards.{EachRuns, IsLed, IsTied, own_at}
-use Rattle.smi_board.specs.Contacts.{change_entry}
 use Rattle.smi_board.specs.Turns.{EachKept, IsOut}
 use Rattle.smi_board.proofs.Others.{and_one, but_more, but_one, runs_in}
 use Rattle.smi_board.proofs.Out.{is_shown, run_of}

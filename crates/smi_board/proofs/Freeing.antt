@@ -5,7 +5,7 @@ use Rattle.std.proofs.lemmas.Bool.{cases_eq}
 use Rattle.std.proofs.lemmas.List.{get_or-set_other, get_or-set_same}
 use Rattle.smi_board.specs.Holders.{holder_of}
 use Rattle.smi_board.specs.Looks.{IsFreed}
-use Rattle.smi_board.specs.Rings.{is_in, with_one}
+use Rattle.smi_board.specs.Rings.{is_in_ring, with_one}
 use Rattle.smi_board.proofs.Looks.{in_one, in_other}
 
 -- one that was listed with an object is freed, or listed with it still, and any other is as it was
@@ -27,35 +27,35 @@ freed_at_last x holder holder2 looks looks2 h none = record { freed = λ is. h.f
 pub freeing_more : (x o : ℕ) (was holders holders2 : List (Option ℕ)) (list0 list list2 : List ℕ)
     → o < length holders → holder_of holders o ≡ Some x
     → holders2 ≡ slice_set holders o None → list2 ≡ with_one o list
-    → ((y : ℕ) → IsFreeing x (holder_of was y) (holder_of holders y) (is_in y list0) (is_in y list))
-    → (y : ℕ) → IsFreeing x (holder_of was y) (holder_of holders2 y) (is_in y list0) (is_in y list2)
+    → ((y : ℕ) → IsFreeing x (holder_of was y) (holder_of holders y) (is_in_ring y list0) (is_in_ring y list))
+    → (y : ℕ) → IsFreeing x (holder_of was y) (holder_of holders2 y) (is_in_ring y list0) (is_in_ring y list2)
 freeing_more x o was holders holders2 list0 list list2 lt held set added h y =
-    subst (λ hs. IsFreeing x (holder_of was y) (holder_of hs y) (is_in y list0) (is_in y list2)) (sym set)
-    (subst (λ l. IsFreeing x (holder_of was y) (holder_of (slice_set holders o None) y) (is_in y list0) (is_in y l))
+    subst (λ hs. IsFreeing x (holder_of was y) (holder_of hs y) (is_in_ring y list0) (is_in_ring y list2)) (sym set)
+    (subst (λ l. IsFreeing x (holder_of was y) (holder_of (slice_set holders o None) y) (is_in_ring y list0) (is_in_ring y l))
     (sym added)
     (⊎_elim at apart (cases_eq y o)))
   where
-    own : IsFreeing x (holder_of was o) None (is_in o list0) true
+    own : IsFreeing x (holder_of was o) None (is_in_ring o list0) true
     own = record {
       freed = λ is not. (refl, refl);
       other = λ not. absurd (not (sym ((h o).other not).0 ∙ held));
     }
 
-    at : y ≡ o → IsFreeing x (holder_of was y) (holder_of (slice_set holders o None) y) (is_in y list0)
-        (is_in y (with_one o list))
+    at : y ≡ o → IsFreeing x (holder_of was y) (holder_of (slice_set holders o None) y) (is_in_ring y list0)
+        (is_in_ring y (with_one o list))
     at e =
-        subst (λ z. IsFreeing x (holder_of was z) (holder_of (slice_set holders o None) z) (is_in z list0)
-        (is_in z (with_one o list))) (sym e)
-        (subst (λ k. IsFreeing x (holder_of was o) k (is_in o list0) (is_in o (with_one o list)))
+        subst (λ z. IsFreeing x (holder_of was z) (holder_of (slice_set holders o None) z) (is_in_ring z list0)
+        (is_in_ring z (with_one o list))) (sym e)
+        (subst (λ k. IsFreeing x (holder_of was o) k (is_in_ring o list0) (is_in_ring o (with_one o list)))
         (sym (get_or-set_same holders o None None lt))
-        (subst (IsFreeing x (holder_of was o) None (is_in o list0)) (sym (in_one o list)) own))
+        (subst (IsFreeing x (holder_of was o) None (is_in_ring o list0)) (sym (in_one o list)) own))
 
-    apart : (y ≡ o → ⊥) → IsFreeing x (holder_of was y) (holder_of (slice_set holders o None) y) (is_in y list0)
-        (is_in y (with_one o list))
+    apart : (y ≡ o → ⊥) → IsFreeing x (holder_of was y) (holder_of (slice_set holders o None) y) (is_in_ring y list0)
+        (is_in_ring y (with_one o list))
     apart ne =
-        subst (λ k. IsFreeing x (holder_of was y) k (is_in y list0) (is_in y (with_one o list)))
+        subst (λ k. IsFreeing x (holder_of was y) k (is_in_ring y list0) (is_in_ring y (with_one o list)))
         (sym (get_or-set_other holders o y None None ne))
-        (subst (IsFreeing x (holder_of was y) (holder_of holders y) (is_in y list0)) (sym (in_other y o list ne)) (h y))
+        (subst (IsFreeing x (holder_of was y) (holder_of holders y) (is_in_ring y list0)) (sym (in_other y o list ne)) (h y))
 
 -- how many are listed
 pub listed_count : List (Option ℕ) → ℕ

@@ -8,28 +8,27 @@ use Rattle.std.proofs.lemmas.List.Concat.{flat_map-cons}
 use Rattle.sml_domain.specs.Asking.{asked_of}
 use Rattle.sml_domain.specs.Domain.{Domain}
 use Rattle.sml_domain.specs.Lookups.{members_at}
-use Rattle.sml_domain.specs.Program.{Asked, OfOne, OfEach, OfAny}
-use Rattle.smi_entry.specs.declared.letter.Letter.{Letter}
-use Rattle.smi_entry.specs.declared.entry.ActionEnd.{ActionEnd}
-use Rattle.smi_entry.specs.declared.entry.ActionEnd.TheVariants as ends
-use Rattle.smi_entry.specs.declared.entry.Cause.{Cause}
-use Rattle.smi_entry.specs.declared.entry.Entry.{Entry}
-use Rattle.smi_entry.specs.declared.entry.Entry.TheVariants.{End, Insert, Kill, Remove}
-use Rattle.smi_entry.specs.declared.entry.Sender.TheVariants.{Object}
-use Rattle.smi_entry.specs.Requests.{Request, from_sender}
-use Rattle.smi_entry.specs.Sets.{Sets, changed_to, members_in, sets_after, sets_next, with_change, without}
-use Rattle.smi_entry.specs.Words.{any_start, is_clear, is_kill, is_killed, killed_at, killed_next, kills, object_of, open_at, open_next, opened_by, place_next, post_in, posted_to, posts_between, start_in, start_of, starts_at}
-use Rattle.smi_entry.proofs.Changing.{set_written}
-use Rattle.smi_entry.proofs.OneMore.{killed_more, open_more, posts_more, sets_more, starts_more}
+use Rattle.sml_domain.specs.Program.{Subject, OfOne, OfEach, OfAny}
+use Rattle.smi_journal_entries.specs.declared.letter.Letter.{Letter}
+use Rattle.smi_journal_entries.specs.declared.entry.ActionEnd.{ActionEnd}
+use Rattle.smi_journal_entries.specs.declared.entry.ActionEnd.TheVariants as ends
+use Rattle.smi_journal_entries.specs.declared.entry.Cause.{Cause}
+use Rattle.smi_journal_entries.specs.declared.entry.Entry.{Entry}
+use Rattle.smi_journal_entries.specs.declared.entry.Entry.TheVariants.{End, Insert, Kill, Remove}
+use Rattle.smi_journal_entries.specs.declared.entry.Sender.TheVariants.{Object}
+use Rattle.smi_journal_entries.specs.Requests.{Request, from_sender}
+use Rattle.smi_journal_entries.specs.Sets.{Sets, changed_to, members_in, sets_after, sets_next, with_change, without}
+use Rattle.smi_journal_entries.specs.Words.{any_start, is_clear, is_kill, is_killed, killed_at, killed_next, kills, object_of, open_at, open_next, opened_by, place_next, post_in, posted_to, posts_between, start_in, start_of, starts_at, change_entry}
+use Rattle.smi_journal_entries.proofs.Changing.{set_written}
+use Rattle.smi_journal_entries.proofs.OneMore.{killed_more, open_more, posts_more, sets_more, starts_more}
 use Rattle.smi_interp.specs.declared.contact.Contact.{Contact}
 use Rattle.smi_interp.specs.declared.contact.Contact.TheVariants as named
 use Rattle.smi_interp.specs.Task.{TaskView}
 use Rattle.smi_board.specs.declared.starting.Started.{Started}
 use Rattle.smi_board.specs.declared.starting.Started.TheVariants.{Run, Perform, Skipped}
-use Rattle.smi_board.specs.Contacts.{change_entry}
 use Rattle.smi_board.specs.Holders.{holder_of}
 use Rattle.smi_board.specs.Looks.{ArePlaced, IsFreed, all_read, is_skipped}
-use Rattle.smi_board.specs.Rings.{is_in}
+use Rattle.smi_board.specs.Rings.{is_in_ring}
 use Rattle.smi_board.specs.Starts.{entries_of}
 use Rattle.smi_board.proofs.Looks.{freed_placed, in_back, in_either, in_front, none_listed, placed_dead, placed_more}
 
@@ -140,7 +139,7 @@ pub placed_same : (d : Domain) (J K : List Entry) (kept : List (Option TaskView)
     → ArePlaced d K kept list holders
 placed_same d J K kept list holders sets alive each h =
     placed_more d J K kept list holders alive (λ o x t is holds. record {
-      among = ap (λ s. is_in x (all_read d s t.pending)) sets ∙ holds.among;
+      among = ap (λ s. is_in_ring x (all_read d s t.pending)) sets ∙ holds.among;
       busy = each o x holds.busy;
     }) h
 
@@ -180,7 +179,7 @@ placed_started d J K kept list holders o l Skipped is runs h = absurd (true≢fa
 -- those that were listed with an object were freed
 abbrev pub AllFreed : ℕ → List (Option ℕ) → List (Option ℕ) → List ℕ → List ℕ → Type 0
 AllFreed x holders holders2 list list2 = (o : ℕ)
-    → IsFreed x (holder_of holders o) (holder_of holders2 o) (is_in o list) (is_in o list2)
+    → IsFreed x (holder_of holders o) (holder_of holders2 o) (is_in_ring o list) (is_in_ring o list2)
 
 -- one that is listed still is listed with another
 listed_apart : (x : ℕ) (holders holders2 : List (Option ℕ)) (list list2 : List ℕ)
@@ -196,7 +195,7 @@ ends_placed : (d : Domain) (J : List Entry) (kept : List (Option TaskView)) (lis
     → ArePlaced d J kept list holders → ArePlaced d (J ++ e ∷ []) kept list2 holders2
 ends_placed d J kept list list2 holders holders2 e sets posts freed h =
     placed_more d J (J ++ e ∷ []) kept list2 holders2 (alive_before J e) (λ o x t is holds. record {
-      among = ap (λ s. is_in x (all_read d s t.pending)) (sets_more d J e ∙ sets) ∙ holds.among;
+      among = ap (λ s. is_in_ring x (all_read d s t.pending)) (sets_more d J e ∙ sets) ∙ holds.among;
       busy =
           apart_clear J e o x (ne_eqb x (object_of e)
           (listed_apart (object_of e) holders holders2 list list2 freed o x is)) (posts x)
@@ -257,7 +256,7 @@ killed_now J o c = ap is_some (killed_more o J (Kill o c)) ∙ by (killed_at o J
     by None = ap (λ b. is_some (cond (cond b true false) (Some (length J)) None)) (eq-eqb o o refl)
     by (Some p) = refl
 
--- behind a kill, where its task is let go
+-- behind a kill, where its task is dropped
 pub placed_kill : (d : Domain) (J K : List Entry) (kept kept2 : List (Option TaskView)) (list list2 : List ℕ)
     (holders holders2 : List (Option ℕ)) (o : ℕ) (c : Cause)
     → K ≡ J ++ Kill o c ∷ [] → kept2 ≡ slice_set kept o None → AllFreed o holders holders2 list list2
@@ -269,47 +268,47 @@ placed_kill d J K kept kept2 list list2 holders holders2 o c is put freed h =
 -- ---- a change of a set
 
 -- others than the one that is put in or taken out stay members
-in_without : (x m : ℕ) (xs : List ℕ) → (x ≡ m → ⊥) → is_in x xs ≡ true → is_in x (without m xs) ≡ true
+in_without : (x m : ℕ) (xs : List ℕ) → (x ≡ m → ⊥) → is_in_ring x xs ≡ true → is_in_ring x (without m xs) ≡ true
 in_without x m [] apart h = h
 in_without x m (y ∷ ys) apart h = go (m == y) refl (y == x) refl h (in_without x m ys apart)
   where
-    go : (b : Bool) → (m == y) ≡ b → (c : Bool) → (y == x) ≡ c → (c || is_in x ys) ≡ true
-        → (is_in x ys ≡ true → is_in x (without m ys) ≡ true)
-        → is_in x (without m (y ∷ ys)) ≡ true
+    go : (b : Bool) → (m == y) ≡ b → (c : Bool) → (y == x) ≡ c → (c || is_in_ring x ys) ≡ true
+        → (is_in_ring x ys ≡ true → is_in_ring x (without m ys) ≡ true)
+        → is_in_ring x (without m (y ∷ ys)) ≡ true
     go true e true f there rest = absurd (apart (sym (eqb-true m y e ∙ eqb-true y x f)))
     go true e false f there rest = rw e (rest there)
-    go false e true f there rest = rw e (ap (λ b. b || is_in x (without m ys)) f)
-    go false e false f there rest = rw e (ap (λ b. b || is_in x (without m ys)) f ∙ rest there)
+    go false e true f there rest = rw e (ap (λ b. b || is_in_ring x (without m ys)) f)
+    go false e false f there rest = rw e (ap (λ b. b || is_in_ring x (without m ys)) f ∙ rest there)
 
-in_changed : (x m : ℕ) (add : Bool) (xs : List ℕ) → (x ≡ m → ⊥) → is_in x xs ≡ true
-    → is_in x (changed_to add m xs) ≡ true
+in_changed : (x m : ℕ) (add : Bool) (xs : List ℕ) → (x ≡ m → ⊥) → is_in_ring x xs ≡ true
+    → is_in_ring x (changed_to add m xs) ≡ true
 in_changed x m false xs apart h = in_without x m xs apart h
 in_changed x m true xs apart h = go (list_any (nat_eq m) xs)
   where
-    go : (b : Bool) → is_in x (cond b xs (xs ++ m ∷ [])) ≡ true
+    go : (b : Bool) → is_in_ring x (cond b xs (xs ++ m ∷ [])) ≡ true
     go true = h
     go false = in_front x xs (m ∷ []) h
 
 -- those whom names stand for, where each set that has one as its member has it still
-in_named : (x : ℕ) (was now : ℕ → List ℕ) (names : List Asked)
-    → ((s : ℕ) → is_in x (was s) ≡ true → is_in x (now s) ≡ true)
-    → is_in x (flat_map (asked_of was) names) ≡ true → is_in x (flat_map (asked_of now) names) ≡ true
+in_named : (x : ℕ) (was now : ℕ → List ℕ) (names : List Subject)
+    → ((s : ℕ) → is_in_ring x (was s) ≡ true → is_in_ring x (now s) ≡ true)
+    → is_in_ring x (flat_map (asked_of was) names) ≡ true → is_in_ring x (flat_map (asked_of now) names) ≡ true
 in_named x was now [] each h = h
 in_named x was now (n ∷ names) each h =
-    ap (is_in x) (flat_map-cons (asked_of now) n names)
+    ap (is_in_ring x) (flat_map-cons (asked_of now) n names)
     ∙ ⊎_elim (λ there. in_front x (asked_of now n) (flat_map (asked_of now) names) (one n there))
     (λ there. in_back x (asked_of now n) (flat_map (asked_of now) names) (in_named x was now names each there))
     (in_either x (asked_of was n) (flat_map (asked_of was) names)
-    (ap (is_in x) (sym (flat_map-cons (asked_of was) n names)) ∙ h))
+    (ap (is_in_ring x) (sym (flat_map-cons (asked_of was) n names)) ∙ h))
   where
-    one : (n : Asked) → is_in x (asked_of was n) ≡ true → is_in x (asked_of now n) ≡ true
+    one : (n : Subject) → is_in_ring x (asked_of was n) ≡ true → is_in_ring x (asked_of now n) ≡ true
     one (OfOne o) there = there
     one (OfEach set) there = each set there
     one (OfAny set) there = each set there
 
 in_read : (d : Domain) (sets : Sets) (add : Bool) (x m set : ℕ) → (x ≡ m → ⊥) → (p : Option Contact)
-    → is_in x (all_read d sets p) ≡ true
-    → is_in x (all_read d (with_change d sets add m set) p) ≡ true
+    → is_in_ring x (all_read d sets p) ≡ true
+    → is_in_ring x (all_read d (with_change d sets add m set) p) ≡ true
 in_read d sets add x m set apart None h = h
 in_read d sets add x m set apart (Some (named.Send wanted)) h = h
 in_read d sets add x m set apart (Some (named.Change a b c)) h = h
@@ -317,8 +316,8 @@ in_read d sets add x m set apart (Some (named.End s)) h = h
 in_read d sets add x m set apart (Some (named.Local p v)) h = h
 in_read d sets add x m set apart (Some (named.Read names)) h =
     in_named x (members_in d sets) (members_in d (with_change d sets add m set)) names (λ s there.
-    set_written (λ ms. is_in x ms ≡ true) (members_at d s) sets set s (changed_to add m (members_in d sets set)) there
-    (λ e. in_changed x m add (members_in d sets set) apart (ap (λ y. is_in x (members_in d sets y)) e ∙ there))) h
+    set_written (λ ms. is_in_ring x ms ≡ true) (members_at d s) sets set s (changed_to add m (members_in d sets set)) there
+    (λ e. in_changed x m add (members_in d sets set) apart (ap (λ y. is_in_ring x (members_in d sets y)) e ∙ there))) h
 
 -- behind a change, where those that are listed with its object were freed
 change_placed : (d : Domain) (J : List Entry) (kept : List (Option TaskView)) (list list2 : List ℕ)
@@ -330,7 +329,7 @@ change_placed : (d : Domain) (J : List Entry) (kept : List (Option TaskView)) (l
 change_placed d J kept list list2 holders holders2 add m set e sets alive opens posts starts freed h =
     placed_more d J (J ++ e ∷ []) kept list2 holders2 (alive_before J e) (λ o x t is holds. record {
       among =
-          ap (λ s. is_in x (all_read d s t.pending)) (sets_more d J e ∙ sets)
+          ap (λ s. is_in_ring x (all_read d s t.pending)) (sets_more d J e ∙ sets)
           ∙ in_read d (sets_after d J) add x m set
           (listed_apart m holders holders2 list list2 freed o x is) t.pending holds.among;
       busy = quiet_clear J e o x alive (opens x) (posts x) starts ∙ holds.busy;

@@ -32,7 +32,7 @@ read_at xs x p read lt place is = is ∙ get_or_default xs p read None lt ∙ ap
 
 -- ---- chains
 
--- a chain that begins with an object goes on behind it
+-- a chain that begins with an object continues behind it
 chain_front : (nexts : List (Option ℕ)) (o : ℕ) (os : List ℕ) → IsChain nexts (Some o) os
     → (rest : List ℕ) × (os ≡ o ∷ rest) × IsChain nexts (get_or nexts o None) rest
 chain_front nexts o [] h = absurd h

@@ -4,21 +4,21 @@ use Rattle.std.specs.Prelude.{◌&&◌, ◌||◌, ◌==◌, not, nat_eq, is_some
 use Rattle.std.proofs.lemmas.Bool.{eq-eqb, eqb-true, true≢false}
 use Rattle.std.proofs.lemmas.List.{length-append}
 use Rattle.sml_domain.specs.Domain.{Domain}
-use Rattle.smi_entry.specs.declared.entry.Entry.{Entry}
-use Rattle.smi_entry.specs.declared.entry.Entry.TheVariants.{Wait}
-use Rattle.smi_entry.specs.declared.entry.Sender.TheVariants.{Object}
-use Rattle.smi_entry.specs.declared.entry.Verdict.{Verdict}
-use Rattle.smi_entry.specs.declared.journal.Format.TheVariants.{Two}
-use Rattle.smi_entry.specs.Requests.{from_sender}
-use Rattle.smi_entry.specs.Sets.{sets_after}
-use Rattle.smi_entry.specs.Words.{is_clear, is_killed, killed_at, kills, open_at, open_next, post_in, posts_between, start_in, starts_at, waits_at}
-use Rattle.smi_entry.proofs.OneMore.{posts_more, sets_more, starts_more}
-use Rattle.smi_meaning.specs.Items.{Post}
+use Rattle.smi_journal_entries.specs.declared.entry.Entry.{Entry}
+use Rattle.smi_journal_entries.specs.declared.entry.Entry.TheVariants.{Wait}
+use Rattle.smi_journal_entries.specs.declared.entry.Sender.TheVariants.{Object}
+use Rattle.smi_journal_entries.specs.declared.entry.Verdict.{Verdict}
+use Rattle.smi_journal_entries.specs.declared.journal.Format.TheVariants.{Two}
+use Rattle.smi_journal_entries.specs.Requests.{from_sender}
+use Rattle.smi_journal_entries.specs.Sets.{sets_after}
+use Rattle.smi_journal_entries.specs.Words.{is_clear, is_killed, killed_at, kills, open_at, open_next, post_in, posts_between, start_in, starts_at, waits_at}
+use Rattle.smi_journal_entries.proofs.OneMore.{posts_more, sets_more, starts_more}
+use Rattle.smi_meaning.specs.Items.{Post, entry_of}
 use Rattle.smi_meaning.specs.Legal.{IsLegal}
 use Rattle.smi_meaning.proofs.Numbered.{started_is_a_front}
 use Rattle.smi_interp.specs.Task.{TaskView}
 use Rattle.smi_board.specs.Looks.{ArePlaced}
-use Rattle.smi_board.specs.Posting.{AreJudged, Lists, entry_of}
+use Rattle.smi_board.specs.Posting.{AreJudged, Lists}
 use Rattle.smi_board.specs.Reading.{waited}
 use Rattle.smi_board.proofs.Held.{alive_before, clear_by, clear_more, placed_quiet, placed_same, same_behind, same_either, same_place}
 
@@ -47,7 +47,7 @@ more_posts false true n m s le up e = by (nat_eq m s) refl
         let other : n ≡ s = omega (arith, le, up, same) in
         absurd (true≢false (sym (eq-eqb n s other) ∙ e))
 
--- the posts of an entry are so many more
+-- the posts of an entry are added to those before it
 posts_up : (J : List Entry) (a x : ℕ) (e : Entry)
     → length (posts_between a x J) ≤ length (posts_between a x J ++ post_in a x e)
 posts_up J a x e =

@@ -5,10 +5,10 @@ use Rattle.sml_domain.specs.declared.value.Value.{Value}
 use Rattle.sml_domain.specs.Domain.{Domain}
 use Rattle.sml_domain.specs.Sound.{IsSound}
 use Rattle.std.specs.Prelude.{Bool}
-use Rattle.smi_entry.specs.declared.entry.Entry.{Entry}
-use Rattle.smi_entry.specs.declared.entry.Sender.{Sender}
-use Rattle.smi_entry.specs.Requests.{Request}
-use Rattle.smi_entry.specs.Sets.{AreOf, sets_after}
+use Rattle.smi_journal_entries.specs.declared.entry.Entry.{Entry}
+use Rattle.smi_journal_entries.specs.declared.entry.Sender.{Sender}
+use Rattle.smi_journal_entries.specs.Requests.{Request}
+use Rattle.smi_journal_entries.specs.Sets.{AreOf, sets_after}
 use Rattle.smi_interp.specs.declared.contact.Contact.{Contact}
 use Rattle.smi_interp.specs.declared.contact.Contact.TheVariants as named
 use Rattle.smi_interp.specs.Task.{TaskView, LeftNames}

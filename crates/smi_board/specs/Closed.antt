@@ -1,19 +1,19 @@
 -- What a board that was closed shows.
 use Rattle.std.specs.Prelude.{◌≡◌, ◌<◌, ◌++◌, ℕ, List, [], length, slice_get, Some}
 use Rattle.sml_domain.specs.Domain.{Domain}
-use Rattle.smi_entry.specs.declared.entry.Entry.{Entry}
-use Rattle.smi_entry.specs.declared.entry.Sender.{Sender}
-use Rattle.smi_entry.specs.declared.entry.Sender.TheVariants.{Object, Operator}
-use Rattle.smi_entry.specs.Words.{posts_between, starts_at}
+use Rattle.smi_journal_entries.specs.declared.entry.Entry.{Entry}
+use Rattle.smi_journal_entries.specs.declared.entry.Sender.{Sender}
+use Rattle.smi_journal_entries.specs.declared.entry.Sender.TheVariants.{Object, Operator}
+use Rattle.smi_journal_entries.specs.Words.{posts_between, starts_at}
 use Rattle.smi_meaning.specs.Legal.{IsLegal}
-use Rattle.smi_ruled.specs.Letters.{letters_from, requests_in}
-use Rattle.smi_ruled.specs.Mails.{OperatorSide, session_sent}
-use Rattle.smi_ruled.specs.Drains.{Final, IsNoSession, final_at, final_sent}
-use Rattle.smi_entry.specs.declared.journal.Format.TheVariants.{Two}
+use Rattle.smi_mail.specs.Letters.{letters_from, requests_in}
+use Rattle.smi_mail.specs.Mails.{OperatorSide, session_sent}
+use Rattle.smi_mail.specs.Drains.{Final, IsNoSession, final_at, final_sent}
+use Rattle.smi_journal_entries.specs.declared.journal.Format.TheVariants.{Two}
 
--- The journal is legal; at each object its starts are what was taken, and its accepted posts are what objects sent;
--- what a session sent there is what its end says, and a session that there is not sent nothing; and for each sender, what it sent is what was taken of it, followed
--- by what is left of it.
+-- The journal is legal. At each object its starts are what was taken, and its accepted posts are what objects sent.
+-- What a session sent there is what its end says, and a session that does not exist sent nothing. What each sender sent
+-- is what was taken of it, followed by what is left of it.
 pub record IsClosed (d : Domain) (J : List Entry) (ends : List OperatorSide) (drained : List Final) : Type 0 where
   pub legal : IsLegal Two d J
   pub starts : (o : ℕ) → o < length d.objects → starts_at o J ≡ requests_in (final_at drained o).taken

@@ -7,7 +7,7 @@ use Rattle.smi_board.specs.Rings.{bit, times_in}
 abbrev pub holder_of : List (Option ℕ) → ℕ → Option ℕ
 holder_of holders o = slice_index_or holders o None
 
--- from a first one, and from each to what stands behind it, the objects of a list come, and then none
+-- from a first one, and from each to the one behind it, the objects of a list come, and then no more
 abbrev pub IsChain : List (Option ℕ) → Option ℕ → List ℕ → Type 0
 IsChain nexts None [] = ⊤
 IsChain nexts None (o ∷ os) = ⊥

@@ -1,20 +1,20 @@
 //! What an `insert` or a `remove` changes.
 ghost use Rattle.std.specs.Prelude.{◌≡◌, ◌<◌, ◌++◌, ◌∷◌, [], IfErr, IfOk, OnErr, OnOk, Some, length};
 ghost use Rattle.smi_interp.specs.declared.contact.Contact.TheVariants as contact;
-ghost use Rattle.smi_interp.specs.Task.{LeftNames, with_change};
-ghost use Rattle.smi_board.specs.Contacts.{change_entry};
+ghost use Rattle.smi_interp.specs.Task.{LeftNames, task_with_change};
 ghost use Rattle.smi_board.specs.Turns.{IsOut};
+ghost use Rattle.smi_journal_entries.specs.Words.{change_entry};
 
 use crate::board::Board;
 use crate::holding::hold_shown;
 use crate::looking::free_all;
-use smi_interp::task::Task;
-use smi_mail::mail::Mail;
-use sml_domain::ids::{ObjId, SetId};
+use smi_interp::Task;
+use smi_mail::Mail;
+use sml_domain::{ObjId, SetId};
 
 impl<M: Mail> Board<M> {
-    // Puts an object into a set or takes it out, as a task that is out asks for. Those that are listed with it are looked
-    // at again, since names may stand for it no more. Out of memory the task comes back.
+    // Puts an object into a set or takes it out, as a task that is out asks for. The tasks that are listed with it are
+    // looked at again, since names may stand for it no more. If memory runs out, the task is returned.
     pub(crate) fn change(
         &mut self,
         task: Task,
@@ -27,7 +27,7 @@ impl<M: Mail> Board<M> {
         requires out { IsOut self.old.domain self.old.journal self.old.params self.old.kept task.turn }
         requires waits { task.pending ≡ Some (contact.Change add member set) }
         requires names { LeftNames task (contact.Change add member set) }
-        ensures told { IfOk result (λ t. t ≡ with_change task) }
+        ensures told { IfOk result (λ t. t ≡ task_with_change task) }
         ensures changed { OnOk result (self.new ≡ record self.old {
           journal = self.old.journal ++ change_entry task.turn.object add member set ∷ [];
         }) }

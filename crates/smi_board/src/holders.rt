@@ -2,7 +2,7 @@
 ghost use Rattle.std.specs.Prelude.{◌≡◌, ◌<◌, ℕ, Some, None, IfNone, IfOk, IfSome, length, slice_set};
 ghost use Rattle.smi_board.specs.Holders.{holder_of};
 
-use sml_domain::ids::ObjId;
+use sml_domain::ObjId;
 use std::alloc::{AllocError, Global};
 use std::marker::Model;
 
@@ -13,7 +13,7 @@ pub(crate) struct Holders {
     holders: Vec<Option<ObjId>>,
     /// The first that is listed with each.
     firsts: Vec<Option<ObjId>>,
-    /// The one behind each, listed with the same object. It says nothing where the object is not listed.
+    /// The one behind each, listed with the same object. It says nothing if the object is not listed.
     nexts: Vec<Option<ObjId>>,
 }
 
@@ -29,7 +29,7 @@ impl Model for Holders {
 }
 
 impl Holders {
-    // Room for so many objects, none of which is listed.
+    // Room for `places` objects, none of which is listed.
     pub(crate) fn new(alloc: Global, places: usize) -> Result<Holders, AllocError>
         ensures count { IfOk result (λ h. length h ≡ places) }
         ensures none { IfOk result (λ h. (o : ℕ) → holder_of h o ≡ None) }

@@ -1,29 +1,28 @@
 //! Which kept tasks are looked at, and what a look finds.
 ghost use Rattle.std.specs.Prelude.{◌≡◌, ◌<◌, [], ℕ, IfNone, IfSome, length, true};
 ghost use Rattle.std.specs.List.{All};
-ghost use Rattle.smi_entry.specs.Sets.{sets_after};
+ghost use Rattle.smi_journal_entries.specs.Sets.{sets_after};
 ghost use Rattle.smi_board.specs.Boards.{kept_at};
 ghost use Rattle.smi_board.specs.Holders.{holder_of};
 ghost use Rattle.smi_board.specs.Looks.{ArePlaced, IsFound, IsFreed, all_waiting, kept_without};
-ghost use Rattle.smi_board.specs.Rings.{is_in};
+ghost use Rattle.smi_board.specs.Rings.{is_in_ring};
 ghost use Rattle.smi_board.specs.Turns.{can_go_on};
 
 use crate::holders::Holders;
 use crate::reading::names_held;
 use crate::ring::Ring;
-use smi_interp::contact::Contact;
-use smi_interp::task::Task;
-use smi_ledger::ledger::Ledger;
-use sml_domain::ids::ObjId;
+use smi_interp::{Contact, Task};
+use smi_ledger::Ledger;
+use sml_domain::ObjId;
 
 /// What a look at the task that is kept of an object found.
 #[derive(Drop)]
 pub(crate) enum Look {
-    /// It can go on.
+    /// It can continue.
     Goes,
     /// An object that it waits to read is not clear.
     Held(ObjId),
-    /// There is none.
+    /// No task of it is kept.
     Nobody,
 }
 
@@ -47,8 +46,8 @@ fn look_at(ledger: &Ledger, kept: &[Option<Task>], o: ObjId) -> Look
     }
 }
 
-// The first of candidates whose kept task can go on. It is no candidate any more, nor are those before it: each of them
-// that has a task is listed with an object that holds it.
+// The first of candidates whose kept task can continue. It is a candidate no more, nor are those before it: each of
+// them that has a task is listed with an object that holds it.
 pub(crate) fn first_to_go(
     ledger: &Ledger,
     kept: &[Option<Task>],
@@ -79,14 +78,14 @@ pub(crate) fn first_to_go(
     None
 }
 
-// Those that are listed with an object may be able to go on.
+// The tasks that are listed with an object may be able to continue.
 pub(crate) fn free_all(candidates: &mut Ring, holders: &mut Holders, x: ObjId)
     requires places { candidates.old.places ≡ length holders.old }
     requires within { x < length holders.old }
     ensures places { candidates.new.places ≡ candidates.old.places }
     ensures listed { length holders.new ≡ length holders.old }
     ensures each { (o : ℕ) → IsFreed x (holder_of holders.old o) (holder_of holders.new o)
-        (is_in o candidates.old.list) (is_in o candidates.new.list) }
+        (is_in_ring o candidates.old.list) (is_in_ring o candidates.new.list) }
 {
     while let Some(o) = holders.take(x) {
         candidates.add(o);

@@ -1,4 +1,4 @@
--- Runs that go on, and their worlds.
+-- Runs that continue, and their worlds.
 use Rattle.std.proofs.Common.{◌≡◌, ◌≤◌, ℕ, List, [], ◌∷◌, ◌++◌, Result, length, take, refl, sym, subst}
 use Rattle.std.proofs.lemmas.List.{take_all}
 use Rattle.sml_domain.specs.Domain.{Domain}
@@ -10,7 +10,7 @@ use Rattle.smi_world.specs.World.{Setup, World, opening}
 use Rattle.smi_world.specs.Steps.{StepsTo, Run}
 use Rattle.smi_world.specs.Runs.{IsReached, Reaches}
 
--- a run goes on by one step
+-- a run continues by one step
 pub run_more : (m : Setup) (w : World) (ss : List Step) (rs : List (Result Answer StepError)) (w2 w3 : World) (s : Step) (r : Result Answer StepError) → Run m w ss rs w2 → StepsTo m w2 s r w3 → Run m w (ss ++ s ∷ []) (rs ++ r ∷ []) w3
 run_more m w [] [] w2 w3 s r h last = (w3, subst (λ x. StepsTo m x s r w3) h last, refl)
 run_more m w (t ∷ ss) (q ∷ rs) w2 w3 s r h last = (h.0, h.1, run_more m h.0 ss rs w2 w3 s r h.2 last)

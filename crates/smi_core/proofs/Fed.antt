@@ -63,7 +63,7 @@ module _ {S : Type 0} (makes : S → List ℕ → List ℕ → S → Type 0) whe
       (m3, last, [], subst Q (p.2 ∙ sym (append-nil line)) (subst P p.1 q), (refl, refl), ap (λ o. o ++ last) p.0 ∙ sym (append-nil last))
   fed m line (x ∷ xs) out m2 line2 last m3 p q = fed_at (x == 10) m line x xs out m2 line2 last m3 (λ n l o f. fed n l xs o m2 line2 last m3 f q) p
 
-  -- the lines that were ended among the bytes fed are the first lines, and one stands behind them
+  -- the lines that were ended among the bytes fed are the first lines, and one is behind them
   abbrev pub FedLines : S → List (List ℕ) → List ℕ → S → Type 0
   FedLines m all out m2 = (ls : List (List ℕ)) × (next : List ℕ) × (more : List (List ℕ)) × (all ≡ ls ++ next ∷ more) × Outputs makes m ls out m2
 

@@ -91,7 +91,7 @@ module _ {S : Type 0} (makes : S → List ℕ → List ℕ → S → Type 0) whe
         whole = told_as fault fault2 told v.whole;
       }
 
--- a front and what stands behind it
+-- a prefix and what is behind it
 parts : (bytes front behind : List ℕ) (n : ℕ) → front ≡ take n bytes → behind ≡ drop n bytes → bytes ≡ front ++ behind
 parts bytes front behind n f b =
     sym (take-append-drop n bytes) ∙ ap (λ l. l ++ drop n bytes) (sym f) ∙ ap (λ l. front ++ l) (sym b)
@@ -101,14 +101,14 @@ nil_of : (xs : List ℕ) → length xs ≡ 0 → xs ≡ []
 nil_of [] e = refl
 nil_of (x ∷ xs) e = absurd (omega (arith, e))
 
--- nothing stands behind a front that is as long as all the bytes
+-- nothing is behind a prefix that is as long as all the bytes
 pub all_front : (bytes front behind : List ℕ) (n : ℕ) → front ≡ take n bytes → behind ≡ drop n bytes
     → length behind + n ≡ length bytes → n ≡ length bytes → bytes ≡ front ++ []
 all_front bytes front behind n f b l e =
     let none : length behind ≡ 0 = omega (arith, l, e) in
     parts bytes front behind n f b ∙ ap (λ r. front ++ r) (nil_of behind none)
 
--- a front, the line feed behind it, and more
+-- a prefix, the line feed behind it, and more
 pub front_and_end : (bytes front behind more : List ℕ) (n : ℕ) → front ≡ take n bytes → behind ≡ drop n bytes
     → drop n bytes ≡ 10 ∷ drop (n + 1) bytes → more ≡ drop 1 behind → bytes ≡ (front ++ 10 ∷ []) ++ more
 front_and_end bytes front behind more n f b e m =

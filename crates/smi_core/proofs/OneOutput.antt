@@ -8,19 +8,19 @@ use Rattle.smi_world.specs.declared.step.Step.{Step}
 use Rattle.smi_world.specs.declared.step.Answer.{Answer}
 use Rattle.smi_world.specs.declared.refusal.StepError.{StepError}
 use Rattle.smi_world.specs.declared.refusal.StepError.TheVariants as error
-use Rattle.smi_world.specs.Runs.{IsMemory}
+use Rattle.smi_world.specs.Runs.{AnswerIsMemory}
 use Rattle.smi_world.proofs.One.{run_one}
 use Rattle.smi_lines.specs.declared.line.LineError.{LineError}
 use Rattle.smi_lines.specs.declared.line.LineError.TheVariants as line
-use Rattle.smi_lines.specs.Line.{LineReads, LineAnswers, ReadsTokens, Answers, asked, lexemes, is_line}
+use Rattle.smi_lines.specs.Line.{LineReads, LineAnswers, ReadsTokens, AnswersTokens, step_asked, lexemes, is_line}
 use Rattle.smi_lines.specs.Answers.{answer_text}
-use Rattle.smi_machine.specs.Machines.{CoreView}
+use Rattle.smi_core.specs.Machines.{CoreView}
 use Rattle.sml_text.specs.Lines.{Outputs, lines_of}
 use Rattle.smi_core.specs.Output.{Writes, LineWrites, added_in}
 use Rattle.smi_core.specs.ScheduleLaws.{OutputOf}
 
 -- what is read and is not out of memory is what is asked
-is_asked : (words : List Lexeme) (r : Result (Option Step) LineError) → (r ≡ Err line.Memory → ⊥) → Answers words r → r ≡ asked words
+is_asked : (words : List Lexeme) (r : Result (Option Step) LineError) → (r ≡ Err line.Memory → ⊥) → AnswersTokens words r → r ≡ step_asked words
 is_asked words (Ok s) other h = h
 is_asked words (Err line.BadLine) other h = h
 is_asked words (Err line.Memory) other h = absurd (other refl)
@@ -34,7 +34,7 @@ read_at : SomeReading → (b : Bool) (text : List ℕ) (r s : Result (Option Ste
 read_at some true text r s nr ns p q = read_so text r s nr ns p q (some source.Line text)
 read_at some false text r s nr ns p q = p ∙ sym q
 
--- where memory is not wanted, a line is read in one way
+-- unless memory runs out, a line is read in one way
 pub reads_one : SomeReading → (text : List ℕ) (r s : Result (Option Step) LineError) → (r ≡ Err line.Memory → ⊥) → (s ≡ Err line.Memory → ⊥) → LineReads text r → LineReads text s → r ≡ s
 reads_one some text r s nr ns p q = read_at some (is_line text) text r s nr ns p q
 
@@ -42,7 +42,7 @@ reads_one some text r s nr ns p q = read_at some (is_line text) text r s nr ns p
 writes_some : (m : CoreView) (r : Result (Option Step) LineError) (out : List ℕ) (m2 : CoreView) → Writes m r out m2 → r ≡ Err line.Memory → ⊥
 writes_some m r out m2 h e = subst (λ x. Writes m x out m2) e h
 
-no_memory : (r : Result Answer StepError) → (r ≡ Err error.Memory → ⊥) → IsMemory r → ⊥
+no_memory : (r : Result Answer StepError) → (r ≡ Err error.Memory → ⊥) → AnswerIsMemory r → ⊥
 no_memory (Ok a) other h = h
 no_memory (Err error.Memory) other h = other refl
 no_memory (Err e) other h = absurd (cc h)

@@ -2,3 +2,8 @@ pub mod Feeds
 pub mod Output
 pub mod FaultText
 pub mod ScheduleLaws
+pub mod Errors
+pub mod Listed
+pub mod Machines
+pub mod Stepping
+pub mod Told

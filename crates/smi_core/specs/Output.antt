@@ -1,6 +1,6 @@
 -- What a schedule writes.
 use Rattle.std.specs.Prelude.{◌≡◌, ℕ, List, [], length, drop, Option, Some, None, Result, Ok, Err, codes}
-use Rattle.smi_entry.specs.declared.entry.Entry.{Entry}
+use Rattle.smi_journal_entries.specs.declared.entry.Entry.{Entry}
 use Rattle.smi_world.specs.declared.step.Step.{Step}
 use Rattle.smi_world.specs.declared.step.Answer.{Answer}
 use Rattle.smi_world.specs.declared.refusal.StepError.{StepError}
@@ -11,9 +11,9 @@ use Rattle.smi_lines.specs.declared.line.LineError.{LineError}
 use Rattle.smi_lines.specs.declared.line.LineError.TheVariants as line
 use Rattle.smi_lines.specs.Line.{LineReads}
 use Rattle.smi_lines.specs.Answers.{refused_text, answer_text}
-use Rattle.smi_machine.specs.Machines.{CoreView}
+use Rattle.smi_core.specs.Machines.{CoreView}
 
--- the entries that stand behind those of the world before
+-- the entries behind those of the world before
 abbrev pub added_in : World → World → List Entry
 added_in w w2 = drop (length w.journal) w2.journal
 
@@ -23,7 +23,8 @@ Writes m (Err line.BadLine) out m2 = (out ≡ refused_text (codes "BadLine")) ×
 Writes m (Err line.Memory) out m2 = ⊥
 Writes m (Ok None) out m2 = (out ≡ []) × (m2 ≡ m)
 Writes m (Ok (Some s)) out m2 =
-    (r : Result Answer StepError) × (r ≡ Err error.Memory → ⊥) × StepsTo m.setup m.world s r m2.world × (m2.setup ≡ m.setup)
+    (r : Result Answer StepError) × (r ≡ Err error.Memory → ⊥) × StepsTo m.setup m.world s r m2.world
+    × (m2.setup ≡ m.setup)
     × (out ≡ answer_text m.setup.domain s r (added_in m.world m2.world))
 
 -- the core takes a line, writes this, and becomes another

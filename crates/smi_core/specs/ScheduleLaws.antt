@@ -2,7 +2,7 @@
 use Rattle.std.specs.Prelude.{◌≡◌, ℕ, true, List, [], ◌∷◌, ◌++◌}
 use Rattle.std.specs.List.{list_all}
 use Rattle.sml_text.specs.Bytes.{no_line_feed}
-use Rattle.smi_machine.specs.Machines.{CoreView}
+use Rattle.smi_core.specs.Machines.{CoreView}
 use Rattle.sml_text.specs.Lines.{Outputs, lines_of}
 use Rattle.smi_core.specs.Output.{LineWrites}
 
@@ -27,4 +27,5 @@ LinesJoin = (text : List ℕ) → (joined (lines_of text) ≡ text) × AreLines 
 
 -- a text has one output from a core, and leads to one core
 abbrev pub OneOutput : Type 0
-OneOutput = (m : CoreView) (text out other : List ℕ) (m2 m3 : CoreView) → OutputOf m text out m2 → OutputOf m text other m3 → (out ≡ other) × (m2 ≡ m3)
+OneOutput = (m : CoreView) (text out other : List ℕ) (m2 m3 : CoreView) → OutputOf m text out m2 →
+    OutputOf m text other m3 → (out ≡ other) × (m2 ≡ m3)

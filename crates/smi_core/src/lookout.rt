@@ -1,9 +1,8 @@
-//! Who is told of the lines of a schedule.
+//! Those who hear of the lines of a schedule.
 
-use smi_entry::entry::Entry;
-use smi_machine::stepper::Core;
-use smi_world::refusal::StepError;
-use smi_world::step::{Answer, Step};
+use crate::stepper::Core;
+use smi_journal_entries::Entry;
+use smi_world::{Answer, Step, StepError};
 
 /// A line of a schedule that was taken.
 #[derive(Clone, Copy)]
@@ -14,10 +13,10 @@ pub struct Taken<'a> {
     pub text: &'a [u8],
 }
 
-/// One who is told of each line that asks something, once it was made and what it writes was written. What is done here
-/// changes nothing of what the schedule does and writes.
+/// One who hears of each line that asks something, once it was made and what it writes was written. What is done here
+/// does not change what the schedule does and writes.
 pub trait Lookout {
-    /// A line was refused that is no step.
+    /// A line was refused that is not a step.
     fn bad_line(&mut self, core: &Core, taken: Taken<'_>);
 
     /// A step was answered, and added these entries to the journal. A refused one changed nothing of the core.

@@ -1,23 +1,21 @@
 //! A list of steps from the opening world.
 ghost use Rattle.std.specs.Prelude.{◌≡◌, ◌↔◌, IfOk, Ok, Err};
 ghost use Rattle.std.specs.Arc.{arc_value};
-ghost use Rattle.smi_entry.specs.declared.journal.Format.TheVariants.{Two};
+ghost use Rattle.smi_journal_entries.specs.declared.journal.Format.TheVariants.{Two};
 ghost use Rattle.smi_meaning.specs.Legal.{IsLegal};
 ghost use Rattle.smi_world.specs.World.{FrontOk};
 ghost use Rattle.smi_world.specs.Runs.{Reaches};
-ghost use Rattle.smi_machine.specs.Machines.{AreLimits};
+ghost use Rattle.smi_core.specs.Machines.{AreLimits};
 
-use smi_machine::stepper::{Core, CoreError};
-use smi_world::laws::every_run;
-use smi_world::refusal::StepError;
-use smi_world::step::{Answer, Step};
-use sml_domain::domain::Domain;
+use crate::stepper::{Core, CoreError};
+use smi_world::{Answer, Step, StepError, every_run};
+use sml_domain::Domain;
 use std::alloc::Global;
 use std::sync::Arc;
 
-/// Makes steps in order on a new core, and gives the core with their answers.
+/// Makes steps in order on a new core, and returns the core with their answers.
 ///
-/// Where a step is out of memory, that is one of the answers; the error is for the core or the list. For
+/// If a step is out of memory, that is one of the answers; the error is for the core or the list. For
 /// the numbers see [`Core::new`], for the cost of a step [`Core::step`].
 pub fn run(
     alloc: Global,

@@ -11,13 +11,11 @@ ghost use Rattle.smi_core.specs.FaultText.{schedule_fault_text};
 ghost use Rattle.smi_core.specs.declared.schedule.TheConstants.{LONGEST_SCHEDULE};
 
 use crate::lookout::{LookAway, Lookout, Taken};
-use smi_entry::entry::Entry;
-use smi_lines::answer::{tell_answer, tell_refused};
-use smi_lines::line::{LONGEST_LINE, LineError, read_step};
-use smi_machine::stepper::Core;
-use smi_world::refusal::StepError;
-use smi_world::step::Step;
-use sml_text::writing::Sink;
+use crate::stepper::Core;
+use smi_journal_entries::Entry;
+use smi_lines::{LONGEST_LINE, LineError, read_step, tell_answer, tell_refused};
+use smi_world::{Step, StepError};
+use sml_text::Sink;
 use std::alloc::{AllocError, Global};
 use std::error::Error;
 use std::fmt;
@@ -61,7 +59,8 @@ impl LineFault {
     fn of_schedule(self) -> ScheduleFault
         ensures read { result ≡ ScheduleFault.Read → ⊥ }
         ensures too_long { result ≡ ScheduleFault.TooLong → ⊥ }
-        ensures write { (result ≡ ScheduleFault.Write → self ≡ LineFault.Write) × (self ≡ LineFault.Write → result ≡ ScheduleFault.Write) }
+        ensures write { (result ≡ ScheduleFault.Write → self ≡ LineFault.Write)
+            × (self ≡ LineFault.Write → result ≡ ScheduleFault.Write) }
     {
         match self {
             LineFault::Write => ScheduleFault::Write,
@@ -73,7 +72,7 @@ impl LineFault {
 /// How many bytes a schedule may have.
 pub const LONGEST_SCHEDULE: usize = 16_777_216;
 
-// What is kept of a line whose end has not come: its bytes, or the first of them where there are too many, and its number.
+// What is kept of a line whose end has not come: its bytes, or the first of them if there are too many, and its number.
 #[derive(Drop)]
 struct Pending {
     kept: Vec<u8>,
@@ -148,7 +147,8 @@ fn make_step<W: Sink, L: Lookout>(
     taken: Taken<'_>,
     lookout: &mut L,
 ) -> Result<(), AllocError>
-    ensures ok { OnOk result ((out : List ℕ) × Writes core.old (Ok (Some step.now)) out core.new × Told (W.contents writer.old) failed.old (W.contents writer.new) failed.new out) }
+    ensures ok { OnOk result ((out : List ℕ) × Writes core.old (Ok (Some step.now)) out core.new
+        × Told (W.contents writer.old) failed.old (W.contents writer.new) failed.new out) }
     ensures err { OnErr result ((core.new ≡ core.old) × (W.contents writer.new ≡ W.contents writer.old)) }
     ensures due { StaysDue (W.has_refused writer.old) failed.old (W.has_refused writer.new) failed.new }
 {
@@ -171,10 +171,13 @@ fn step_line<W: Sink, L: Lookout>(
     taken: Taken<'_>,
     lookout: &mut L,
 ) -> Result<(), LineFault>
-    ensures ok { OnOk result ((out : List ℕ) × Writes core.old (Ok (Some step.now)) out core.new × Appends (W.contents writer.old) (W.contents writer.new) out) }
+    ensures ok { OnOk result ((out : List ℕ) × Writes core.old (Ok (Some step.now)) out core.new
+        × Appends (W.contents writer.old) (W.contents writer.new) out) }
     ensures err { OnErr result
         (((core.new ≡ core.old) × Appends (W.contents writer.old) (W.contents writer.new) [])
-        ⊎ ((result ≡ Err LineFault.Write) × (out : List ℕ) × (unwritten : List ℕ) × Writes core.old (Ok (Some step.now)) (out ++ unwritten) core.new × Appends (W.contents writer.old) (W.contents writer.new) out)) }
+        ⊎ ((result ≡ Err LineFault.Write) × (out : List ℕ) × (unwritten : List ℕ)
+        × Writes core.old (Ok (Some step.now)) (out ++ unwritten) core.new
+        × Appends (W.contents writer.old) (W.contents writer.new) out)) }
     ensures write { result ≡ Err LineFault.Write → W.has_refused writer.new }
 {
     let mut failed = false;
@@ -187,10 +190,13 @@ fn step_line<W: Sink, L: Lookout>(
     Ok(())
 }
 
-// Writes that a line is no step, or the first part of that.
+// Writes that a line is not a step, or the first part of that.
 fn bad_line<W: Sink>(writer: &mut W) -> Result<(), LineFault>
-    ensures ok { OnOk result (Appends (W.contents writer.old) (W.contents writer.new) (refused_text (codes "BadLine"))) }
-    ensures err { OnErr result ((result ≡ Err LineFault.Write) × (out : List ℕ) × (unwritten : List ℕ) × (refused_text (codes "BadLine") ≡ out ++ unwritten) × Appends (W.contents writer.old) (W.contents writer.new) out) }
+    ensures ok { OnOk result (Appends (W.contents writer.old) (W.contents writer.new)
+        (refused_text (codes "BadLine"))) }
+    ensures err { OnErr result ((result ≡ Err LineFault.Write) × (out : List ℕ) × (unwritten : List ℕ)
+        × (refused_text (codes "BadLine") ≡ out ++ unwritten)
+        × Appends (W.contents writer.old) (W.contents writer.new) out) }
     ensures write { result ≡ Err LineFault.Write → W.has_refused writer.new }
 {
     let mut failed = false;
@@ -209,10 +215,13 @@ fn make_line<W: Sink, L: Lookout>(
     taken: Taken<'_>,
     lookout: &mut L,
 ) -> Result<(), LineFault>
-    ensures ok { OnOk result ((out : List ℕ) × Writes core.old asked out core.new × Appends (W.contents writer.old) (W.contents writer.new) out) }
+    ensures ok { OnOk result ((out : List ℕ) × Writes core.old asked out core.new
+        × Appends (W.contents writer.old) (W.contents writer.new) out) }
     ensures err { OnErr result
         (((core.new ≡ core.old) × Appends (W.contents writer.old) (W.contents writer.new) [])
-        ⊎ ((result ≡ Err LineFault.Write) × (out : List ℕ) × (unwritten : List ℕ) × Writes core.old asked (out ++ unwritten) core.new × Appends (W.contents writer.old) (W.contents writer.new) out)) }
+        ⊎ ((result ≡ Err LineFault.Write) × (out : List ℕ) × (unwritten : List ℕ)
+        × Writes core.old asked (out ++ unwritten) core.new
+        × Appends (W.contents writer.old) (W.contents writer.new) out)) }
     ensures write { result ≡ Err LineFault.Write → W.has_refused writer.new }
 {
     match asked {
@@ -236,9 +245,12 @@ fn end_line<W: Sink, L: Lookout>(
     lookout: &mut L,
 ) -> Result<(), LineFault>
     ensures ok { (line : List ℕ) → IsPending pending.old.kept.items pending.old.over line → OnOk result
-        ((out : List ℕ) × LineWrites core.old line out core.new × Appends (W.contents writer.old) (W.contents writer.new) out × IsPending pending.new.kept.items pending.new.over []) }
+        ((out : List ℕ) × LineWrites core.old line out core.new
+        × Appends (W.contents writer.old) (W.contents writer.new) out
+        × IsPending pending.new.kept.items pending.new.over []) }
     ensures err { (line : List ℕ) → IsPending pending.old.kept.items pending.old.over line → OnErr result
-        (Torn LineWrites core.old line (result ≡ Err LineFault.Write) (W.contents writer.old) (W.contents writer.new) core.new) }
+        (Torn LineWrites core.old line (result ≡ Err LineFault.Write) (W.contents writer.old)
+        (W.contents writer.new) core.new) }
     ensures write { result ≡ Err LineFault.Write → W.has_refused writer.new }
 {
     let asked = pending.read(alloc);
@@ -249,7 +261,7 @@ fn end_line<W: Sink, L: Lookout>(
     Ok(())
 }
 
-// How many bytes stand before the first line feed: all of them where there is none.
+// How many bytes are before the first line feed: all of them if there is no line feed.
 fn front_length(bytes: &[u8]) -> usize
     ensures within { result ≤ length bytes.now }
     ensures none { HasNoEnd (take result bytes.now) }
@@ -263,8 +275,8 @@ fn front_length(bytes: &[u8]) -> usize
     bytes.len()
 }
 
-// Feeds the bytes to the end of the first line, with its line feed, or all of them where no line ends. It gives
-// those that stand behind. A piece of a line is added as a whole, which takes less time than byte by byte.
+// Feeds the bytes to the end of the first line, with its line feed, or all of them if no line ends. Returns the
+// bytes behind them. A piece of a line is added as a whole, which takes less time than byte by byte.
 fn feed_line<'a, W: Sink, L: Lookout>(
     alloc: Global,
     core: &mut Core,
@@ -307,9 +319,11 @@ fn feed_chunk<W: Sink, L: Lookout>(
     chunk: &[u8],
 ) -> Result<(), LineFault>
     ensures ok { (line : List ℕ) → IsPending pending.old.kept.items pending.old.over line → OnOk result
-        (Went LineWrites core.old line chunk.now (W.contents writer.old) (W.contents writer.new) core.new pending.new.kept.items pending.new.over) }
+        (Went LineWrites core.old line chunk.now (W.contents writer.old)
+        (W.contents writer.new) core.new pending.new.kept.items pending.new.over) }
     ensures err { (line : List ℕ) → IsPending pending.old.kept.items pending.old.over line → OnErr result
-        (Halted LineWrites core.old line chunk.now (result ≡ Err LineFault.Write) (W.contents writer.old) (W.contents writer.new) core.new) }
+        (Halted LineWrites core.old line chunk.now (result ≡ Err LineFault.Write) (W.contents writer.old)
+        (W.contents writer.new) core.new) }
     ensures write { result ≡ Err LineFault.Write → W.has_refused writer.new }
 {
     let mut rest = chunk;
@@ -322,7 +336,7 @@ fn feed_chunk<W: Sink, L: Lookout>(
     Ok(())
 }
 
-// Feeds the bytes that were read. A fault ends the schedule, and what is kept of a line that it cut off is let go.
+// Feeds the bytes that were read. A fault ends the schedule, and what is kept of a line that it cut off is dropped.
 fn feed_read<W: Sink, L: Lookout>(
     alloc: Global,
     core: &mut Core,
@@ -347,7 +361,7 @@ fn feed_read<W: Sink, L: Lookout>(
     }
 }
 
-/// What gives bytes, some at a call, and knows whether it has failed to. Every reader is one.
+/// What returns bytes, some at a call, and knows whether it has failed to. Every reader is one.
 ///
 /// A reader's own contract doesn't say that it failed. So a function over any `Input` can say of a
 /// fault that it came from there and was not made up.
@@ -356,9 +370,10 @@ pub trait Input {
 
     ghost has_failed: { Self → Type 0 };
 
-    /// The next bytes: so many at the front of the buffer. None where the input failed.
+    /// Reads into `buf` and returns how many bytes were read. None if the input failed.
     fn fetch(&mut self, buf: &mut [u8]) -> Option<usize>
-        ensures some { IfSome result (λ n. (n ≤ length buf.new) × Consumes (remaining self.old) (remaining self.new) (take n buf.new)
+        ensures some { IfSome result (λ n. (n ≤ length buf.new)
+            × Consumes (remaining self.old) (remaining self.new) (take n buf.new)
             × (n ≡ 0 → 0 < length buf.new → IsAtEnd (remaining self.new))) }
         ensures none { IfNone result (has_failed self.new × Keeps (remaining self.old) (remaining self.new)) };
 }
@@ -379,15 +394,16 @@ impl<R: Read> Input for R {
 /// Runs a schedule: reads it to its end, makes the steps of its lines in order, and writes what they
 /// write. (docs/FORMATS.md, "Schedules".)
 ///
-/// Lines that are no steps, and steps that are refused, are told in the output and end nothing. `Read`
-/// comes where the reader failed, `Write` where the writer failed or took nothing, `TooLong` past
-/// `LONGEST_SCHEDULE` bytes, `Memory` where an allocation failed, of a step too. After each of them the first
-/// lines of what was read are made and what they write is written, but for an end of it at `Write`. Every
-/// line that is made is whole: a line feed ends it, or the end of the text does. So a piece of a line that a
-/// fault cut off is not made. It is read in parts of 4,096 bytes; each turn reads a byte or ends. Memory is
-/// taken for one line and for the journal. Every `Read` is an `Input` and every `Write` a `Sink`.
+/// Lines that are not steps, and steps that are refused, are reported in the output and do not end the
+/// schedule. The error is `Read` if the reader failed, `Write` if the writer failed or took nothing, `TooLong`
+/// past `LONGEST_SCHEDULE` bytes, and `Memory` if an allocation failed, also in a step. After an error the first
+/// lines of what was read were made and their output is written, except that after `Write` the end of the output
+/// may be missing. Every line that is made is whole: a line feed ends it, or the end of the text does. So a piece
+/// of a line that a fault cut off is not made. The text is read in parts of 4,096 bytes; each turn reads a byte
+/// or ends. Memory is taken for one line and for the journal. Every `Read` is an `Input` and every `Write` a
+/// `Sink`.
 ///
-/// `schedule_tests` has this example as `first_calls::steps_and_runs`; L is a lamp that is off:
+/// `tests_of_texts` has this example as `first_calls::steps_and_runs`; L is a lamp that is off:
 ///
 /// ```
 /// let mut schedule = b"request @1 L LIGHT\nstart L\ngo L\n".as_slice();
@@ -401,15 +417,20 @@ pub fn run_schedule<R: Input, W: Sink>(
     reader: &mut R,
     writer: &mut W,
 ) -> Result<(), ScheduleFault>
-    ensures ok { OnOk result ((text : List ℕ) × Consumes (R.remaining reader.old) (R.remaining reader.new) text × IsAtEnd (R.remaining reader.new) × (length text ≤ LONGEST_SCHEDULE)
-        × ((out : List ℕ) × Appends (W.contents writer.old) (W.contents writer.new) out × Outputs LineWrites core.old (lines_of text) out core.new)) }
+    ensures ok { OnOk result ((text : List ℕ) × Consumes (R.remaining reader.old) (R.remaining reader.new) text
+        × IsAtEnd (R.remaining reader.new) × (length text ≤ LONGEST_SCHEDULE)
+        × ((out : List ℕ) × Appends (W.contents writer.old) (W.contents writer.new) out
+        × Outputs LineWrites core.old (lines_of text) out core.new)) }
     ensures err { OnErr result ((text : List ℕ) × Consumes (R.remaining reader.old) (R.remaining reader.new) text
         × FirstLines LineWrites core.old text (IsAtEnd (R.remaining reader.new)) (result ≡ Err ScheduleFault.Write)
         (W.contents writer.old) (W.contents writer.new) core.new
         × ((length text ≤ LONGEST_SCHEDULE) ⊎ (result ≡ Err ScheduleFault.TooLong))) }
-    ensures too_long { result ≡ Err ScheduleFault.TooLong → (text : List ℕ) × (more : List ℕ) × Consumes (R.remaining reader.old) (R.remaining reader.new) (text ++ more) × (LONGEST_SCHEDULE < length (text ++ more))
+    ensures too_long { result ≡ Err ScheduleFault.TooLong → (text : List ℕ) × (more : List ℕ)
+        × Consumes (R.remaining reader.old) (R.remaining reader.new) (text ++ more)
+        × (LONGEST_SCHEDULE < length (text ++ more))
         × WholeLines LineWrites core.old text (W.contents writer.old) (W.contents writer.new) core.new }
-    ensures cut { result ≡ Err ScheduleFault.Read → (text : List ℕ) × Consumes (R.remaining reader.old) (R.remaining reader.new) text
+    ensures cut { result ≡ Err ScheduleFault.Read → (text : List ℕ)
+        × Consumes (R.remaining reader.old) (R.remaining reader.new) text
         × WholeLines LineWrites core.old text (W.contents writer.old) (W.contents writer.new) core.new }
     ensures read { result ≡ Err ScheduleFault.Read → R.has_failed reader.new }
     ensures write { result ≡ Err ScheduleFault.Write → W.has_refused writer.new }
@@ -417,7 +438,7 @@ pub fn run_schedule<R: Input, W: Sink>(
     run_watched_schedule(alloc, core, reader, writer, &mut LookAway)
 }
 
-/// Runs a schedule as `run_schedule` does, with one who is told of each line.
+/// Runs a schedule as `run_schedule` does, with one who hears of each line.
 pub fn run_watched_schedule<R: Input, W: Sink, L: Lookout>(
     alloc: Global,
     core: &mut Core,
@@ -425,15 +446,20 @@ pub fn run_watched_schedule<R: Input, W: Sink, L: Lookout>(
     writer: &mut W,
     lookout: &mut L,
 ) -> Result<(), ScheduleFault>
-    ensures ok { OnOk result ((text : List ℕ) × Consumes (R.remaining reader.old) (R.remaining reader.new) text × IsAtEnd (R.remaining reader.new) × (length text ≤ LONGEST_SCHEDULE)
-        × ((out : List ℕ) × Appends (W.contents writer.old) (W.contents writer.new) out × Outputs LineWrites core.old (lines_of text) out core.new)) }
+    ensures ok { OnOk result ((text : List ℕ) × Consumes (R.remaining reader.old) (R.remaining reader.new) text
+        × IsAtEnd (R.remaining reader.new) × (length text ≤ LONGEST_SCHEDULE)
+        × ((out : List ℕ) × Appends (W.contents writer.old) (W.contents writer.new) out
+        × Outputs LineWrites core.old (lines_of text) out core.new)) }
     ensures err { OnErr result ((text : List ℕ) × Consumes (R.remaining reader.old) (R.remaining reader.new) text
         × FirstLines LineWrites core.old text (IsAtEnd (R.remaining reader.new)) (result ≡ Err ScheduleFault.Write)
         (W.contents writer.old) (W.contents writer.new) core.new
         × ((length text ≤ LONGEST_SCHEDULE) ⊎ (result ≡ Err ScheduleFault.TooLong))) }
-    ensures too_long { result ≡ Err ScheduleFault.TooLong → (text : List ℕ) × (more : List ℕ) × Consumes (R.remaining reader.old) (R.remaining reader.new) (text ++ more) × (LONGEST_SCHEDULE < length (text ++ more))
+    ensures too_long { result ≡ Err ScheduleFault.TooLong → (text : List ℕ) × (more : List ℕ)
+        × Consumes (R.remaining reader.old) (R.remaining reader.new) (text ++ more)
+        × (LONGEST_SCHEDULE < length (text ++ more))
         × WholeLines LineWrites core.old text (W.contents writer.old) (W.contents writer.new) core.new }
-    ensures cut { result ≡ Err ScheduleFault.Read → (text : List ℕ) × Consumes (R.remaining reader.old) (R.remaining reader.new) text
+    ensures cut { result ≡ Err ScheduleFault.Read → (text : List ℕ)
+        × Consumes (R.remaining reader.old) (R.remaining reader.new) text
         × WholeLines LineWrites core.old text (W.contents writer.old) (W.contents writer.new) core.new }
     ensures read { result ≡ Err ScheduleFault.Read → R.has_failed reader.new }
     ensures write { result ≡ Err ScheduleFault.Write → W.has_refused writer.new }

@@ -1,7 +1,7 @@
 //! What holds of every schedule, as the contract of a function that does nothing.
 ghost use Rattle.smi_core.specs.ScheduleLaws.{LinesJoin, OneOutput};
 
-use sml_text::laws::laws_of_tokens;
+use sml_text::laws_of_tokens;
 
 /// The lines of a text, joined by line feeds, are the text, and no line has one; and a text has one
 /// output from a machine. It does nothing when called.

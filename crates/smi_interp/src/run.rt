@@ -7,17 +7,12 @@ ghost use Rattle.smi_interp.specs.Expanded.{all_by_names, objects_by_names, post
 ghost use Rattle.smi_interp.specs.Turn.{HasAVerdictEach, move_of, readings_of, sending_of};
 ghost use Rattle.smi_interp.specs.Cursor.{left_in};
 
-use crate::contact::{Contact, Names, Wanted};
+use crate::contact::{Contact, ContactNames, Wanted};
 use crate::cursor::{Place, branch_by, contact_at, make_room, next_of, settle};
 use crate::expanding::add_objects;
 use crate::turn::{Move, TurnRecord};
-use smi_entry::args::{Args, Reading};
-use smi_entry::entry::{Sender, Verdict};
-use smi_entry::letter::Letter;
-use smi_entry::members::Members;
-use sml_domain::domain::Domain;
-use sml_domain::ids::{ActionId, BlockId, ObjId, ParamId, SetId, StateId};
-use sml_domain::value::Value;
+use smi_journal_entries::{Args, Letter, Members, Reading, Sender, Verdict};
+use sml_domain::{ActionId, BlockId, Domain, ObjId, ParamId, SetId, StateId, Value};
 use std::alloc::{AllocError, Global};
 use std::mem;
 use std::sync::Arc;
@@ -29,11 +24,11 @@ pub struct Run {
     pub turn: TurnRecord,
     /// The object's parameters now.
     pub params: Vec<Value>,
-    /// Where the action goes on.
+    /// Where the action continues.
     pub at: Place,
-    /// Where it goes on after that: the places behind the `if`s that are under way, the innermost last.
+    /// Where it continues after that: the places behind the `if`s that are under way, the innermost last.
     pub later: Vec<Place>,
-    /// Whether the readings of the last move have still to pick where the action goes on from its place.
+    /// Whether the readings of the last move have still to pick where the action continues from its place.
     pub has_read: bool,
     /// The contact that waits for an answer.
     pub pending: Option<Contact>,
@@ -49,16 +44,17 @@ impl Run {
     ghost use Rattle.sml_domain.specs.Lookups.{block_at};
     ghost use Rattle.std.specs.Arc.{arc_value};
     ghost use Rattle.sml_domain.specs.Program.{Nothing};
-    ghost use Rattle.smi_entry.specs.Sets.{AreOf};
+    ghost use Rattle.smi_journal_entries.specs.Sets.{AreOf};
     ghost use Rattle.smi_meaning.specs.Meaning.{DidChange, DidRead, DidSend};
     ghost use Rattle.smi_interp.specs.declared.contact.Contact.TheVariants as contact;
     ghost use Rattle.smi_interp.specs.Expanded.{objects_by_names, posts_in};
     ghost use Rattle.smi_interp.specs.Turn.{sending_of, sight_of};
-    ghost use Rattle.smi_interp.specs.Cursor.{HasRoom, Waits};
-    ghost use Rattle.smi_interp.specs.Task.{IsNext, LeftNames, WantsChange, WantsStates, WantsVerdicts, begun, shown, with_change, with_move, with_states, with_verdicts};
-    ghost use Rattle.smi_interp.specs.Run.{IsBlank, IsSound, contact_here, here, task_of};
+    ghost use Rattle.smi_interp.specs.Cursor.{ContactHasRoom, ContactWaits};
+    ghost use Rattle.smi_interp.specs.Task.{IsNextContact, LeftNames, WantsChange, WantsStates, WantsVerdicts, task_begun, shown, task_with_change, with_move, with_states, with_verdicts};
+    ghost use Rattle.smi_interp.specs.Run.{IsBlank, RunIsSound, contact_here, here, task_of};
 
-    /// A task that is not begun, of an object with these parameters. The arguments stand in its letter until it is.
+    /// Returns a task that is not begun, of an object with these parameters. Its letter holds the arguments until it
+    /// is begun.
     pub fn blank(
         alloc: Global,
         domain: Arc<Domain, Global>,
@@ -105,8 +101,9 @@ impl Run {
     pub fn open(&mut self, state: StateId, letter: Letter)
         requires blank { IsBlank self.old }
         requires declared { IsTrue (is_some (block_at (arc_value self.old.domain) self.old.turn.object state letter.action)) }
-        ensures sound { IsSound self.new }
-        ensures task { task_of self.new ≡ begun (arc_value self.old.domain) self.old.turn.object state letter self.old.params.items }
+        ensures sound { RunIsSound self.new }
+        ensures task { task_of self.new ≡ task_begun (arc_value self.old.domain) self.old.turn.object state letter
+            self.old.params.items }
     {
         self.at = first_place(&self.domain, self.turn.object, state, letter.action);
         self.turn.state = state;
@@ -115,9 +112,9 @@ impl Run {
 
     /// The next move, or the contact that waits.
     pub fn advance(&mut self) -> Result<Contact, AllocError>
-        requires sound { IsSound self.old }
-        ensures sound { IsSound self.new }
-        ensures next { IfOk result (IsNext (task_of self.old)) }
+        requires sound { RunIsSound self.old }
+        ensures sound { RunIsSound self.new }
+        ensures next { IfOk result (IsNextContact (task_of self.old)) }
         ensures names { IfOk result (LeftNames (task_of self.old)) }
         ensures waiting { IfOk result (λ c. IfSome self.old.pending (λ w. c ≡ w)) }
         ensures ok { IfOk result (λ c. task_of self.new ≡ shown (task_of self.old) c) }
@@ -135,12 +132,12 @@ impl Run {
         }
     }
 
-    // Goes to the branch that the last readings pick, where they still have to. A condition is evaluated here, and not
-    // where its readings are told, since they are told under the lock of a run.
+    // Goes to the branch that the last readings pick, if they still have to. A condition is evaluated here, and not
+    // when its readings arrive, since they arrive under the lock of a run.
     fn pick(&mut self)
-        requires sound { IsSound self.old }
+        requires sound { RunIsSound self.old }
         requires idle { self.old.pending ≡ None }
-        ensures sound { IsSound self.new }
+        ensures sound { RunIsSound self.new }
         ensures same { task_of self.new ≡ task_of self.old }
         ensures picked { self.new.has_read ≡ false }
     {
@@ -150,10 +147,10 @@ impl Run {
     }
 
     fn enter_branch(&mut self)
-        requires sound { IsSound self.old }
+        requires sound { RunIsSound self.old }
         requires idle { self.old.pending ≡ None }
         requires read { self.old.has_read ≡ true }
-        ensures sound { IsSound self.new }
+        ensures sound { RunIsSound self.new }
         ensures same { task_of self.new ≡ task_of self.old }
         ensures picked { self.new.has_read ≡ false }
     {
@@ -165,11 +162,11 @@ impl Run {
     }
 
     fn go_on(&mut self) -> Result<Contact, AllocError>
-        requires sound { IsSound self.old }
+        requires sound { RunIsSound self.old }
         requires idle { self.old.pending ≡ None }
         requires picked { self.old.has_read ≡ false }
-        ensures sound { IsSound self.new }
-        ensures next { IfOk result (IsNext (task_of self.old)) }
+        ensures sound { RunIsSound self.new }
+        ensures next { IfOk result (IsNextContact (task_of self.old)) }
         ensures names { IfOk result (LeftNames (task_of self.old)) }
         ensures ok { IfOk result (λ c. task_of self.new ≡ shown (task_of self.old) c) }
         ensures err { OnErr result (task_of self.new ≡ task_of self.old) }
@@ -203,10 +200,11 @@ impl Run {
 
     /// The verdicts on the posts that wait, and the members that sets have.
     pub fn sent(&mut self, verdicts: &[Verdict], members: Members)
-        requires sound { IsSound self.old }
+        requires sound { RunIsSound self.old }
         requires are { AreOf (arc_value self.old.domain) members }
-        requires waits { IsSomeAnd self.old.pending (WantsVerdicts (arc_value self.old.domain) members (length verdicts.now)) }
-        ensures sound { IsSound self.new }
+        requires waits { IsSomeAnd self.old.pending (WantsVerdicts (arc_value self.old.domain) members
+            (length verdicts.now)) }
+        ensures sound { RunIsSound self.new }
         ensures sent { task_of self.new ≡ with_verdicts (task_of self.old) verdicts.now members }
     {
         match take_contact(&mut self.pending) {
@@ -216,15 +214,16 @@ impl Run {
     }
 
     fn note_sent(&mut self, wanted: Wanted, verdicts: &[Verdict], members: Members)
-        requires sound { IsSound self.old }
+        requires sound { RunIsSound self.old }
         requires are { AreOf (arc_value self.old.domain) members }
         requires idle { self.old.pending ≡ None }
         requires picked { self.old.has_read ≡ false }
         requires asks { contact.Send wanted ≡ contact_here self.old }
-        requires room { HasRoom (arc_value self.old.domain) (contact.Send wanted) self.old.turn.moves self.old.verdicts
+        requires room { ContactHasRoom (arc_value self.old.domain)
+            (contact.Send wanted) self.old.turn.moves self.old.verdicts
             self.old.readings self.old.later }
         requires each { length verdicts.now ≡ length (posts_in (arc_value self.old.domain) members wanted) }
-        ensures sound { IsSound self.new }
+        ensures sound { RunIsSound self.new }
         ensures sent { task_of self.new ≡ with_move (task_of self.old)
             (DidSend (sending_of (arc_value self.old.domain) members wanted verdicts.now)) }
     {
@@ -237,10 +236,11 @@ impl Run {
 
     /// The states of the objects that wait to be read, and the members that sets have.
     pub fn tell(&mut self, states: &[StateId], members: Members)
-        requires sound { IsSound self.old }
+        requires sound { RunIsSound self.old }
         requires are { AreOf (arc_value self.old.domain) members }
-        requires waits { IsSomeAnd self.old.pending (WantsStates (arc_value self.old.domain) members (length states.now)) }
-        ensures sound { IsSound self.new }
+        requires waits { IsSomeAnd self.old.pending (WantsStates (arc_value self.old.domain) members
+            (length states.now)) }
+        ensures sound { RunIsSound self.new }
         ensures told { task_of self.new ≡ with_states (task_of self.old) states.now members }
     {
         match take_contact(&mut self.pending) {
@@ -249,16 +249,17 @@ impl Run {
         }
     }
 
-    fn note_read(&mut self, names: Names, states: &[StateId], members: Members)
-        requires sound { IsSound self.old }
+    fn note_read(&mut self, names: ContactNames, states: &[StateId], members: Members)
+        requires sound { RunIsSound self.old }
         requires are { AreOf (arc_value self.old.domain) members }
         requires idle { self.old.pending ≡ None }
         requires picked { self.old.has_read ≡ false }
         requires asks { contact.Read names ≡ contact_here self.old }
-        requires room { HasRoom (arc_value self.old.domain) (contact.Read names) self.old.turn.moves self.old.verdicts
+        requires room { ContactHasRoom (arc_value self.old.domain)
+            (contact.Read names) self.old.turn.moves self.old.verdicts
             self.old.readings self.old.later }
         requires each { length states.now ≡ length (objects_by_names (arc_value self.old.domain) members names) }
-        ensures sound { IsSound self.new }
+        ensures sound { RunIsSound self.new }
         ensures told { task_of self.new ≡ with_move (task_of self.old)
             (DidRead (sight_of (arc_value self.old.domain) members names states.now)) }
     {
@@ -272,10 +273,10 @@ impl Run {
 
     /// The set that waits was changed.
     pub fn changed(&mut self)
-        requires sound { IsSound self.old }
+        requires sound { RunIsSound self.old }
         requires waits { IsSomeAnd self.old.pending WantsChange }
-        ensures sound { IsSound self.new }
-        ensures changed { task_of self.new ≡ with_change (task_of self.old) }
+        ensures sound { RunIsSound self.new }
+        ensures changed { task_of self.new ≡ task_with_change (task_of self.old) }
     {
         match take_contact(&mut self.pending) {
             Contact::Change { add, member, set } => self.note_change(add, member, set),
@@ -284,12 +285,12 @@ impl Run {
     }
 
     fn note_change(&mut self, add: bool, member: ObjId, set: SetId)
-        requires sound { IsSound self.old }
+        requires sound { RunIsSound self.old }
         requires idle { self.old.pending ≡ None }
         requires picked { self.old.has_read ≡ false }
         requires asks { contact.Change add member set ≡ contact_here self.old }
         requires room { vec_len self.old.turn.moves < vec_capacity self.old.turn.moves }
-        ensures sound { IsSound self.new }
+        ensures sound { RunIsSound self.new }
         ensures changed { task_of self.new ≡ with_move (task_of self.old) (DidChange add member set) }
     {
         self.turn
@@ -300,12 +301,12 @@ impl Run {
 
     // Makes the `set` that comes next.
     fn set(&mut self, param: ParamId, value: Value) -> Result<(), AllocError>
-        requires sound { IsSound self.old }
+        requires sound { RunIsSound self.old }
         requires idle { self.old.pending ≡ None }
         requires picked { self.old.has_read ≡ false }
         requires asks { contact.Local param value ≡ contact_here self.old }
         requires room { vec_len self.old.turn.moves < vec_capacity self.old.turn.moves }
-        ensures sound { IsSound self.new }
+        ensures sound { RunIsSound self.new }
         ensures ok { OnOk result (task_of self.new ≡ shown (task_of self.old) (contact.Local param value)) }
         ensures err { OnErr result (task_of self.new ≡ task_of self.old) }
     {
@@ -320,14 +321,14 @@ impl Run {
 
     // Waits for the answer to the contact that comes next.
     fn wait(&mut self, contact: Contact)
-        requires sound { IsSound self.old }
+        requires sound { RunIsSound self.old }
         requires picked { self.old.has_read ≡ false }
         requires asks { contact ≡ contact_here self.old }
         requires settled { here self.old ≡ Nothing → self.old.later.items ≡ [] }
-        requires room { HasRoom (arc_value self.old.domain) contact self.old.turn.moves self.old.verdicts
+        requires room { ContactHasRoom (arc_value self.old.domain) contact self.old.turn.moves self.old.verdicts
             self.old.readings self.old.later }
-        requires waits { Waits contact }
-        ensures sound { IsSound self.new }
+        requires waits { ContactWaits contact }
+        ensures sound { RunIsSound self.new }
         ensures shown { task_of self.new ≡ shown (task_of self.old) contact }
     {
         put_contact(&mut self.pending, contact);
@@ -417,11 +418,12 @@ fn add_verdicts(to: &mut Vec<Verdict>, more: &[Verdict])
 fn add_readings(
     domain: &Domain,
     members: &Members,
-    names: &Names,
+    names: &ContactNames,
     states: &[StateId],
     readings: &mut Vec<Reading>,
 )
-    requires room { vec_len readings.old + length (all_by_names domain.now members.now names.now) ≤ vec_capacity readings.old }
+    requires room { vec_len readings.old + length (all_by_names domain.now members.now names.now) ≤ vec_capacity
+        readings.old }
     requires empty { readings.old.items ≡ [] }
     requires each { length states.now ≡ length (objects_by_names domain.now members.now names.now) }
     ensures { readings.new.items ≡ readings_of (objects_by_names domain.now members.now names.now) states.now }

@@ -1,5 +1,5 @@
-//! Guesses at what words name. A guess is looked at before it is taken, so nothing depends on what is kept here but
-//! the cost: where the guess is right no name is made of the word, and none is looked up.
+//! Guesses at what words name. A guess is looked at before it is taken, so only the cost depends on what is kept here:
+//! if the guess is right, no name is made of the word and no name is looked up.
 ghost use Rattle.std.specs.Prelude.{◌≡◌, ◌↔◌, IfSome, IsTrue, true};
 ghost use Rattle.smi_journal.specs.CallText.{name_or_nothing};
 ghost use Rattle.smi_journal.specs.HasText.{HasNames};
@@ -8,9 +8,8 @@ ghost use Rattle.smi_journal.specs.Reading as says;
 use crate::cutting::byte_at;
 use crate::having::{is_action, is_object, is_set, is_state};
 use crate::names::set_name;
-use sml_domain::domain::Domain;
-use sml_domain::ids::{ActionId, ObjId, SetId, StateId};
-use sml_tree::name::Name;
+use sml_domain::{ActionId, Domain, ObjId, SetId, StateId};
+use sml_tree::Name;
 
 /// What the last word at each of 256 places named, as an object, as a set, as a state and as an action.
 #[derive(Drop)]
@@ -21,8 +20,8 @@ pub(crate) struct Hints {
     actions: [usize; 256],
 }
 
-// The place of a word, by its first, its middle and its last byte: the names of a domain often differ in one of these
-// alone. Words that share a place cost a look-up each time that they take turns.
+// The place of a word, by its first, its middle and its last byte: the names of a domain often differ only in one of
+// these. Words that share a place cost a look-up each time that they take turns.
 fn place(word: &[u8]) -> u8 {
     let length = word.len();
     let first = byte_at(word, 0).wrapping_mul(31);
@@ -41,7 +40,7 @@ fn is_written(name: Option<Name>, word: &[u8]) -> bool
     }
 }
 
-// Whether a word is the name of this object. Names of a domain are apart, so then it names no other.
+// Whether a word is the name of this object. Names of a domain are different, so then it does not name another object.
 #[tactic(auto, using(crate::proofs::NameBytes::object_again))]
 fn names_object(domain: &Domain, o: ObjId, word: &[u8]) -> bool
     requires { HasNames domain.now }

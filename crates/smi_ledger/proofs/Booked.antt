@@ -4,22 +4,23 @@ use Rattle.std.specs.Prelude.{slice_get, slice_set, Option}
 use Rattle.std.specs.List.{slice_index_or, sum_by}
 use Rattle.std.proofs.lemmas.Bool.{eq-eqb}
 use Rattle.sml_domain.specs.Domain.{Domain}
-use Rattle.smi_entry.specs.declared.entry.Entry.{Entry}
-use Rattle.smi_entry.specs.declared.entry.Entry.TheVariants.{Start, Post, Wait, Seen, End, Kill, Insert, Remove, NoMember}
-use Rattle.smi_entry.specs.declared.entry.Sender.TheVariants.{Operator, Object}
-use Rattle.smi_entry.specs.Journals.{most_entries}
-use Rattle.smi_entry.specs.Words.{object_of, any_start, all_starts, dead_of, killed_at}
-use Rattle.smi_entry.specs.Sets.{Sets, sets_next, AreOf}
-use Rattle.smi_entry.proofs.OneMore.{all_more}
-use Rattle.smi_entry.proofs.Changing.{changes_are_of}
+use Rattle.smi_journal_entries.specs.declared.entry.Entry.{Entry}
+use Rattle.smi_journal_entries.specs.declared.entry.Entry.TheVariants.{Start, Post, Wait, Seen, End, Kill, Insert, Remove, NoMember}
+use Rattle.smi_journal_entries.specs.declared.entry.Sender.TheVariants.{Operator, Object}
+use Rattle.smi_journal_entries.specs.Journals.{most_entries}
+use Rattle.smi_journal_entries.specs.Words.{object_of, any_start, all_starts, dead_of, killed_at}
+use Rattle.smi_journal_entries.specs.Sets.{Sets, sets_next, AreOf}
+use Rattle.smi_journal_entries.proofs.OneMore.{all_more}
+use Rattle.smi_journal_entries.proofs.Changing.{changes_are_of}
 use Rattle.smi_ledger.specs.Views.{SlotView, BooksView}
-use Rattle.smi_ledger.specs.Slots.{slot_by, Takes}
-use Rattle.smi_ledger.specs.Tables.{session_places, HasCounts, IsKnown}
-use Rattle.smi_ledger.specs.Books.{Says, closing_of, room_of, IsKept, IsBooked, NamesKnown, DiesOnce, started_of, posted_between}
+use Rattle.smi_ledger.specs.Slots.{slot_by, SlotTakes}
+use Rattle.smi_ledger.specs.Tables.{HasCounts, IsKnown}
+use Rattle.smi_ledger.specs.Books.{Says, closing_of, room_of, BooksAreKept, IsBooked, NamesKnown, DiesOnce, started_of, posted_between}
 use Rattle.smi_ledger.proofs.Tables.{set_there}
 use Rattle.smi_ledger.proofs.Bounds.{started_few, posted_few, table_few}
 use Rattle.smi_ledger.proofs.Kept.{Found, found, kept_as, the_view, closing_written}
 use Rattle.smi_ledger.proofs.Rooms.{roomed, with_room}
+use Rattle.smi_mail_plain.specs.Counts.{session_places}
 
 -- what is seen of books
 abbrev pub the_books : Domain → List Entry → BooksView
@@ -27,7 +28,7 @@ the_books d J = record { domain = d; journal = J }
 
 -- no room is kept beside that of what is open
 owned : (d : Domain) (J : List Entry) (held spare : ℕ) (slots : List SlotView) (starts : ℕ) (sets : Sets)
-    → IsKept d J held spare slots starts sets → IsKept d J (sum_by closing_of slots) 0 slots starts sets
+    → BooksAreKept d J held spare slots starts sets → BooksAreKept d J (sum_by closing_of slots) 0 slots starts sets
 owned d J held spare slots starts sets h = record {
   count = h.count;
   says = h.says;
@@ -37,7 +38,7 @@ owned d J held spare slots starts sets h = record {
   are = h.are;
 }
 
--- the slot of an object of the domain stands at its place, and says what the journal says
+-- the slot of an object of the domain is at its place, and says what the journal says
 pub booked_at : (d : Domain) (J : List Entry) (count : ℕ) (last : Option ℕ) (slots : List SlotView) (sets : Sets)
     (seen : BooksView) (o x : ℕ) (slot : SlotView) → IsBooked d J count last slots sets
     → the_books d J ≡ seen → o < length seen.domain.objects → x ≡ o → slot ≡ get_or slots x slot
@@ -102,7 +103,7 @@ few_counted n m count table long h below i lt = table_few n m count table h belo
 
 -- a slot takes the next entry
 pub slot_takes : (d : Domain) (J : List Entry) (o : ℕ) (slot : SlotView) (e : Entry) → Says d J o slot
-    → object_of e ≡ o → NamesKnown d e → DiesOnce J e → length J < most_entries → Takes slot e
+    → object_of e ≡ o → NamesKnown d e → DiesOnce J e → length J < most_entries → SlotTakes slot e
 slot_takes d J o slot (Start x s n a args) says of known once few = record {
   sessions = says.sessions_there;
   known = subst (λ k. IsKnown k s) (sym says.objects_there) known.1;
@@ -169,7 +170,7 @@ ready d J count last slots sets seen e o x y was mid was2 h view names of x_is y
 -- it takes the entry
 pub ready_takes : (d : Domain) (J : List Entry) (count : ℕ) (last : Option ℕ) (slots : List SlotView) (sets : Sets)
     (seen : BooksView) (e : Entry) (y : ℕ) (was : SlotView) → Ready d J count last slots sets e y was
-    → the_books d J ≡ seen → DiesOnce seen.journal e → count < most_entries → Takes was e
+    → the_books d J ≡ seen → DiesOnce seen.journal e → count < most_entries → SlotTakes was e
 ready_takes d J count last slots sets seen e y was r view once few =
     let long = r.booked.counted in
     slot_takes d J (object_of e) was e r.says refl r.known

@@ -1,26 +1,23 @@
-//! Books without a journal: what the entries so far say of each object, for who keeps no entries.
+//! Books without a journal: what the entries so far say of each object, for a caller that keeps no entries.
 ghost use Rattle.std.specs.Prelude.{◌≡◌, ◌<◌, ◌++◌, ◌∷◌, [], ℕ, IfOk, None, OnErr, OnOk, length, option_map};
 ghost use Rattle.std.specs.Arc.{arc_value};
-ghost use Rattle.smi_entry.specs.Sets.{AreOf, sets_after, sets_next};
-ghost use Rattle.smi_entry.specs.Words as says;
+ghost use Rattle.smi_journal_entries.specs.Sets.{AreOf, sets_after, sets_next};
+ghost use Rattle.smi_journal_entries.specs.Words as says;
 ghost use Rattle.smi_ledger.specs.Books.{DiesOnce, IsLast, NamesKnown, Says, changed_or, posted_between, started_of};
 ghost use Rattle.smi_ledger.specs.Tables.{IsKnown};
 
 use crate::ledger::first_slots;
 use crate::slot::Slot;
-use smi_entry::entry::{Entry, Sender};
-use smi_entry::letter::Letter;
-use smi_entry::members::Members;
-use smi_mail::history::History;
-use sml_domain::domain::Domain;
-use sml_domain::ids::{ObjId, StateId};
+use smi_journal_entries::{Entry, Letter, Members, Sender};
+use smi_mail_plain::History;
+use sml_domain::{Domain, ObjId, StateId};
 use std::alloc::{AllocError, Global};
 use std::marker::Model;
 use std::sync::Arc;
 
 /// What a journal says of each object of a domain, and how long it is, without its entries.
 ///
-/// A look-up takes a constant time, and so does an entry that is added, but for one that closes an action: its
+/// A look-up takes a constant time, and so does an entry that is added, except one that closes an action: its
 /// answers are forgotten in the time of their count. The memory is that of the open actions' answers.
 #[derive(Drop)]
 pub struct Books {
@@ -65,7 +62,7 @@ fn object_of(entry: &Entry) -> ObjId
     }
 }
 
-// The members of all sets behind an entry, where it changes one of these.
+// The members of all sets behind an entry, if it changes one of these sets.
 fn changed_by(
     alloc: Global,
     domain: &Domain,
@@ -133,7 +130,7 @@ impl Books {
         self.slot(o).state
     }
 
-    /// The letter whose action is open at an object, or None where none is.
+    /// The letter whose action is open at an object, or None if no action is open.
     pub fn opened(&self, o: ObjId) -> Option<&Letter>
         requires { o < length self.now.domain.objects }
         ensures { option_map (λ l. l.now) result ≡ says.open_at o self.now.journal }
@@ -157,7 +154,7 @@ impl Books {
         &self.members
     }
 
-    /// The place of the kill of an object in the journal, or None where it is not killed.
+    /// The place of the kill of an object in the journal, or None if it is not killed.
     pub fn killed(&self, o: ObjId) -> Option<usize>
         requires { o < length self.now.domain.objects }
         ensures { result ≡ says.killed_at o self.now.journal }
@@ -199,8 +196,8 @@ impl Books {
                 && self.posted(a, o) == self.started(&Sender::Object(a), o))
     }
 
-    /// Adds an entry. Its arguments and readings are shared, and it is not kept. It fails where memory is refused,
-    /// and where there are 2^64 - 1 entries already.
+    /// Adds an entry. Its arguments and readings are shared, and it is not kept. It fails if memory runs out, and
+    /// if there are 2^64 - 1 entries already.
     pub fn add(&mut self, alloc: Global, entry: &Entry) -> Result<(), AllocError>
         requires known { NamesKnown self.old.domain entry.now }
         requires once { DiesOnce self.old.journal entry.now }

@@ -5,7 +5,7 @@ use Rattle.std.specs.List.{list_all}
 use Rattle.sml_text.specs.declared.source.Source.{Source}
 use Rattle.sml_text.specs.Bytes.{is_ascii, no_line_feed}
 use Rattle.sml_text.specs.Tokens.{Lexeme, Token, TokensOf}
-use Rattle.sml_text.specs.Stream.{tokens_from, bad_from, Ends}
+use Rattle.sml_text.specs.Stream.{tokens_from, bad_from, TextEnds}
 use Rattle.sml_text.proofs.Streams.{read_bad, one_reading}
 use Rattle.smi_lines.specs.declared.line.TheConstants.{LONGEST_LINE}
 use Rattle.smi_lines.specs.Line.{lexemes, whole, is_line}
@@ -54,10 +54,10 @@ module _ {X : Type 0} where
   whole_same f g ts None h = h (lexemes ts)
   whole_same f g ts (Some place) h = refl
 
-  -- where a text goes on behind these tokens, what takes no more of them gives nothing
+  -- where a text continues behind these tokens, what takes no more of them gives nothing
   pub not_ended : (f : List Lexeme → Option X) (front ts : List Token) (bad : Option ℕ)
       (source : Source) (at : ℕ) (text : List ℕ) (end : Bool)
-      → ((place : ℕ) → IsTrue end ↔ Ends source place text) → end ≡ false
+      → ((place : ℕ) → IsTrue end ↔ TextEnds source place text) → end ≡ false
       → ts ≡ front ++ tokens_from source at text → bad ≡ bad_from source at text
       → ((t : Token) (more : List Token) → f (lexemes (front ++ t ∷ more)) ≡ None) → None ≡ whole f ts bad
   not_ended f front ts (Some place) source at text end ends goes_on are same none = refl

@@ -6,8 +6,8 @@ use Rattle.sml_domain.specs.Domain.{Domain, Param}
 use Rattle.std.specs.Option.{option_map_or}
 use Rattle.sml_domain.specs.Sound.{name_of_param}
 use Rattle.sml_domain.specs.Lookups.{object_named, action_named, class_params_at}
-use Rattle.smi_entry.specs.declared.entry.Entry.{Entry}
-use Rattle.smi_journal.specs.CallText.{name_or_nothing, object_text, spaced, value_text, call_text}
+use Rattle.smi_journal_entries.specs.declared.entry.Entry.{Entry}
+use Rattle.smi_journal.specs.CallText.{name_or_nothing, object_name_text, spaced, value_text, call_text}
 use Rattle.smi_journal.specs.EntryText.{session_text}
 use Rattle.smi_journal.specs.JournalText.{lines_text}
 use Rattle.smi_world.specs.declared.step.Step.{Step}
@@ -42,7 +42,7 @@ refused_text word = codes "refused " ++ (word ++ codes "\n")
 -- the line of an accepted request: its session, its object, its number, and its action with complete arguments
 abbrev pub accept_text : Domain → ℕ → ℕ → ℕ → ℕ → List Value → List ℕ
 accept_text d k o n a args =
-    codes "accept" ++ (spaced (session_text k) ++ (spaced (object_text d o)
+    codes "accept" ++ (spaced (session_text k) ++ (spaced (object_name_text d o)
     ++ (spaced (decimal_text n) ++ (spaced (call_text d o a args) ++ codes "\n"))))
 
 -- this line, where both names stand for something
@@ -61,18 +61,18 @@ abbrev pub name_at : List Param → ℕ → List ℕ
 name_at params p = name_or_nothing (option_map name_of_param (slice_get params p))
 
 -- the line of a parameter that was set
-abbrev pub set_text : Domain → ℕ → ℕ → Value → List ℕ
-set_text d o p v =
-    codes "set" ++ (spaced (object_text d o) ++ (spaced (name_at (class_params_at d o) p)
+abbrev pub parameter_set_text : Domain → ℕ → ℕ → Value → List ℕ
+parameter_set_text d o p v =
+    codes "set" ++ (spaced (object_name_text d o) ++ (spaced (name_at (class_params_at d o) p)
     ++ (codes "=" ++ (value_text v ++ codes "\n"))))
 
 -- the line of an action that waits on
 abbrev pub still_text : Domain → ℕ → List ℕ
-still_text d o = codes "still" ++ (spaced (object_text d o) ++ codes "\n")
+still_text d o = codes "still" ++ (spaced (object_name_text d o) ++ codes "\n")
 
 -- the line of a step that set a parameter of its object
 abbrev pub changed_text : Domain → Step → ℕ → Value → List ℕ
-changed_text d s p v = option_map_or (λ o. set_text d o p v) (object_named d (object_in s)) []
+changed_text d s p v = option_map_or (λ o. parameter_set_text d o p v) (object_named d (object_in s)) []
 
 -- the line of a step whose object waits on
 abbrev pub waits_text : Domain → Step → List ℕ

@@ -37,12 +37,12 @@ session_in (Sign s) = None
 session_in (Session k) = Some k
 
 -- the value that a token is
-abbrev pub value_in : Lexeme → Option Value
-value_in (Word w) = None
-value_in (Int n) = Some (value.Int n)
-value_in (Str s) = Some (value.Text s)
-value_in (Sign s) = None
-value_in (Session k) = None
+abbrev pub value_of_token : Lexeme → Option Value
+value_of_token (Word w) = None
+value_of_token (Int n) = Some (value.Int n)
+value_of_token (Str s) = Some (value.Text s)
+value_of_token (Sign s) = None
+value_of_token (Session k) = None
 
 -- the sign that a token is
 abbrev pub sign_in : Lexeme → Option SignKind
@@ -55,9 +55,9 @@ sign_in (Session k) = None
 -- ---- arguments
 
 -- a name, an equals sign and a value
-abbrev pub passed_as : Option (List ℕ) → Option SignKind → Option Value → Option Passed
-passed_as (Some n) (Some sign.Equals) (Some v) = Some (record { name = n; value = v })
-passed_as n s v = None
+abbrev pub passed_by_tokens : Option (List ℕ) → Option SignKind → Option Value → Option Passed
+passed_by_tokens (Some n) (Some sign.Equals) (Some v) = Some (record { name = n; value = v })
+passed_by_tokens n s v = None
 
 -- one argument more in front
 abbrev pub with_passed : Option Passed → Option (List Passed) → Option (List Passed)
@@ -66,10 +66,10 @@ with_passed (Some x) None = None
 with_passed None xs = None
 
 -- what follows an argument: nothing behind a closing bracket, and more behind a comma
-abbrev pub behind : Option SignKind → List Lexeme → Option (List Passed) → Option (List Passed)
-behind (Some sign.CloseBracket) [] more = Some []
-behind (Some sign.Comma) words more = more
-behind s words more = None
+abbrev pub behind_argument : Option SignKind → List Lexeme → Option (List Passed) → Option (List Passed)
+behind_argument (Some sign.CloseBracket) [] more = Some []
+behind_argument (Some sign.Comma) words more = more
+behind_argument s words more = None
 
 -- nothing more behind the last argument, and else what there is
 abbrev pub unless_last : Bool → Option (List Passed) → Option (List Passed)
@@ -79,7 +79,8 @@ unless_last false more = more
 -- NAME = value, .. )
 abbrev pub arguments_in : List Lexeme → Option (List Passed)
 arguments_in (n ∷ e ∷ v ∷ s ∷ words) =
-    with_passed (passed_as (name_in n) (sign_in e) (value_in v)) (behind (sign_in s) words (arguments_in words))
+    with_passed (passed_by_tokens (name_in n) (sign_in e) (value_of_token v))
+    (behind_argument (sign_in s) words (arguments_in words))
 arguments_in words = None
 
 -- no more arguments than a line may have
@@ -87,7 +88,7 @@ abbrev pub not_too_many : Option (List Passed) → Option (List Passed)
 not_too_many None = None
 not_too_many (Some xs) = if nat_le (length xs) MAX_ARGUMENTS then Some xs else None
 
--- the arguments that stand behind the action of a request: none, or those in brackets
+-- the arguments behind the action of a request: no arguments, or those in brackets
 abbrev pub passed_in : List Lexeme → Option (List Passed)
 passed_in [] = Some []
 passed_in (Sign sign.OpenBracket ∷ words) = not_too_many (arguments_in words)
@@ -130,7 +131,7 @@ abbrev pub kill_in : List Lexeme → Option Step
 kill_in (o ∷ k ∷ []) = killed (name_in o) (session_in k)
 kill_in words = None
 
--- what stands behind the first word of a step that is no request
+-- what is behind the first word of a step that is not a request
 abbrev pub named_in : List ℕ → List Lexeme → Option Step
 named_in verb words =
     if same_name verb (codes "START") then option_map step.Start (sole_name words) else
@@ -139,7 +140,7 @@ named_in verb words =
     if same_name verb (codes "FAULT") then option_map step.Fault (sole_name words) else
     if same_name verb (codes "KILL") then kill_in words else None
 
--- what stands behind the first word of a step
+-- what is behind the first word of a step
 abbrev pub step_in : Option (List ℕ) → List Lexeme → Option Step
 step_in None words = None
 step_in (Some verb) words = if same_name verb (codes "REQUEST") then request_in words else named_in verb words
@@ -160,26 +161,26 @@ abbrev pub or_bad : Option Step → Result (Option Step) LineError
 or_bad None = Err error.BadLine
 or_bad (Some s) = Ok (Some s)
 
--- what the tokens of a line ask: nothing where there are none
-abbrev pub asked : List Lexeme → Result (Option Step) LineError
-asked [] = Ok None
-asked (verb ∷ words) = or_bad (step_in (name_in verb) words)
+-- what the tokens of a line ask: nothing if there are no tokens
+abbrev pub step_asked : List Lexeme → Result (Option Step) LineError
+step_asked [] = Ok None
+step_asked (verb ∷ words) = or_bad (step_in (name_in verb) words)
 
 -- the answer to tokens. Out of memory comes only where there are more than those of a request without arguments
-abbrev pub Answers : List Lexeme → Result (Option Step) LineError → Type 0
-Answers words (Err error.Memory) = 5 ≤ length words
-Answers words r = r ≡ asked words
+abbrev pub AnswersTokens : List Lexeme → Result (Option Step) LineError → Type 0
+AnswersTokens words (Err error.Memory) = 5 ≤ length words
+AnswersTokens words r = r ≡ step_asked words
 
--- whether bytes are a line: not too many, all of them ASCII, and none a line feed
+-- whether bytes are a line: not too many, all of them ASCII, and without a line feed
 abbrev pub is_line : List ℕ → Bool
 is_line line = nat_le (length line) LONGEST_LINE && (list_all is_ascii line && list_all no_line_feed line)
 
--- the answer to a line that has tokens, or to one that has none
+-- the answer to a line that is a list of tokens, or to one with something bad in it
 pub record ReadsTokens (line : List ℕ) (r : Result (Option Step) LineError) : Type 0 where
-  pub tokens : (ts : List Token) → TokensOf source.Line line ts → Answers (lexemes ts) r
+  pub tokens : (ts : List Token) → TokensOf source.Line line ts → AnswersTokens (lexemes ts) r
   pub bad : (place : ℕ) → BadTokenOf source.Line line place → r ≡ Err error.BadLine
 
--- the answer to bytes that are a line, or to those that are none
+-- the answer to bytes that are a line, or to bytes that are not a line
 abbrev pub LineAnswers : Bool → List ℕ → Result (Option Step) LineError → Type 0
 LineAnswers true line r = ReadsTokens line r
 LineAnswers false line r = r ≡ Err error.BadLine

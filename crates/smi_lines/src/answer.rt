@@ -6,20 +6,14 @@ ghost use Rattle.smi_journal.specs.CallText.{name_or_nothing};
 ghost use Rattle.smi_world.specs.Steps as names;
 ghost use Rattle.smi_lines.specs.Answers as text;
 
-use smi_entry::args::Args;
-use smi_entry::entry::Entry;
-use smi_entry::session::SessionId;
-use smi_journal::call_text::{tell_call, tell_object, tell_value};
-use smi_journal::entry_text::{tell_number, tell_session};
-use smi_journal::journal_text::tell_lines;
-use smi_world::refusal::StepError;
-use smi_world::step::{Answer, Step};
-use sml_domain::domain::Domain;
-use sml_domain::ids::{ActionId, ObjId, ParamId};
-use sml_domain::param::Param;
-use sml_domain::value::Value;
-use sml_text::writing::{Sink, tell};
-use sml_tree::name::Name;
+use smi_journal::{
+    Args, Entry, SessionId, tell_call, tell_lines, tell_number, tell_object, tell_session,
+    tell_value,
+};
+use smi_world::{Answer, Step, StepError};
+use sml_domain::{ActionId, Domain, ObjId, Param, ParamId, Value};
+use sml_text::{Sink, tell};
+use sml_tree::Name;
 
 // The word of a refusal.
 fn word_of(error: StepError) -> &'static [u8]
@@ -45,7 +39,8 @@ fn word_of(error: StepError) -> &'static [u8]
 
 /// The line of a refusal, by its word. (docs/FORMATS.md, "Schedules".)
 pub fn tell_refused<W: Sink>(writer: &mut W, failed: &mut bool, word: &[u8])
-    ensures told { Told (W.contents writer.old) failed.old (W.contents writer.new) failed.new (text.refused_text word.now) }
+    ensures told { Told (W.contents writer.old) failed.old (W.contents writer.new) failed.new
+        (text.refused_text word.now) }
     ensures due { StaysDue (W.has_refused writer.old) failed.old (W.has_refused writer.new) failed.new }
 {
     tell(writer, failed, b"refused ");
@@ -64,7 +59,8 @@ fn tell_accepted<W: Sink>(
     action: ActionId,
     args: &[Value],
 )
-    ensures told { Told (W.contents writer.old) failed.old (W.contents writer.new) failed.new (text.accept_text domain.now sender object number action args.now) }
+    ensures told { Told (W.contents writer.old) failed.old (W.contents writer.new) failed.new
+        (text.accept_text domain.now sender object number action args.now) }
     ensures due { StaysDue (W.has_refused writer.old) failed.old (W.has_refused writer.new) failed.new }
 {
     tell(writer, failed, b"accept");
@@ -75,7 +71,7 @@ fn tell_accepted<W: Sink>(
     tell(writer, failed, b"\n");
 }
 
-// The line of a step that was accepted under a number, where it is a request.
+// The line of a step that was accepted under a number, if it is a request.
 fn tell_number_given<W: Sink>(
     writer: &mut W,
     failed: &mut bool,
@@ -84,7 +80,8 @@ fn tell_number_given<W: Sink>(
     number: u64,
     args: &Args,
 )
-    ensures told { Told (W.contents writer.old) failed.old (W.contents writer.new) failed.new (text.accepted_text domain.now step.now number args.now) }
+    ensures told { Told (W.contents writer.old) failed.old (W.contents writer.new) failed.new
+        (text.accepted_text domain.now step.now number args.now) }
     ensures due { StaysDue (W.has_refused writer.old) failed.old (W.has_refused writer.new) failed.new }
 {
     if let Step::Request {
@@ -121,7 +118,7 @@ fn name_at(params: &[Param], param: ParamId) -> Option<Name>
     }
 }
 
-// A name, or nothing where there is none.
+// Writes a name, or nothing for None.
 fn tell_name<W: Sink>(writer: &mut W, failed: &mut bool, name: Option<Name>)
     ensures told { Told (W.contents writer.old) failed.old (W.contents writer.new) failed.new (name_or_nothing name) }
     ensures due { StaysDue (W.has_refused writer.old) failed.old (W.has_refused writer.new) failed.new }
@@ -140,7 +137,8 @@ fn tell_set<W: Sink>(
     param: ParamId,
     value: &Value,
 )
-    ensures told { Told (W.contents writer.old) failed.old (W.contents writer.new) failed.new (text.set_text domain.now object param value.now) }
+    ensures told { Told (W.contents writer.old) failed.old (W.contents writer.new) failed.new
+        (text.parameter_set_text domain.now object param value.now) }
     ensures due { StaysDue (W.has_refused writer.old) failed.old (W.has_refused writer.new) failed.new }
 {
     tell(writer, failed, b"set");
@@ -158,7 +156,8 @@ fn tell_set<W: Sink>(
 
 // The line of an action that waits on.
 fn tell_still<W: Sink>(writer: &mut W, failed: &mut bool, domain: &Domain, object: ObjId)
-    ensures told { Told (W.contents writer.old) failed.old (W.contents writer.new) failed.new (text.still_text domain.now object) }
+    ensures told { Told (W.contents writer.old) failed.old (W.contents writer.new) failed.new
+        (text.still_text domain.now object) }
     ensures due { StaysDue (W.has_refused writer.old) failed.old (W.has_refused writer.new) failed.new }
 {
     tell(writer, failed, b"still");
@@ -187,7 +186,8 @@ fn tell_changed<W: Sink>(
     param: ParamId,
     value: &Value,
 )
-    ensures told { Told (W.contents writer.old) failed.old (W.contents writer.new) failed.new (text.changed_text domain.now step.now param value.now) }
+    ensures told { Told (W.contents writer.old) failed.old (W.contents writer.new) failed.new
+        (text.changed_text domain.now step.now param value.now) }
     ensures due { StaysDue (W.has_refused writer.old) failed.old (W.has_refused writer.new) failed.new }
 {
     if let Some(object) = domain.object(object_in(step)) {
@@ -197,7 +197,8 @@ fn tell_changed<W: Sink>(
 
 // The line of a step whose action waits on.
 fn tell_waits<W: Sink>(writer: &mut W, failed: &mut bool, domain: &Domain, step: &Step)
-    ensures told { Told (W.contents writer.old) failed.old (W.contents writer.new) failed.new (text.waits_text domain.now step.now) }
+    ensures told { Told (W.contents writer.old) failed.old (W.contents writer.new) failed.new
+        (text.waits_text domain.now step.now) }
     ensures due { StaysDue (W.has_refused writer.old) failed.old (W.has_refused writer.new) failed.new }
 {
     if let Some(object) = domain.object(object_in(step)) {
@@ -215,7 +216,8 @@ pub fn tell_answer<W: Sink>(
     answer: &Result<Answer, StepError>,
     added: &[Entry],
 )
-    ensures told { Told (W.contents writer.old) failed.old (W.contents writer.new) failed.new (text.answer_text domain.now step.now answer.now added.now) }
+    ensures told { Told (W.contents writer.old) failed.old (W.contents writer.new) failed.new
+        (text.answer_text domain.now step.now answer.now added.now) }
     ensures due { StaysDue (W.has_refused writer.old) failed.old (W.has_refused writer.new) failed.new }
 {
     match answer {

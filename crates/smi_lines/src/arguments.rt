@@ -1,4 +1,4 @@
-//! The arguments of a request, as they stand in a line.
+//! The arguments of a request, as a line has them.
 ghost use Rattle.std.specs.Prelude.{◌≡◌, ◌≤◌, ◌<◌, ◌^◌, ◌+◌, List, Option, Some, None, IfOk, IfSome, IsTrue, OnErr};
 ghost use Rattle.std.specs.Prelude.{length, option_map};
 ghost use Rattle.sml_text.specs.Stream.{tokens_from, bad_from};
@@ -9,16 +9,11 @@ ghost use Rattle.sml_domain.specs.Completing.{Passed as Given};
 ghost use Rattle.smi_lines.specs.Line as spec;
 ghost use Rattle.smi_lines.specs.Line.{lexemes, whole};
 
-use smi_entry::completing::Passed;
-use smi_world::step::Arguments;
-use sml_domain::error::TextError;
-use sml_domain::text::Text;
-use sml_domain::value::Value;
-use sml_text::source::{Sign, Source};
-use sml_text::tokens::{Lexeme, is_end, next_token};
-use sml_tree::limits::MAX_ARGUMENTS;
-use sml_tree::name::Name;
-use sml_tree::words::is_reserved;
+use smi_journal::Passed;
+use smi_world::Arguments;
+use sml_domain::{Text, TextError, Value};
+use sml_text::{Lexeme, Sign, Source, is_end, next_token};
+use sml_tree::{MAX_ARGUMENTS, Name, is_reserved};
 use std::alloc::{AllocError, Global};
 
 /// The name that a token is: a word that is not reserved.
@@ -54,7 +49,7 @@ fn text_of(alloc: Global, bytes: &[u8]) -> Result<Text, AllocError>
 // The value that a token is.
 fn value_in(alloc: Global, lexeme: &Lexeme) -> Result<Option<Value>, AllocError>
     requires { IsLexeme lexeme.now }
-    ensures { IfOk result (λ v. v ≡ spec.value_in (lexeme_of lexeme.now)) }
+    ensures { IfOk result (λ v. v ≡ spec.value_of_token (lexeme_of lexeme.now)) }
 {
     match lexeme {
         Lexeme::Int(n) => Ok(Some(Value::Int(*n))),
@@ -82,8 +77,8 @@ fn passed_as(
 ) -> Result<Option<Passed>, AllocError>
     requires name { IsLexeme name.now }
     requires value { IsLexeme value.now }
-    ensures { IfOk result (λ x. x ≡ spec.passed_as (spec.name_in (lexeme_of name.now))
-        (spec.sign_in (lexeme_of equals.now)) (spec.value_in (lexeme_of value.now))) }
+    ensures { IfOk result (λ x. x ≡ spec.passed_by_tokens (spec.name_in (lexeme_of name.now))
+        (spec.sign_in (lexeme_of equals.now)) (spec.value_of_token (lexeme_of value.now))) }
 {
     let Some(name) = name_in(name) else {
         return Ok(None);
@@ -97,7 +92,7 @@ fn passed_as(
     }
 }
 
-// An argument, whether it is the last, and what stands behind it.
+// An argument, whether it is the last, and what is behind it.
 #[derive(Drop)]
 struct Next<'a> {
     passed: Passed,
@@ -140,14 +135,14 @@ fn next_argument(alloc: Global, rest: &[u8], at: usize) -> Result<Option<Next>, 
     Ok(followed(passed, &sign.lexeme, rest, at))
 }
 
-// An argument with what stands behind it: a bracket and nothing, or a comma and more.
+// An argument with what is behind it: a bracket and nothing, or a comma and more.
 fn followed<'a>(passed: Passed, sign: &Lexeme, rest: &'a [u8], at: usize) -> Option<Next<'a>>
     requires { at + length rest.now < 2 ^ 63 }
     ensures none { result ≡ None → (more : Option (List Given)) →
-        whole (λ words. spec.behind (spec.sign_in (lexeme_of sign.now)) words more)
+        whole (λ words. spec.behind_argument (spec.sign_in (lexeme_of sign.now)) words more)
         (tokens_from source.Line at rest.now) (bad_from source.Line at rest.now) ≡ None }
     ensures some { IfSome result (λ x. (more : Option (List Given)) →
-        spec.behind (spec.sign_in (lexeme_of sign.now)) (lexemes (tokens_from source.Line at rest.now)) more
+        spec.behind_argument (spec.sign_in (lexeme_of sign.now)) (lexemes (tokens_from source.Line at rest.now)) more
         ≡ spec.unless_last x.is_last more) }
     ensures last { IfSome result (λ x. IsTrue x.is_last → bad_from source.Line at rest.now ≡ None) }
     ensures same { IfSome result (λ x. (x.passed ≡ passed) × (x.rest.now ≡ rest.now) × (x.at ≡ at)) }
@@ -198,7 +193,7 @@ fn arguments_in(alloc: Global, rest: &[u8], at: usize) -> Result<Option<Vec<Pass
     }
 }
 
-/// What stands behind the action of a request: nothing, or arguments in brackets, of which there are no
+/// Reads what is behind the action of a request: nothing, or arguments in brackets, of which there are no
 /// more than a line may have.
 pub fn passed_in(alloc: Global, rest: &[u8], at: usize) -> Result<Option<Arguments>, AllocError>
     requires { at + length rest.now < 2 ^ 63 }

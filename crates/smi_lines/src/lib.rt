@@ -1,6 +1,9 @@
 //! The lines of schedules: the steps that they ask.
 #![tactic(auto)]
 
-pub mod answer;
+mod answer;
 mod arguments;
-pub mod line;
+mod line;
+
+pub use answer::{tell_answer, tell_refused};
+pub use line::{LONGEST_LINE, LineError, read_step};

@@ -16,20 +16,18 @@ ghost use Rattle.smi_lines.specs.declared.line.LineError.TheVariants as error;
 ghost use Rattle.smi_lines.specs.declared.line.TheConstants.{LONGEST_LINE};
 
 use crate::arguments::{name_in, passed_in};
-use smi_entry::session::SessionId;
-use smi_world::step::Step;
-use sml_text::laws::laws_of_tokens;
-use sml_text::source::Source;
-use sml_text::tokens::{Lexeme, first_bad, is_end, next_token};
-use sml_tree::name::Name;
+use smi_journal::SessionId;
+use smi_world::Step;
+use sml_text::{Lexeme, Source, first_bad, is_end, laws_of_tokens, next_token};
+use sml_tree::Name;
 use std::alloc::{AllocError, Global};
 use std::error::Error;
 use std::fmt;
 
-/// Why a line is no step.
+/// Why a line is not a step.
 #[derive(Clone, Copy, Debug, Eq, PartialEq)]
 pub enum LineError {
-    /// The line is of no form of a step.
+    /// The line does not have the form of a step.
     BadLine,
     /// Out of memory.
     Memory,
@@ -51,14 +49,14 @@ impl Error for LineError {}
 /// How many bytes a line may have.
 pub const LONGEST_LINE: usize = 8192;
 
-// Whether each byte is ASCII and no line feed.
+// Whether each byte is ASCII and not a line feed.
 fn has_line_bytes(line: &[u8]) -> bool
     ensures { result ≡ all_of (λ c. ascii c && no_line_feed c) line.now }
 {
     line.iter().all(|b| *b <= 127 && *b != b'\n')
 }
 
-// Whether bytes are a line: not too many, all of them ASCII, and none a line feed.
+// Whether bytes are a line: not too many, all of them ASCII, and without a line feed.
 #[tactic(auto, using(crate::proofs::Wholes::bytes_say))]
 fn is_line(line: &[u8]) -> bool
     ensures { result ≡ spec.is_line line.now }
@@ -77,7 +75,7 @@ fn session_in(lexeme: &Lexeme) -> Option<SessionId>
     }
 }
 
-// The one name that stands in the rest of a line, whose first byte is at this place.
+// The one name in the rest of a line, whose first byte is at this place.
 fn sole_name(rest: &[u8], at: usize) -> Option<Name>
     requires { at + length rest.now < 2 ^ 63 }
     ensures { result ≡ whole spec.sole_name (tokens_from source.Line at rest.now) (bad_from source.Line at rest.now) }
@@ -89,7 +87,7 @@ fn sole_name(rest: &[u8], at: usize) -> Option<Name>
     name_in(&object.lexeme)
 }
 
-// What stands behind `answer`.
+// What is behind `answer`.
 fn answer_in(rest: &[u8], at: usize) -> Option<Step>
     requires { at + length rest.now < 2 ^ 63 }
     ensures { result ≡ whole spec.answer_in (tokens_from source.Line at rest.now) (bad_from source.Line at rest.now) }
@@ -105,7 +103,7 @@ fn answer_in(rest: &[u8], at: usize) -> Option<Step>
     })
 }
 
-// What stands behind `kill`.
+// What is behind `kill`.
 fn kill_in(rest: &[u8], at: usize) -> Option<Step>
     requires { at + length rest.now < 2 ^ 63 }
     ensures { result ≡ whole spec.kill_in (tokens_from source.Line at rest.now) (bad_from source.Line at rest.now) }
@@ -121,19 +119,20 @@ fn kill_in(rest: &[u8], at: usize) -> Option<Step>
     })
 }
 
-// Who asks, whom and for what, of the first tokens of a request.
+// Which session asks which object for which action, by the first tokens of a request.
 fn asker(session: &Lexeme, object: &Lexeme, action: &Lexeme) -> Option<(SessionId, Name, Name)>
     requires session { IsLexeme session.now }
     requires object { IsLexeme object.now }
     requires action { IsLexeme action.now }
-    ensures { (passed : Option (List Given)) → option_and_then (λ x. option_map (step.Request x.0 x.1 x.2) passed) result ≡
+    ensures { (passed : Option (List Given)) → option_and_then
+        (λ x. option_map (step.Request x.0 x.1 x.2) passed) result ≡
         spec.requested (spec.session_in (lexeme_of session.now)) (spec.name_in (lexeme_of object.now))
         (spec.name_in (lexeme_of action.now)) passed }
 {
     Some((session_in(session)?, name_in(object)?, name_in(action)?))
 }
 
-// What stands behind `request`.
+// What is behind `request`.
 fn request_in(alloc: Global, rest: &[u8], at: usize) -> Result<Option<Step>, AllocError>
     requires { at + length rest.now < 2 ^ 63 }
     ensures asked { IfOk result (λ s.
@@ -185,7 +184,7 @@ fn named_step(verb: &Name, rest: &[u8], at: usize) -> Option<Step>
     }
 }
 
-// What stands behind the first word of a line.
+// What is behind the first word of a line.
 fn step_in(alloc: Global, verb: &Lexeme, rest: &[u8], at: usize) -> Result<Option<Step>, AllocError>
     requires verb { IsLexeme verb.now }
     requires small { at + length rest.now < 2 ^ 63 }
@@ -204,7 +203,7 @@ fn step_in(alloc: Global, verb: &Lexeme, rest: &[u8], at: usize) -> Result<Optio
     }
 }
 
-// Why a line is no step where memory for its arguments was refused: something bad in it, or that alone.
+// Why a line is not a step if memory for its arguments ran out: something bad in it, or only that.
 #[tactic(auto, using(crate::proofs::Wholes::no_bad))]
 fn memory_error(line: &[u8]) -> LineError
     ensures tokens { bad_from source.Line 0 line.now ≡ None → result ≡ error.Memory }
@@ -221,7 +220,7 @@ fn memory_error(line: &[u8]) -> LineError
 fn asked(alloc: Global, line: &[u8]) -> Result<Option<Step>, LineError>
     requires { length line.now ≤ LONGEST_LINE }
     ensures tokens { bad_from source.Line 0 line.now ≡ None →
-        spec.Answers (lexemes (tokens_from source.Line 0 line.now)) result }
+        spec.AnswersTokens (lexemes (tokens_from source.Line 0 line.now)) result }
     ensures bad { (bad : ℕ) → bad_from source.Line 0 line.now ≡ Some bad → result ≡ Err error.BadLine }
 {
     match next_token(Source::Line, line, 0) {
@@ -235,14 +234,14 @@ fn asked(alloc: Global, line: &[u8]) -> Result<Option<Step>, LineError>
     }
 }
 
-/// Reads one line of a schedule without its line feed: the step that it asks, or None where it has no
+/// Reads one line of a schedule without its line feed: the step that it asks, or None if it has no
 /// token. (docs/FORMATS.md, "Schedules".) The cost is the length of the line: its tokens are read once,
-/// and once more where memory is refused.
+/// and once more if memory runs out.
 ///
 /// # Errors
 ///
-/// `BadLine` where it is of no form of a step, has more than 8,192 bytes, or a byte above 0x7F or a
-/// line feed; `Memory` where memory for its arguments is refused.
+/// `BadLine` if it does not have the form of a step, has more than 8,192 bytes, or a byte above 0x7F or a
+/// line feed; `Memory` if memory for its arguments runs out.
 #[tactic(auto, using(crate::proofs::Wholes::no_bad))]
 pub fn read_step(alloc: Global, line: &[u8]) -> Result<Option<Step>, LineError>
     ensures { LineReads line.now result }

@@ -1,8 +1,17 @@
-//! Mailboxes: the requests that wait for objects, and the mail of one thread.
+//! Mailboxes that threads share: the board's end of all of them, and each session's. (docs/ARCHITECTURE.md,
+//! "Mailboxes between threads".)
 #![tactic(auto)]
 
-mod counts;
-pub mod history;
-pub mod mail;
-mod mailbox;
-pub mod plain;
+mod close;
+mod ends;
+mod envelopes;
+mod mailboxes;
+mod order;
+mod rows;
+mod rule;
+mod ruled_mail;
+
+pub use close::{DrainRoom, Drained};
+pub use mailboxes::{MAX_SESSIONS, MailError, Mailboxes};
+pub use ruled_mail::{MailNames, OperatorEnd, RuledMail, ruled};
+pub use smi_mail_plain::{Full, Mail, PlainMail};

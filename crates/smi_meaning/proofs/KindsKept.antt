@@ -17,7 +17,7 @@ use Rattle.sml_domain.specs.Sound.{ParamFits, ClassFits, SignatureFits, IsSound,
 use Rattle.sml_domain.specs.Laws.{passed_as, KeepsKinds, IsFilled, CompletesWithKinds}
 use Rattle.sml_domain.proofs.Finds.{found}
 use Rattle.sml_domain.proofs.Ranges.{class_fits}
-use Rattle.smi_entry.specs.Sets.{members_in}
+use Rattle.smi_journal_entries.specs.Sets.{members_in}
 use Rattle.smi_meaning.specs.Environment.{Env, value_in, value_of, with_set, ValuesFit, EnvFits}
 use Rattle.smi_meaning.specs.Conditions.{is_true_over}
 use Rattle.smi_meaning.specs.Meaning.{Move, Outcome, Through, To, Means, Goes, itself, values_for, post_to, wanted}

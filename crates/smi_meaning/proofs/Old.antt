@@ -1,11 +1,11 @@
 -- Journals of the first format, in which no set changes.
 use Rattle.std.proofs.Common.{◌≡◌, List, [], ◌∷◌, ◌++◌, refl, sym, ap, ◌∙◌, append-nil, append_assoc}
 use Rattle.sml_domain.specs.Domain.{Domain}
-use Rattle.smi_entry.specs.declared.entry.Entry.{Entry}
-use Rattle.smi_entry.specs.declared.entry.Entry.TheVariants.{Start, Post, Wait, Seen, End, Kill, Insert, Remove, NoMember}
-use Rattle.smi_entry.specs.declared.journal.Format.TheVariants.{One}
-use Rattle.smi_entry.specs.Sets.{sets_after, sets_next, unchanged}
-use Rattle.smi_entry.proofs.OneMore.{sets_more}
+use Rattle.smi_journal_entries.specs.declared.entry.Entry.{Entry}
+use Rattle.smi_journal_entries.specs.declared.entry.Entry.TheVariants.{Start, Post, Wait, Seen, End, Kill, Insert, Remove, NoMember}
+use Rattle.smi_journal_entries.specs.declared.journal.Format.TheVariants.{One}
+use Rattle.smi_journal_entries.specs.Sets.{sets_after, sets_next, unchanged}
+use Rattle.smi_journal_entries.proofs.OneMore.{sets_more}
 use Rattle.smi_meaning.specs.Legal.{IsLegal, IsLegalFrom, MayFollow}
 
 -- an entry that may follow changes no set

@@ -15,25 +15,25 @@ use Rattle.sml_domain.proofs.Ranges.{class_fits, class_params_fit, this_block_fi
 use Rattle.sml_domain.proofs.Finds.{all_head, all_tail}
 use Rattle.sml_domain.proofs.Completes.{completes_with_kinds}
 use Rattle.sml_domain.proofs.Setted.{members_may}
-use Rattle.smi_entry.specs.declared.journal.Format.{Format}
-use Rattle.smi_entry.specs.declared.entry.Sender.{Sender}
-use Rattle.smi_entry.specs.declared.entry.Sender.TheVariants.{Operator, Object}
-use Rattle.smi_entry.specs.declared.entry.Verdict.TheVariants.{Accepted, Full, Dead}
-use Rattle.smi_entry.specs.declared.entry.Entry.{Entry}
-use Rattle.smi_entry.specs.declared.entry.Entry.TheVariants.{Start, Post, Wait, Seen, End, Kill, Insert, Remove, NoMember}
-use Rattle.smi_entry.specs.declared.entry.ActionEnd.TheVariants.{State, Skipped}
-use Rattle.smi_entry.specs.declared.letter.Letter.{Letter}
-use Rattle.smi_entry.specs.Requests.{Request}
-use Rattle.smi_entry.specs.Words.{Item, Sent, HadNone, Saw, Turned, open_at, open_next, posts_between, post_in, state_of, shown_of}
-use Rattle.smi_entry.proofs.OneMore.{open_more, posts_more, sets_more}
-use Rattle.smi_entry.proofs.Changing.{begin_declared, set_written}
-use Rattle.smi_entry.specs.Sets.{Sets, members_in, changed_to, with_change, sets_next, sets_after}
+use Rattle.smi_journal_entries.specs.declared.journal.Format.{Format}
+use Rattle.smi_journal_entries.specs.declared.entry.Sender.{Sender}
+use Rattle.smi_journal_entries.specs.declared.entry.Sender.TheVariants.{Operator, Object}
+use Rattle.smi_journal_entries.specs.declared.entry.Verdict.TheVariants.{Accepted, Full, Dead}
+use Rattle.smi_journal_entries.specs.declared.entry.Entry.{Entry}
+use Rattle.smi_journal_entries.specs.declared.entry.Entry.TheVariants.{Start, Post, Wait, Seen, End, Kill, Insert, Remove, NoMember}
+use Rattle.smi_journal_entries.specs.declared.entry.ActionEnd.TheVariants.{State, Skipped}
+use Rattle.smi_journal_entries.specs.declared.letter.Letter.{Letter}
+use Rattle.smi_journal_entries.specs.Requests.{Request}
+use Rattle.smi_journal_entries.specs.Words.{Item, Sent, HadNone, Saw, Turned, open_at, open_next, posts_between, post_in, state_of, shown_of}
+use Rattle.smi_journal_entries.proofs.OneMore.{open_more, posts_more, sets_more}
+use Rattle.smi_journal_entries.proofs.Changing.{begin_declared, set_written}
+use Rattle.smi_journal_entries.specs.Sets.{Sets, members_in, changed_to, with_change, sets_next, sets_after}
 use Rattle.smi_meaning.specs.Items.{Posted, item_of, sent_shown}
 use Rattle.smi_meaning.specs.Environment.{Env, value_of, with_set, ValuesFit, ArgumentsAre, EnvFits}
 use Rattle.smi_meaning.specs.Conditions.{is_true_over}
 use Rattle.smi_meaning.specs.Meaning.{Move, DidSend, Outcome, Through, To, Means, Goes, post_of}
 use Rattle.smi_meaning.specs.Shown.{items_of, shown_moves}
-use Rattle.smi_meaning.specs.Quiet.{said_in}
+use Rattle.smi_meaning.specs.Quiet.{said_of_block}
 use Rattle.smi_meaning.specs.Params.{Running, run_with, running_in, running_at, env_of, LeavesParams, is_logical_at, ParamsNext, ParamsFrom, initial_params, first_value}
 use Rattle.smi_meaning.specs.Legal.{MayStart, ShowsNext, MayFollow, IsLegalFrom, IsLegal}
 use Rattle.smi_meaning.specs.Laws.{PostFits, AreAllowedMembers}
@@ -45,7 +45,8 @@ use Rattle.smi_meaning.proofs.Picked.{on_branch, same_some, in_two}
 
 -- ---- what meanings show
 
--- what is shown fits: a post where sets have no members but such as they may come to have, and a change that puts in only such
+-- what is shown fits: a post if sets have only members that they may come to have, and a change if it puts in only
+-- such
 abbrev pub ItemFits : Domain → Item → Type 0
 ItemFits d (Sent sets t v a args) = AreAllowedMembers d (members_in d sets) → ArgumentsAre d t a args
 ItemFits d (HadNone sets set) = Unit {0}
@@ -111,22 +112,22 @@ pub record RunFits (d : Domain) (o : ℕ) (own : List Value) (run : Running) : T
   pub program : ProgramFits d c given run.program
   pub env : EnvFits c.params given (env_of own run)
 
-block_fits : (format : Format) (d : Domain) (o a b : ℕ) (args own : List Value) (cs : Option Class) → class_at d o ≡ cs → IsSomeAnd cs (FitsClass d a b) → IsSomeAnd (option_map params_of_action (option_and_then (signature_in a) cs)) (ValuesFit args) → ValuesFit own (option_map_or params_of_class cs []) → RunFits d o own (run_with args (said_in format d (tree_of_block d b)))
+block_fits : (format : Format) (d : Domain) (o a b : ℕ) (args own : List Value) (cs : Option Class) → class_at d o ≡ cs → IsSomeAnd cs (FitsClass d a b) → IsSomeAnd (option_map params_of_action (option_and_then (signature_in a) cs)) (ValuesFit args) → ValuesFit own (option_map_or params_of_class cs []) → RunFits d o own (run_with args (said_of_block format d (tree_of_block d b)))
 block_fits format d o a b args own None is h g v = absurd h
 block_fits format d o a b args own (Some c) is h g v = go (signature_in a c) h g
   where
-    go : (x : Option Signature) → IsSomeAnd x (TakesParams d c (tree_of_block d b)) → IsSomeAnd (option_map params_of_action x) (ValuesFit args) → RunFits d o own (run_with args (said_in format d (tree_of_block d b)))
+    go : (x : Option Signature) → IsSomeAnd x (TakesParams d c (tree_of_block d b)) → IsSomeAnd (option_map params_of_action x) (ValuesFit args) → RunFits d o own (run_with args (said_of_block format d (tree_of_block d b)))
     go None h g = absurd h
     go (Some x) h g = record { c = c; class_is = is; given = x.params; program = said_fits format d c x.params (tree_of_block d b) h; env = record { own_fit = v; given_fit = g } }
 
 pub run_fits : (format : Format) (d : Domain) (J : List Entry) (o : ℕ) (own : List Value) (run : Running) → IsSound d → JournalFits format d J → ValuesFit own (class_params_at d o) → running_at format d o J ≡ Some run → RunFits d o own run
 run_fits format d J o own run sound fits v runs = go (open_at o J) (fits.opened o) runs
   where
-    block : (l : Letter) → ArgumentsAre d o l.action l.args → (b : Option ℕ) → block_at d o (state_of d o J) l.action ≡ b → option_map (run_with l.args) (option_map (said_in format d) (option_map (tree_of_block d) b)) ≡ Some run → RunFits d o own run
+    block : (l : Letter) → ArgumentsAre d o l.action l.args → (b : Option ℕ) → block_at d o (state_of d o J) l.action ≡ b → option_map (run_with l.args) (option_map (said_of_block format d) (option_map (tree_of_block d) b)) ≡ Some run → RunFits d o own run
     block l args None is e = absurd (cc e)
     block l args (Some b) is e =
         let there = this_block_fits d o (state_of d o J) l.action b (class_fits d o sound) (sym is) in
-        subst (RunFits d o own) (same_some (run_with l.args (said_in format d (tree_of_block d b))) run e) (block_fits format d o l.action b l.args own (class_at d o) refl there.1 args v)
+        subst (RunFits d o own) (same_some (run_with l.args (said_of_block format d (tree_of_block d b))) run e) (block_fits format d o l.action b l.args own (class_at d o) refl there.1 args v)
 
     go : (l : Option Letter) → ((x : Letter) → l ≡ Some x → ArgumentsAre d o x.action x.args) → option_and_then (running_in format d o J) l ≡ Some run → RunFits d o own run
     go None f e = absurd (cc e)

@@ -22,8 +22,7 @@ pub fn laws_of_legal_journals()
 {}
 
 /// A journal of the first format is judged as it was before sets could change: its sets keep their declared members.
-/// (That no entry of a change may stand in it, and that nothing is asked of fan-outs, is in `MayFollow` and
-/// `KeepsWhole`.)
+/// (`MayFollow` allows no entry of a change in it, and `KeepsWhole` asks nothing of its fan-outs.)
 pub fn laws_of_old_journals()
     ensures { OldMembersStay }
 {}
@@ -38,7 +37,8 @@ pub fn laws_of_next_entries()
     ensures ends { DoneOrShows }
 {}
 
-/// In the second format at most one fan-out has some of its posts in a legal journal and some not, and one request is its next.
+/// In the second format at most one fan-out has some of its posts in a legal journal and some not, and it has one
+/// next request.
 pub fn laws_of_fan_outs()
     ensures next { WithinIsOne }
     ensures last { WithinIsLast }
@@ -46,8 +46,8 @@ pub fn laws_of_fan_outs()
     ensures whole { WholeIsOut }
 {}
 
-/// An example, so that nothing of this is empty: supplies are switched on, are killed and fail; a
-/// counter is told what to hold, and tells two takers with parameters of their own. It has all kinds
+/// The definitions are not vacuous. In an example supplies are switched on, are killed and fail; a
+/// counter takes what to hold, and sends it to two takers with different parameters. It has all kinds
 /// of entry, of verdict and of end.
 pub fn an_example()
     ensures { ExampleIsLegal }

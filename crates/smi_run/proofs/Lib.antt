@@ -1,4 +1,1 @@
-mod Accepting
-mod Count
-mod Places
-mod Refusing
+pub mod Crosses

@@ -1,4 +1,1 @@
-pub mod Sessions
-pub mod Posts
-pub mod Opening
-pub mod Closing
+pub mod Rooms

@@ -1,11 +1,19 @@
-//! Runs in threads: sessions that post, workers that serve, devices that answer, and the report at the end.
-//! (docs/ARCHITECTURE.md, "Threads".)
+//! Runs by scripts: a thread for each worker and for each session, up to the report. (docs/ARCHITECTURE.md,
+//! "Threads".)
 #![tactic(auto)]
 
-pub mod closing;
-pub mod errors;
-pub mod opening;
-pub mod posting;
-pub mod runtime;
-mod seats;
-pub mod session;
+mod player;
+mod running;
+mod script;
+mod watch;
+mod workers;
+
+pub use running::{run_scripts, run_watched};
+pub use script::{Line, Script};
+pub use smi_journal_entries::Args;
+pub use smi_run_report::{Accepted, Receipt, Report, add_unmet};
+pub use smi_run_runtime::{
+    Closed, Config, FinishError, KillError, MAX_WORKERS, OpenError, PostError, Runtime, Session,
+};
+pub use smi_run_shared::{Device, DeviceFault, Progress, ServeEnd, Tally};
+pub use watch::{Unwatched, Watch, Wish};

@@ -1,8 +1,7 @@
 //! The program `smirun`: state manager domains, run from the command line.
 #![tactic(auto)]
 
-use smi_words::asked::refuse_words;
-use smi_words::drive::drive;
+use smirun_words::{drive, refuse_words};
 use std::env::Env;
 use std::fs::{Files, OpenOptions};
 use std::process::ExitCode;
@@ -32,9 +31,9 @@ fn main(rt: HostRuntime) -> ExitCode {
     ExitCode::from(status)
 }
 
-// Opens a file in the place of a standard stream that is closed, if one is, so that no file of the command line takes its
-// number: what is written to that stream would go into that file. It cannot be read where it is to be written, and the
-// other way round, so that a stream which is closed stays one that fails.
+// Opens a file in place of a standard stream that is closed, if one is, so that no file of the command line gets its
+// number: else what is written to that stream would go into that file. The file that is opened can only be read if the
+// stream is written, and the other way round, so that a closed stream still fails.
 fn stand_in<R: Files>(rt: &R, is_written: bool) -> Option<R::File> {
     let mut how = OpenOptions::new();
     how.read(!is_written).write(is_written);

@@ -1,13 +1,12 @@
 //! The first fault of a file.
 ghost use Rattle.std.specs.Prelude.{◌≡◌, ◌⊎◌, Some, None, flat_map, OnOk, IfErr};
 ghost use Rattle.sml_tree.specs.Content.{file_content};
-ghost use Rattle.sml_faults.specs.Lookup as look;
-ghost use Rattle.sml_faults.specs.Kinds.{faults_of, all_faults, with_kind, IsWellFormed};
-ghost use Rattle.sml_faults.specs.KindText.{memory_error};
+ghost use Rattle.sml_check_faults.specs.Lookup as look;
+ghost use Rattle.sml_check_faults.specs.Kinds.{faults_of, all_faults, with_kind, IsWellFormed};
+ghost use Rattle.sml_check_faults.specs.KindText.{memory_error};
 
-use sml_faults::{CheckError, CheckKind, Tables};
-use sml_tree::file::SmlFile;
-use sml_tree::name::Name;
+use sml_check_faults::{CheckError, CheckKind, Tables};
+use sml_tree::{Name, SmlFile};
 use std::alloc::{Allocator, Global};
 
 // The kinds of faults, in the order of their numbers.
@@ -29,7 +28,7 @@ const KINDS: [CheckKind; 15] = [
     CheckKind::AssociatedBody,
 ];
 
-// Those whose faults may stand elsewhere than in blocks.
+// The kinds whose faults may be outside of blocks.
 const OTHER_KINDS: [CheckKind; 9] = [
     CheckKind::Duplicate,
     CheckKind::NoState,
@@ -42,9 +41,9 @@ const OTHER_KINDS: [CheckKind; 9] = [
     CheckKind::AssociatedBody,
 ];
 
-// The first fault of a kind.
+// Returns the first fault of a kind.
 fn fault_of<A: Allocator + Clone>(tables: &Tables<'_, A>, kind: CheckKind) -> Option<Name>
-    ensures { result ≡ look.first (faults_of kind (file_content tables.now.file.now)) }
+    ensures { result ≡ look.first_item (faults_of kind (file_content tables.now.file.now)) }
 {
     match kind {
         CheckKind::Duplicate => tables.repeated(),
@@ -53,13 +52,13 @@ fn fault_of<A: Allocator + Clone>(tables: &Tables<'_, A>, kind: CheckKind) -> Op
     }
 }
 
-// The first fault of a kind, with the kind.
-#[tactic(auto, using(sml_faults::proofs::Rests::firsts))]
+// Returns the first fault of a kind, with the kind.
+#[tactic(auto, using(sml_check_faults::proofs::Rests::firsts))]
 fn kind_fault<A: Allocator + Clone>(
     tables: &Tables<'_, A>,
     kind: CheckKind,
 ) -> Option<(CheckKind, Name)>
-    ensures { result ≡ look.first (with_kind (file_content tables.now.file.now) kind) }
+    ensures { result ≡ look.first_item (with_kind (file_content tables.now.file.now) kind) }
 {
     match fault_of(tables, kind) {
         Some(name) => Some((kind, name)),
@@ -67,13 +66,13 @@ fn kind_fault<A: Allocator + Clone>(
     }
 }
 
-// The first fault of some kinds.
-#[tactic(auto, using(sml_faults::proofs::Rests::firsts))]
+// Returns the first fault of some kinds.
+#[tactic(auto, using(sml_check_faults::proofs::Rests::firsts))]
 fn kinds_fault<A: Allocator + Clone>(
     tables: &Tables<'_, A>,
     kinds: &[CheckKind],
 ) -> Option<(CheckKind, Name)>
-    ensures { result ≡ look.first (flat_map (with_kind (file_content tables.now.file.now)) kinds.now) }
+    ensures { result ≡ look.first_item (flat_map (with_kind (file_content tables.now.file.now)) kinds.now) }
 {
     for kind in kinds {
         if let Some(fault) = kind_fault(tables, *kind) {
@@ -83,10 +82,10 @@ fn kinds_fault<A: Allocator + Clone>(
     None
 }
 
-// The first fault of the kind of lowest number. Where no block is at fault, the kinds that stand in
+// Returns the first fault of the kind of lowest number. If no block is at fault, the kinds that occur in
 // blocks alone are passed over.
 fn lowest_fault<A: Allocator + Clone>(tables: &Tables<'_, A>) -> Option<(CheckKind, Name)>
-    ensures { result ≡ look.first (all_faults (file_content tables.now.file.now)) }
+    ensures { result ≡ look.first_item (all_faults (file_content tables.now.file.now)) }
 {
     if tables.has_faulty_item(&tables.file.items) {
         kinds_fault(tables, &KINDS)
@@ -106,22 +105,23 @@ fn judged(fault: Option<(CheckKind, Name)>) -> Result<(), CheckError>
     }
 }
 
-/// The fault of a file of the lowest number, and of these the first in the text, by the file's tables.
+/// Returns the fault of a file of the lowest number, and of these the first in the text, by the file's tables.
 pub(crate) fn fault_by<A: Allocator + Clone>(tables: &Tables<'_, A>) -> Result<(), CheckError>
     ensures well_formed { OnOk result (IsWellFormed (file_content tables.now.file.now)) }
     ensures fault { IfErr result (λ e. Some (e.kind, e.name)
-        ≡ look.first (all_faults (file_content tables.now.file.now))) }
+        ≡ look.first_item (all_faults (file_content tables.now.file.now))) }
 {
     judged(lowest_fault(tables))
 }
 
 /// Whether a file is well-formed, or else its fault of the lowest number, and of these the first in the
-/// text (docs/LANGUAGE.md, "Well-formed files"). Memory is taken for tables of names alone, and given back.
+/// text (docs/LANGUAGE.md, "Well-formed files"). Only tables of names are allocated, and they are freed.
 /// The cost is the size of the tree, at each `do` times its targets and its arguments, at each test
 /// times its objects and their states, and at each `insert` times what its set may come to have.
 pub fn first_fault<A: Allocator + Clone>(alloc: Global, file: &SmlFile<A>) -> Result<(), CheckError>
     ensures well_formed { OnOk result (IsWellFormed (file_content file.now)) }
-    ensures fault { IfErr result (λ e. (e ≡ memory_error) ⊎ (Some (e.kind, e.name) ≡ look.first (all_faults (file_content file.now)))) }
+    ensures fault { IfErr result (λ e. (e ≡ memory_error)
+        ⊎ (Some (e.kind, e.name) ≡ look.first_item (all_faults (file_content file.now)))) }
 {
     match Tables::new(alloc, file) {
         Ok(tables) => {

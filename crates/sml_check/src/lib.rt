@@ -1,4 +1,4 @@
-//! The domain of a file that is well-formed, or else its first fault. What a domain and a fault consist of is
+//! The domain of a file that is well-formed, or else its first fault. The types of a domain and of a fault are
 //! re-exported from the crates that define them, and so are the laws of both.
 #![tactic(auto)]
 
@@ -7,12 +7,10 @@ mod faults;
 
 pub use checked::check;
 pub use faults::first_fault;
-pub use sml_domain::domain::Domain;
-pub use sml_domain::error::TextError;
-pub use sml_domain::ids::{ActionId, BlockId, ClassId, ObjId, ParamId, SetId, StateId};
-pub use sml_domain::instr::{Argument, Asked, Cond, Instr, Operand, Target};
-pub use sml_domain::param::Param;
-pub use sml_domain::text::Text;
-pub use sml_domain::value::Value;
-pub use sml_faults::{CheckError, CheckKind};
-pub use sml_layout::laws::{laws_of_conditions, laws_of_numbers, one_domain};
+pub use sml_check_build::{laws_of_conditions, laws_of_numbers, one_domain};
+pub use sml_check_faults::{CheckError, CheckKind};
+pub use sml_domain::{
+    ActionId, Argument, BlockId, ClassId, Cond, Domain, Instr, ObjId, Operand, Param, ParamId,
+    SetId, StateId, Subject, Target, Text, TextError, Value,
+};
+pub use sml_tree::Name;

@@ -2,7 +2,7 @@
 
 use crate::ids::{ActionId, BlockId, ObjId, ParamId, SetId, StateId};
 use crate::value::Value;
-use sml_tree::name::Name;
+use sml_tree::Name;
 
 /// A value that is written out, or a parameter of the class or of the action.
 #[derive(Drop)]
@@ -31,7 +31,7 @@ pub enum Target {
 
 /// Whom a test asks: an object, or each or any member of a set.
 #[derive(Clone, Copy, Eq, PartialEq)]
-pub enum Asked {
+pub enum Subject {
     One(ObjId),
     Each(SetId),
     Any(SetId),
@@ -43,10 +43,10 @@ pub enum Cond {
     And(Box<Cond>, Box<Cond>),
     Or(Box<Cond>, Box<Cond>),
     Not(Box<Cond>),
-    /// Whether those that are asked are in one of the states, or in none of them where it is
-    /// negated. A name that no class declares as a state is left out.
+    /// Whether those that are asked are in one of the states; if it is negated, in none of them.
+    /// A name that no class declares as a state is left out.
     Test {
-        asked: Asked,
+        asked: Subject,
         negated: bool,
         states: Vec<StateId>,
     },
@@ -55,7 +55,7 @@ pub enum Cond {
 /// An instruction of a block.
 #[derive(Drop)]
 pub enum Instr {
-    /// Gives a parameter of the class a value.
+    /// Sets a parameter of the class to a value.
     Set {
         param: ParamId,
         value: Operand,
@@ -71,7 +71,7 @@ pub enum Instr {
     SendNone {
         set: SetId,
     },
-    /// Goes on with one of two blocks, and then with what stands after it.
+    /// Continues with one of two blocks, and then with what follows it.
     If {
         cond: Cond,
         yes: BlockId,
@@ -82,14 +82,14 @@ pub enum Instr {
     /// Ends the action in the state: `terminate_action`.
     Terminate(StateId),
     /// Waits until those that are named, and all members of named sets, have nothing to do, and
-    /// reads their states, whatever they are. (`Asked::Any` counts as `Asked::Each`.)
-    Wait(Vec<Asked>),
-    /// Puts an object into a set, behind its members, where it is not among them.
+    /// reads their states, which may be any. (`Subject::Any` counts as `Subject::Each`.)
+    Wait(Vec<Subject>),
+    /// Puts an object into a set, behind its members, if it is not among them.
     Insert {
         member: ObjId,
         set: SetId,
     },
-    /// Takes an object out of a set, where it is a member.
+    /// Takes an object out of a set, if it is a member.
     Remove {
         member: ObjId,
         set: SetId,

@@ -10,7 +10,7 @@ use Rattle.sml_tree.specs.Syntax.{InstrData, ClassParamData}
 use Rattle.sml_tree.specs.Content.{block_of}
 use Rattle.sml_print.specs.Blocks.{instr_text, block_text, else_text}
 use Rattle.sml_print.specs.Items.{params_text}
-use Rattle.sml_print.specs.Words.{indent, comma_behind, comma_text, listed, name_text, bracket_list, members_text, class_param_text}
+use Rattle.sml_print.specs.Words.{indent, comma_behind, comma_text, comma_list, name_text, bracket_list, members_text, class_param_text}
 
 module _ {old new mid : Option (List ℕ)} {f g h : Bool} {bs cs : List ℕ} where
   -- one after another
@@ -30,20 +30,20 @@ flat_more f xs k x within is =
     ∙ ap (flat_map f) (ap (λ y. take k xs ++ y ∷ []) is ∙ sym (take_more xs k x within))
 
 -- the text of one element more, with its comma
-pub listed_more : {X : Type 0} (f : X → List ℕ) (xs : List X) (k : ℕ) (x : X) → k < length xs → x ≡ get_or xs k x → listed f (take k xs) ++ (comma_behind k ++ f x) ≡ listed f (take (k + 1) xs)
+pub listed_more : {X : Type 0} (f : X → List ℕ) (xs : List X) (k : ℕ) (x : X) → k < length xs → x ≡ get_or xs k x → comma_list f (take k xs) ++ (comma_behind k ++ f x) ≡ comma_list f (take (k + 1) xs)
 listed_more f [] k x within is = absurd (omega arith)
 listed_more f (y ∷ ys) zero x within is = ap f is ∙ sym (append-nil (f y))
 listed_more f (y ∷ ys) (suc k) x within is =
     let e : suc (k + 1) ≡ suc k + 1 = omega arith in
     append_assoc (f y) (flat_map (comma_text f) (take k ys)) (comma_text f x) ∙ ap (λ l. f y ++ l) (flat_more (comma_text f) ys k x (omega arith) is)
-    ∙ ap (λ n. listed f (take n (y ∷ ys))) e
+    ∙ ap (λ n. comma_list f (take n (y ∷ ys))) e
 
 -- texts of what things say
 flat_said : {X : Type 0} {Y : Type 0} (f : Y → List ℕ) (say : X → Y) (xs : List X) → flat_map (λ x. f (say x)) xs ≡ flat_map f (map say xs)
 flat_said f say [] = refl
 flat_said f say (x ∷ xs) = ap (λ l. f (say x) ++ l) (flat_said f say xs)
 
-listed_said : {X : Type 0} {Y : Type 0} (f : Y → List ℕ) (say : X → Y) (xs : List X) → listed (λ x. f (say x)) xs ≡ listed f (map say xs)
+listed_said : {X : Type 0} {Y : Type 0} (f : Y → List ℕ) (say : X → Y) (xs : List X) → comma_list (λ x. f (say x)) xs ≡ comma_list f (map say xs)
 listed_said f say [] = refl
 listed_said f say (x ∷ xs) = ap (λ l. f (say x) ++ l) (flat_said (comma_text f) say xs)
 
@@ -51,30 +51,30 @@ listed_said f say (x ∷ xs) = ap (λ l. f (say x) ++ l) (flat_said (comma_text 
 pub flat_all : {X : Type 0} {Y : Type 0} (f : Y → List ℕ) (say : X → Y) (xs : List X) (k : ℕ) → length xs ≤ k → flat_map (λ x. f (say x)) (take k xs) ≡ flat_map f (map say xs)
 flat_all f say xs k end = ap (flat_map (λ x. f (say x))) (take_all k xs end) ∙ flat_said f say xs
 
-pub listed_all : {X : Type 0} {Y : Type 0} (f : Y → List ℕ) (say : X → Y) (xs : List X) (k : ℕ) → length xs ≤ k → listed (λ x. f (say x)) (take k xs) ≡ listed f (map say xs)
-listed_all f say xs k end = ap (listed (λ x. f (say x))) (take_all k xs end) ∙ listed_said f say xs
+pub listed_all : {X : Type 0} {Y : Type 0} (f : Y → List ℕ) (say : X → Y) (xs : List X) (k : ℕ) → length xs ≤ k → comma_list (λ x. f (say x)) (take k xs) ≡ comma_list f (map say xs)
+listed_all f say xs k end = ap (comma_list (λ x. f (say x))) (take_all k xs end) ∙ listed_said f say xs
 
 -- the text of a block is that of its instructions
 pub block_flat : (level : ℕ) (is : List InstrData) → flat_map (instr_text level) is ≡ block_text level (block_of is)
 block_flat level [] = refl
 block_flat level (i ∷ is) = ap (λ l. instr_text level i ++ l) (block_flat level is)
 
--- nothing was told
+-- nothing was written
 pub told_nothing : (old : Option (List ℕ)) (f : Bool) → Told old f old f []
 told_nothing old f = record { front = []; rest = []; split = refl; appends = Appends-nil old; whole = λ _. refl; stays = λ e. (e, refl) }
 
 -- texts of lists that are not empty
-pub members_some : (names : List (List ℕ)) → false ≡ (length names == 0) → codes "{ " ++ (listed name_text names ++ codes " }") ≡ members_text names
+pub members_some : (names : List (List ℕ)) → false ≡ (length names == 0) → codes "{ " ++ (comma_list name_text names ++ codes " }") ≡ members_text names
 members_some [] h = absurd (cc h)
 members_some (name ∷ names) h = refl
 
 pub bracket_some : {X : Type 0} {Y : Type 0} (f : Y → List ℕ) (say : X → Y) (xs : List X) (n : ℕ) → n ≡ length xs → false ≡ (n == 0)
-    → codes " (" ++ (listed f (map say xs) ++ codes ")") ≡ bracket_list f (map say xs)
+    → codes " (" ++ (comma_list f (map say xs) ++ codes ")") ≡ bracket_list f (map say xs)
 bracket_some f say [] n e h = let none : false ≡ (0 == 0) = subst (λ k. false ≡ (k == 0)) e h in absurd (cc none)
 bracket_some f say (x ∷ xs) n e h = refl
 
 pub params_some : {X : Type 0} (say : X → ClassParamData) (xs : List X) (n : ℕ) → n ≡ length xs → false ≡ (n == 0)
-    → codes "  parameters: " ++ (listed class_param_text (map say xs) ++ codes "\n") ≡ params_text (map say xs)
+    → codes "  parameters: " ++ (comma_list class_param_text (map say xs) ++ codes "\n") ≡ params_text (map say xs)
 params_some say [] n e h = let none : false ≡ (0 == 0) = subst (λ k. false ≡ (k == 0)) e h in absurd (cc none)
 params_some say (x ∷ xs) n e h = refl
 

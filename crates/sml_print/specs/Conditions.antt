@@ -31,7 +31,7 @@ abbrev pub bracketed : Bool → List ℕ → List ℕ
 bracketed true text = codes "( " ++ (text ++ codes " )")
 bracketed false text = text
 
--- Brackets stand round an `or` under `and`, an `and` to the right of `and`, an `or` to the right of `or`, and
+-- Brackets are round an `or` under `and`, an `and` to the right of `and`, an `or` to the right of `or`, and
 -- an `and` or `or` under `not`; nowhere else.
 abbrev pub cond_text : CondData → List ℕ
 cond_text (both a b) = bracketed (is_or a) (cond_text a) ++ (codes " and " ++ bracketed (is_chain b) (cond_text b))

@@ -14,7 +14,7 @@ indent (suc level) = codes "  " ++ indent level
 abbrev pub deeper : ℕ → ℕ
 deeper level = min (level + 1) (2 ^ 32 - 1)
 
--- the comma of a list, behind so many
+-- the comma of a list, behind the given number of its texts
 abbrev pub comma_behind : ℕ → List ℕ
 comma_behind zero = []
 comma_behind (suc n) = codes ", "
@@ -24,16 +24,16 @@ abbrev pub comma_text : {X : Type 0} → (X → List ℕ) → X → List ℕ
 comma_text text x = codes ", " ++ text x
 
 -- texts with commas between them
-abbrev pub listed : {X : Type 0} → (X → List ℕ) → List X → List ℕ
-listed text [] = []
-listed text (x ∷ xs) = text x ++ flat_map (comma_text text) xs
+abbrev pub comma_list : {X : Type 0} → (X → List ℕ) → List X → List ℕ
+comma_list text [] = []
+comma_list text (x ∷ xs) = text x ++ flat_map (comma_text text) xs
 
--- a list in brackets behind a blank, or nothing where it is empty
+-- a list in brackets behind a blank, or nothing if it is empty
 abbrev pub bracket_list : {X : Type 0} → (X → List ℕ) → List X → List ℕ
 bracket_list text [] = []
-bracket_list text (x ∷ xs) = codes " (" ++ (listed text (x ∷ xs) ++ codes ")")
+bracket_list text (x ∷ xs) = codes " (" ++ (comma_list text (x ∷ xs) ++ codes ")")
 
--- a name as it stands
+-- a name, unchanged
 abbrev pub name_text : List ℕ → List ℕ
 name_text name = name
 
@@ -56,7 +56,7 @@ abbrev pub kind_text : Kind → List ℕ
 kind_text Int = codes "int "
 kind_text Str = codes "string "
 
--- the value that a parameter has where none is passed
+-- the default of a parameter, if it has one
 abbrev pub default_text : Option LiteralData → List ℕ
 default_text None = []
 default_text (Some value) = codes " = " ++ literal_text value
@@ -72,4 +72,4 @@ action_param_text p = kind_text p.kind ++ (p.name ++ default_text p.default)
 -- the members of a set
 abbrev pub members_text : List (List ℕ) → List ℕ
 members_text [] = codes "{ }"
-members_text (name ∷ names) = codes "{ " ++ (listed name_text (name ∷ names) ++ codes " }")
+members_text (name ∷ names) = codes "{ " ++ (comma_list name_text (name ∷ names) ++ codes " }")

@@ -2,25 +2,23 @@
 ghost use Rattle.std.specs.Prelude.{◌≡◌, map};
 ghost use Rattle.sml_text.specs.Written.{Told, StaysDue};
 ghost use Rattle.sml_tree.specs.Content.{passed_content, arg_content, waited_content, cond_content, instr_content, block_content};
-ghost use Rattle.sml_print.specs.Words.{deeper as deeper', listed};
+ghost use Rattle.sml_print.specs.Words.{deeper as deeper', comma_list};
 ghost use Rattle.sml_print.specs.Blocks as text;
 
 use crate::condition::tell_cond;
 use crate::word::{tell_arg, tell_args, tell_comma, tell_indent, tell_name};
-use sml_text::writing::{Sink, tell};
-use sml_tree::block::{Block, Instr, Waited};
-use sml_tree::literal::{Arg, Passed};
-use sml_tree::name::Name;
+use sml_text::{Sink, tell};
+use sml_tree::{Arg, Block, Instr, Name, Passed, Waited};
 use std::alloc::Allocator;
 
-// A level further in.
+// Returns a level further in.
 fn deeper(level: u32) -> u32
     ensures { result ≡ deeper' level }
 {
     level.saturating_add(1)
 }
 
-// A `do`.
+// Writes a `do`.
 fn tell_send<S: Sink, A: Allocator + Clone>(
     sink: &mut S,
     failed: &mut bool,
@@ -29,7 +27,14 @@ fn tell_send<S: Sink, A: Allocator + Clone>(
     all: bool,
     target: &Name,
 )
-    ensures told { Told (S.contents sink.old) failed.old (S.contents sink.new) failed.new (text.send_text (record { action = action.now; args = map passed_content args.now.items; all = all; target = target.now })) }
+    ensures told { Told (S.contents sink.old) failed.old (S.contents sink.new) failed.new
+        (text.send_text (record {
+          action = action.now;
+          args = map passed_content args.now.items;
+          all = all;
+          target =
+              target.now;
+        })) }
     ensures due { StaysDue (S.has_refused sink.old) failed.old (S.has_refused sink.new) failed.new }
 {
     tell(sink, failed, b"do ");
@@ -41,7 +46,7 @@ fn tell_send<S: Sink, A: Allocator + Clone>(
     tell(sink, failed, b"\n");
 }
 
-// Whether a `do` is to all of a set, or a `wait` for all of it.
+// Writes `all_in` for a `do` to all of a set, or a `wait` for all of it.
 fn tell_every<S: Sink>(sink: &mut S, failed: &mut bool, all: bool)
     ensures told { Told (S.contents sink.old) failed.old (S.contents sink.new) failed.new (text.every_text all) }
     ensures due { StaysDue (S.has_refused sink.old) failed.old (S.has_refused sink.new) failed.new }
@@ -51,14 +56,15 @@ fn tell_every<S: Sink>(sink: &mut S, failed: &mut bool, all: bool)
     }
 }
 
-// A `set`.
+// Writes a `set`.
 fn tell_assignment<S: Sink, A: Allocator + Clone>(
     sink: &mut S,
     failed: &mut bool,
     param: &Name,
     value: &Arg<A>,
 )
-    ensures told { Told (S.contents sink.old) failed.old (S.contents sink.new) failed.new (text.assign_text param.now (arg_content value.now)) }
+    ensures told { Told (S.contents sink.old) failed.old (S.contents sink.new) failed.new
+        (text.assign_text param.now (arg_content value.now)) }
     ensures due { StaysDue (S.has_refused sink.old) failed.old (S.has_refused sink.new) failed.new }
 {
     tell(sink, failed, b"set ");
@@ -68,9 +74,10 @@ fn tell_assignment<S: Sink, A: Allocator + Clone>(
     tell(sink, failed, b"\n");
 }
 
-// An instruction that names a state.
+// Writes an instruction that names a state.
 fn tell_towards<S: Sink>(sink: &mut S, failed: &mut bool, word: &[u8], state: &Name)
-    ensures told { Told (S.contents sink.old) failed.old (S.contents sink.new) failed.new (text.towards_text word.now state.now) }
+    ensures told { Told (S.contents sink.old) failed.old (S.contents sink.new) failed.new
+        (text.towards_text word.now state.now) }
     ensures due { StaysDue (S.has_refused sink.old) failed.old (S.has_refused sink.new) failed.new }
 {
     tell(sink, failed, word);
@@ -78,22 +85,24 @@ fn tell_towards<S: Sink>(sink: &mut S, failed: &mut bool, word: &[u8], state: &N
     tell(sink, failed, b"\n");
 }
 
-// What a `wait` waits for.
+// Writes what a `wait` waits for.
 fn tell_waited<S: Sink>(sink: &mut S, failed: &mut bool, waited: &Waited)
-    ensures told { Told (S.contents sink.old) failed.old (S.contents sink.new) failed.new (text.waited_text (waited_content waited.now)) }
+    ensures told { Told (S.contents sink.old) failed.old (S.contents sink.new) failed.new
+        (text.waited_text (waited_content waited.now)) }
     ensures due { StaysDue (S.has_refused sink.old) failed.old (S.has_refused sink.new) failed.new }
 {
     tell_every(sink, failed, waited.all);
     tell_name(sink, failed, &waited.name);
 }
 
-// All that a `wait` waits for, with commas between them.
+// Writes all that a `wait` waits for, with commas between them.
 fn tell_waited_list<S: Sink, A: Allocator + Clone>(
     sink: &mut S,
     failed: &mut bool,
     waited: &Vec<Waited, A>,
 )
-    ensures told { Told (S.contents sink.old) failed.old (S.contents sink.new) failed.new (listed text.waited_text (map waited_content waited.now.items)) }
+    ensures told { Told (S.contents sink.old) failed.old (S.contents sink.new) failed.new
+        (comma_list text.waited_text (map waited_content waited.now.items)) }
     ensures due { StaysDue (S.has_refused sink.old) failed.old (S.has_refused sink.new) failed.new }
 {
     for (i, one) in waited.iter().enumerate() {
@@ -102,13 +111,14 @@ fn tell_waited_list<S: Sink, A: Allocator + Clone>(
     }
 }
 
-// A `wait`.
+// Writes a `wait`.
 fn tell_wait<S: Sink, A: Allocator + Clone>(
     sink: &mut S,
     failed: &mut bool,
     waited: &Vec<Waited, A>,
 )
-    ensures told { Told (S.contents sink.old) failed.old (S.contents sink.new) failed.new (text.wait_text (map waited_content waited.now.items)) }
+    ensures told { Told (S.contents sink.old) failed.old (S.contents sink.new) failed.new
+        (text.wait_text (map waited_content waited.now.items)) }
     ensures due { StaysDue (S.has_refused sink.old) failed.old (S.has_refused sink.new) failed.new }
 {
     tell(sink, failed, b"wait ( ");
@@ -116,7 +126,7 @@ fn tell_wait<S: Sink, A: Allocator + Clone>(
     tell(sink, failed, b" )\n");
 }
 
-// An instruction that changes a set: its word, the object, the word between them, the set.
+// Writes an instruction that changes a set: its word, the object, the word between them, the set.
 fn tell_change<S: Sink>(
     sink: &mut S,
     failed: &mut bool,
@@ -136,7 +146,7 @@ fn tell_change<S: Sink>(
     tell(sink, failed, b"\n");
 }
 
-// An instruction, so many levels in.
+// Writes an instruction, `level` levels in.
 #[cycle(blocks)]
 fn tell_instr<S: Sink, A: Allocator + Clone>(
     sink: &mut S,
@@ -144,7 +154,8 @@ fn tell_instr<S: Sink, A: Allocator + Clone>(
     instr: &Instr<A>,
     level: u32,
 )
-    ensures told { Told (S.contents sink.old) failed.old (S.contents sink.new) failed.new (text.instr_text level (instr_content instr.now)) }
+    ensures told { Told (S.contents sink.old) failed.old (S.contents sink.new) failed.new
+        (text.instr_text level (instr_content instr.now)) }
     ensures due { StaysDue (S.has_refused sink.old) failed.old (S.has_refused sink.new) failed.new }
 {
     tell_indent(sink, failed, level);
@@ -179,7 +190,7 @@ fn tell_instr<S: Sink, A: Allocator + Clone>(
     }
 }
 
-// The second block of an `if`, where it has instructions.
+// Writes the second block of an `if`, if it has instructions.
 #[cycle(blocks)]
 fn tell_else<S: Sink, A: Allocator + Clone>(
     sink: &mut S,
@@ -187,7 +198,8 @@ fn tell_else<S: Sink, A: Allocator + Clone>(
     block: &Block<A>,
     level: u32,
 )
-    ensures told { Told (S.contents sink.old) failed.old (S.contents sink.new) failed.new (text.else_text level (block_content block.now) (text.block_text (deeper' level) (block_content block.now))) }
+    ensures told { Told (S.contents sink.old) failed.old (S.contents sink.new) failed.new
+        (text.else_text level (block_content block.now) (text.block_text (deeper' level) (block_content block.now))) }
     ensures due { StaysDue (S.has_refused sink.old) failed.old (S.has_refused sink.new) failed.new }
 {
     if block.instrs.is_empty() {
@@ -198,7 +210,7 @@ fn tell_else<S: Sink, A: Allocator + Clone>(
     tell_block(sink, failed, block, deeper(level));
 }
 
-// Instructions, so many levels in.
+// Writes instructions, `level` levels in.
 #[cycle(blocks)]
 pub(crate) fn tell_block<S: Sink, A: Allocator + Clone>(
     sink: &mut S,
@@ -206,7 +218,8 @@ pub(crate) fn tell_block<S: Sink, A: Allocator + Clone>(
     block: &Block<A>,
     level: u32,
 )
-    ensures told { Told (S.contents sink.old) failed.old (S.contents sink.new) failed.new (text.block_text level (block_content block.now)) }
+    ensures told { Told (S.contents sink.old) failed.old (S.contents sink.new) failed.new
+        (text.block_text level (block_content block.now)) }
     ensures due { StaysDue (S.has_refused sink.old) failed.old (S.has_refused sink.new) failed.new }
 {
     for instr in &block.instrs {

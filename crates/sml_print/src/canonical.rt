@@ -5,13 +5,13 @@ ghost use Rattle.sml_tree.specs.Content.{file_content};
 ghost use Rattle.sml_print.specs.Items.{file_text};
 
 use crate::item::tell_items;
-use sml_text::writing::Sink;
-use sml_tree::file::SmlFile;
+use sml_text::Sink;
+use sml_tree::SmlFile;
 use std::alloc::{AllocError, Allocator, Global};
 use std::error::Error;
 use std::fmt;
 
-/// The writer failed, or took no byte of some.
+/// The writer failed, or took none of the bytes that it was offered.
 #[derive(Clone, Copy, Debug, PartialEq, Eq)]
 pub struct PrintFault;
 
@@ -29,13 +29,15 @@ impl Error for PrintFault {}
 ///
 /// Any `Write` may be the writer, since each is a `Sink`. After a fault a prefix of the text is
 /// written. The text goes out in many small parts, a word or a sign at a time, so that a writer to a
-/// file should be buffered. No memory is taken; the time grows with the length of the text.
+/// file should be buffered. No memory is allocated; the time grows with the length of the text.
 pub fn write_to<A: Allocator + Clone, W: Sink>(
     file: &SmlFile<A>,
     writer: &mut W,
 ) -> Result<(), PrintFault>
-    ensures ok { OnOk result (Wrote (W.contents writer.old) (W.contents writer.new) (file_text (file_content file.now))) }
-    ensures err { OnErr result (WroteFront (W.contents writer.old) (W.contents writer.new) (file_text (file_content file.now))) }
+    ensures ok { OnOk result (Wrote (W.contents writer.old) (W.contents writer.new)
+        (file_text (file_content file.now))) }
+    ensures err { OnErr result (WroteFront (W.contents writer.old) (W.contents writer.new)
+        (file_text (file_content file.now))) }
     ensures refused { OnErr result (W.has_refused writer.new) }
 {
     let mut failed = false;
@@ -43,11 +45,11 @@ pub fn write_to<A: Allocator + Clone, W: Sink>(
     if failed { Err(PrintFault) } else { Ok(()) }
 }
 
-/// The canonical text of a file (docs/FORMATS.md, "Canonical text").
+/// Returns the canonical text of a file (docs/FORMATS.md, "Canonical text").
 ///
-/// The error is want of memory for the text. The time grows with the length of the text.
+/// An error means that memory ran out. The time grows with the length of the text.
 ///
-/// `file_tests` has this example as `first_calls::reads_and_prints`:
+/// `tests_of_files` has this example as `first_calls::reads_and_prints`:
 ///
 /// ```
 /// let file = read(alloc, b"class:lamp state:off")?;

@@ -6,14 +6,14 @@ ghost use Rattle.sml_tree.specs.Brackets.{is_or as or', is_chain as chain'};
 ghost use Rattle.sml_print.specs.Conditions as text;
 
 use crate::word::{tell_members, tell_name};
-use sml_text::writing::{Sink, tell};
-use sml_tree::cond::{Cond, Scope};
-use sml_tree::name::Name;
+use sml_text::{Sink, tell};
+use sml_tree::{Cond, Name, Scope};
 use std::alloc::Allocator;
 
-// The states of a test.
+// Writes the states of a test.
 fn tell_states<S: Sink>(sink: &mut S, failed: &mut bool, states: &[Name])
-    ensures told { Told (S.contents sink.old) failed.old (S.contents sink.new) failed.new (text.states_text states.now) }
+    ensures told { Told (S.contents sink.old) failed.old (S.contents sink.new) failed.new
+        (text.states_text states.now) }
     ensures due { StaysDue (S.has_refused sink.old) failed.old (S.has_refused sink.new) failed.new }
 {
     match states {
@@ -22,7 +22,7 @@ fn tell_states<S: Sink>(sink: &mut S, failed: &mut bool, states: &[Name])
     }
 }
 
-// Whom a test asks.
+// Writes whom a test asks.
 fn tell_scope<S: Sink>(sink: &mut S, failed: &mut bool, scope: Scope)
     ensures told { Told (S.contents sink.old) failed.old (S.contents sink.new) failed.new (text.scope_text scope) }
     ensures due { StaysDue (S.has_refused sink.old) failed.old (S.has_refused sink.new) failed.new }
@@ -34,7 +34,7 @@ fn tell_scope<S: Sink>(sink: &mut S, failed: &mut bool, scope: Scope)
     }
 }
 
-// What a test asks.
+// Writes what a test asks.
 fn tell_sense<S: Sink>(sink: &mut S, failed: &mut bool, negated: bool)
     ensures told { Told (S.contents sink.old) failed.old (S.contents sink.new) failed.new (text.sense_text negated) }
     ensures due { StaysDue (S.has_refused sink.old) failed.old (S.has_refused sink.new) failed.new }
@@ -46,7 +46,7 @@ fn tell_sense<S: Sink>(sink: &mut S, failed: &mut bool, negated: bool)
     }
 }
 
-// A test.
+// Writes a test.
 fn tell_test<S: Sink>(
     sink: &mut S,
     failed: &mut bool,
@@ -55,7 +55,8 @@ fn tell_test<S: Sink>(
     negated: bool,
     states: &[Name],
 )
-    ensures told { Told (S.contents sink.old) failed.old (S.contents sink.new) failed.new (text.test_text (record { scope = scope; name = name.now; negated = negated; states = states.now })) }
+    ensures told { Told (S.contents sink.old) failed.old (S.contents sink.new) failed.new
+        (text.test_text (record { scope = scope; name = name.now; negated = negated; states = states.now })) }
     ensures due { StaysDue (S.has_refused sink.old) failed.old (S.has_refused sink.new) failed.new }
 {
     tell_scope(sink, failed, scope);
@@ -84,7 +85,7 @@ fn is_chain<A: Allocator + Clone>(cond: &Cond<A>) -> bool
     }
 }
 
-// A condition, in brackets where it needs them.
+// Writes a condition, in brackets if it needs them.
 #[cycle(conditions)]
 fn tell_operand<S: Sink, A: Allocator + Clone>(
     sink: &mut S,
@@ -92,7 +93,8 @@ fn tell_operand<S: Sink, A: Allocator + Clone>(
     cond: &Cond<A>,
     brackets: bool,
 )
-    ensures told { Told (S.contents sink.old) failed.old (S.contents sink.new) failed.new (text.bracketed brackets (text.cond_text (cond_content cond.now))) }
+    ensures told { Told (S.contents sink.old) failed.old (S.contents sink.new) failed.new
+        (text.bracketed brackets (text.cond_text (cond_content cond.now))) }
     ensures due { StaysDue (S.has_refused sink.old) failed.old (S.has_refused sink.new) failed.new }
 {
     if brackets {
@@ -104,14 +106,15 @@ fn tell_operand<S: Sink, A: Allocator + Clone>(
     }
 }
 
-// A condition.
+// Writes a condition.
 #[cycle(conditions)]
 pub(crate) fn tell_cond<S: Sink, A: Allocator + Clone>(
     sink: &mut S,
     failed: &mut bool,
     cond: &Cond<A>,
 )
-    ensures told { Told (S.contents sink.old) failed.old (S.contents sink.new) failed.new (text.cond_text (cond_content cond.now)) }
+    ensures told { Told (S.contents sink.old) failed.old (S.contents sink.new) failed.new
+        (text.cond_text (cond_content cond.now)) }
     ensures due { StaysDue (S.has_refused sink.old) failed.old (S.has_refused sink.new) failed.new }
 {
     match cond {

@@ -6,13 +6,14 @@ ghost use Rattle.sml_print.specs.Items as text;
 
 use crate::block::tell_block;
 use crate::word::{tell_action_params, tell_class_params, tell_members, tell_name};
-use sml_text::writing::{Sink, tell};
-use sml_tree::file::{Action, Class, ClassParam, Group, Item, Object, State};
+use sml_text::{Sink, tell};
+use sml_tree::{Action, Class, ClassParam, Group, Item, Object, State};
 use std::alloc::Allocator;
 
-// A mark, where it stands.
+// Writes a mark, if `stands`.
 fn tell_mark<S: Sink>(sink: &mut S, failed: &mut bool, stands: bool, mark: &[u8])
-    ensures told { Told (S.contents sink.old) failed.old (S.contents sink.new) failed.new (text.mark_text stands mark.now) }
+    ensures told { Told (S.contents sink.old) failed.old (S.contents sink.new) failed.new
+        (text.mark_text stands mark.now) }
     ensures due { StaysDue (S.has_refused sink.old) failed.old (S.has_refused sink.new) failed.new }
 {
     if stands {
@@ -20,9 +21,10 @@ fn tell_mark<S: Sink>(sink: &mut S, failed: &mut bool, stands: bool, mark: &[u8]
     }
 }
 
-// An action.
+// Writes an action.
 fn tell_action<S: Sink, A: Allocator + Clone>(sink: &mut S, failed: &mut bool, action: &Action<A>)
-    ensures told { Told (S.contents sink.old) failed.old (S.contents sink.new) failed.new (text.action_text (action_content action.now)) }
+    ensures told { Told (S.contents sink.old) failed.old (S.contents sink.new) failed.new
+        (text.action_text (action_content action.now)) }
     ensures due { StaysDue (S.has_refused sink.old) failed.old (S.has_refused sink.new) failed.new }
 {
     tell(sink, failed, b"    action: ");
@@ -32,13 +34,14 @@ fn tell_action<S: Sink, A: Allocator + Clone>(sink: &mut S, failed: &mut bool, a
     tell_block(sink, failed, &action.body, 3);
 }
 
-// The actions of a state.
+// Writes the actions of a state.
 fn tell_actions<S: Sink, A: Allocator + Clone>(
     sink: &mut S,
     failed: &mut bool,
     actions: &Vec<Action<A>, A>,
 )
-    ensures told { Told (S.contents sink.old) failed.old (S.contents sink.new) failed.new (flat_map text.action_text (map action_content actions.now.items)) }
+    ensures told { Told (S.contents sink.old) failed.old (S.contents sink.new) failed.new
+        (flat_map text.action_text (map action_content actions.now.items)) }
     ensures due { StaysDue (S.has_refused sink.old) failed.old (S.has_refused sink.new) failed.new }
 {
     for action in actions {
@@ -46,9 +49,10 @@ fn tell_actions<S: Sink, A: Allocator + Clone>(
     }
 }
 
-// A state.
+// Writes a state.
 fn tell_state<S: Sink, A: Allocator + Clone>(sink: &mut S, failed: &mut bool, state: &State<A>)
-    ensures told { Told (S.contents sink.old) failed.old (S.contents sink.new) failed.new (text.state_text (state_content state.now)) }
+    ensures told { Told (S.contents sink.old) failed.old (S.contents sink.new) failed.new
+        (text.state_text (state_content state.now)) }
     ensures due { StaysDue (S.has_refused sink.old) failed.old (S.has_refused sink.new) failed.new }
 {
     tell(sink, failed, b"  state: ");
@@ -59,13 +63,14 @@ fn tell_state<S: Sink, A: Allocator + Clone>(sink: &mut S, failed: &mut bool, st
     tell_actions(sink, failed, &state.actions);
 }
 
-// The states of a class.
+// Writes the states of a class.
 fn tell_states<S: Sink, A: Allocator + Clone>(
     sink: &mut S,
     failed: &mut bool,
     states: &Vec<State<A>, A>,
 )
-    ensures told { Told (S.contents sink.old) failed.old (S.contents sink.new) failed.new (flat_map text.state_text (map state_content states.now.items)) }
+    ensures told { Told (S.contents sink.old) failed.old (S.contents sink.new) failed.new
+        (flat_map text.state_text (map state_content states.now.items)) }
     ensures due { StaysDue (S.has_refused sink.old) failed.old (S.has_refused sink.new) failed.new }
 {
     for state in states {
@@ -73,13 +78,14 @@ fn tell_states<S: Sink, A: Allocator + Clone>(
     }
 }
 
-// The parameters of a class, where it has some.
+// Writes the parameters of a class, if it has some.
 fn tell_params<S: Sink, A: Allocator + Clone>(
     sink: &mut S,
     failed: &mut bool,
     params: &Vec<ClassParam<A>, A>,
 )
-    ensures told { Told (S.contents sink.old) failed.old (S.contents sink.new) failed.new (text.params_text (map class_param_content params.now.items)) }
+    ensures told { Told (S.contents sink.old) failed.old (S.contents sink.new) failed.new
+        (text.params_text (map class_param_content params.now.items)) }
     ensures due { StaysDue (S.has_refused sink.old) failed.old (S.has_refused sink.new) failed.new }
 {
     if params.is_empty() {
@@ -90,9 +96,10 @@ fn tell_params<S: Sink, A: Allocator + Clone>(
     tell(sink, failed, b"\n");
 }
 
-// A class.
+// Writes a class.
 fn tell_class<S: Sink, A: Allocator + Clone>(sink: &mut S, failed: &mut bool, class: &Class<A>)
-    ensures told { Told (S.contents sink.old) failed.old (S.contents sink.new) failed.new (text.class_text (class_content class.now)) }
+    ensures told { Told (S.contents sink.old) failed.old (S.contents sink.new) failed.new
+        (text.class_text (class_content class.now)) }
     ensures due { StaysDue (S.has_refused sink.old) failed.old (S.has_refused sink.new) failed.new }
 {
     tell(sink, failed, b"class: ");
@@ -103,9 +110,10 @@ fn tell_class<S: Sink, A: Allocator + Clone>(sink: &mut S, failed: &mut bool, cl
     tell_states(sink, failed, &class.states);
 }
 
-// An object.
+// Writes an object.
 fn tell_object<S: Sink>(sink: &mut S, failed: &mut bool, object: &Object)
-    ensures told { Told (S.contents sink.old) failed.old (S.contents sink.new) failed.new (text.object_text (object_content object.now)) }
+    ensures told { Told (S.contents sink.old) failed.old (S.contents sink.new) failed.new
+        (text.object_text (object_content object.now)) }
     ensures due { StaysDue (S.has_refused sink.old) failed.old (S.has_refused sink.new) failed.new }
 {
     tell(sink, failed, b"object: ");
@@ -115,9 +123,10 @@ fn tell_object<S: Sink>(sink: &mut S, failed: &mut bool, object: &Object)
     tell(sink, failed, b"\n");
 }
 
-// A set.
+// Writes a set.
 fn tell_group<S: Sink, A: Allocator + Clone>(sink: &mut S, failed: &mut bool, group: &Group<A>)
-    ensures told { Told (S.contents sink.old) failed.old (S.contents sink.new) failed.new (text.group_text (group_content group.now)) }
+    ensures told { Told (S.contents sink.old) failed.old (S.contents sink.new) failed.new
+        (text.group_text (group_content group.now)) }
     ensures due { StaysDue (S.has_refused sink.old) failed.old (S.has_refused sink.new) failed.new }
 {
     tell(sink, failed, b"objectset: ");
@@ -127,9 +136,10 @@ fn tell_group<S: Sink, A: Allocator + Clone>(sink: &mut S, failed: &mut bool, gr
     tell(sink, failed, b"\n");
 }
 
-// An item.
+// Writes an item.
 fn tell_item<S: Sink, A: Allocator + Clone>(sink: &mut S, failed: &mut bool, item: &Item<A>)
-    ensures told { Told (S.contents sink.old) failed.old (S.contents sink.new) failed.new (text.item_text (item_content item.now)) }
+    ensures told { Told (S.contents sink.old) failed.old (S.contents sink.new) failed.new
+        (text.item_text (item_content item.now)) }
     ensures due { StaysDue (S.has_refused sink.old) failed.old (S.has_refused sink.new) failed.new }
 {
     match item {
@@ -139,13 +149,14 @@ fn tell_item<S: Sink, A: Allocator + Clone>(sink: &mut S, failed: &mut bool, ite
     }
 }
 
-// The items of a file.
+// Writes the items of a file.
 pub(crate) fn tell_items<S: Sink, A: Allocator + Clone>(
     sink: &mut S,
     failed: &mut bool,
     items: &Vec<Item<A>, A>,
 )
-    ensures told { Told (S.contents sink.old) failed.old (S.contents sink.new) failed.new (text.file_text (map item_content items.now.items)) }
+    ensures told { Told (S.contents sink.old) failed.old (S.contents sink.new) failed.new
+        (text.file_text (map item_content items.now.items)) }
     ensures due { StaysDue (S.has_refused sink.old) failed.old (S.has_refused sink.new) failed.new }
 {
     for item in items {

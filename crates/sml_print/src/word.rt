@@ -4,14 +4,11 @@ ghost use Rattle.sml_tree.specs.Content.{literal_content, arg_content, passed_co
 ghost use Rattle.std.specs.Prelude.{map, option_map};
 ghost use Rattle.sml_print.specs.Words as text;
 
-use sml_text::decimal::tell_i64;
-use sml_text::writing::{Sink, tell};
-use sml_tree::file::{ActionParam, ClassParam, Kind};
-use sml_tree::literal::{Arg, Literal, Passed};
-use sml_tree::name::Name;
+use sml_text::{Sink, tell, tell_i64};
+use sml_tree::{ActionParam, Arg, ClassParam, Kind, Literal, Name, Passed};
 use std::alloc::Allocator;
 
-// The indentation of a line.
+// Writes the indentation of a line.
 pub(crate) fn tell_indent<S: Sink>(sink: &mut S, failed: &mut bool, level: u32)
     ensures told { Told (S.contents sink.old) failed.old (S.contents sink.new) failed.new (text.indent level) }
     ensures due { StaysDue (S.has_refused sink.old) failed.old (S.has_refused sink.new) failed.new }
@@ -21,7 +18,7 @@ pub(crate) fn tell_indent<S: Sink>(sink: &mut S, failed: &mut bool, level: u32)
     }
 }
 
-// A comma, before each text of a list but the first.
+// Writes a comma, before each text of a list except the first.
 pub(crate) fn tell_comma<S: Sink>(sink: &mut S, failed: &mut bool, before: usize)
     ensures told { Told (S.contents sink.old) failed.old (S.contents sink.new) failed.new (text.comma_behind before) }
     ensures due { StaysDue (S.has_refused sink.old) failed.old (S.has_refused sink.new) failed.new }
@@ -31,7 +28,7 @@ pub(crate) fn tell_comma<S: Sink>(sink: &mut S, failed: &mut bool, before: usize
     }
 }
 
-// A name.
+// Writes a name.
 pub(crate) fn tell_name<S: Sink>(sink: &mut S, failed: &mut bool, name: &Name)
     ensures told { Told (S.contents sink.old) failed.old (S.contents sink.new) failed.new name.now }
     ensures due { StaysDue (S.has_refused sink.old) failed.old (S.has_refused sink.new) failed.new }
@@ -39,9 +36,10 @@ pub(crate) fn tell_name<S: Sink>(sink: &mut S, failed: &mut bool, name: &Name)
     tell(sink, failed, name.as_bytes());
 }
 
-// Names with commas between them.
+// Writes names with commas between them.
 fn tell_names<S: Sink>(sink: &mut S, failed: &mut bool, names: &[Name])
-    ensures told { Told (S.contents sink.old) failed.old (S.contents sink.new) failed.new (text.listed text.name_text names.now) }
+    ensures told { Told (S.contents sink.old) failed.old (S.contents sink.new) failed.new
+        (text.comma_list text.name_text names.now) }
     ensures due { StaysDue (S.has_refused sink.old) failed.old (S.has_refused sink.new) failed.new }
 {
     for (i, name) in names.iter().enumerate() {
@@ -50,9 +48,10 @@ fn tell_names<S: Sink>(sink: &mut S, failed: &mut bool, names: &[Name])
     }
 }
 
-// The members of a set, or the states of a list.
+// Writes the members of a set, or the states of a list.
 pub(crate) fn tell_members<S: Sink>(sink: &mut S, failed: &mut bool, names: &[Name])
-    ensures told { Told (S.contents sink.old) failed.old (S.contents sink.new) failed.new (text.members_text names.now) }
+    ensures told { Told (S.contents sink.old) failed.old (S.contents sink.new) failed.new
+        (text.members_text names.now) }
     ensures due { StaysDue (S.has_refused sink.old) failed.old (S.has_refused sink.new) failed.new }
 {
     if names.is_empty() {
@@ -63,13 +62,14 @@ pub(crate) fn tell_members<S: Sink>(sink: &mut S, failed: &mut bool, names: &[Na
     tell(sink, failed, b" }");
 }
 
-// A value.
+// Writes a value.
 fn tell_literal<S: Sink, A: Allocator + Clone>(
     sink: &mut S,
     failed: &mut bool,
     literal: &Literal<A>,
 )
-    ensures told { Told (S.contents sink.old) failed.old (S.contents sink.new) failed.new (text.literal_text (literal_content literal.now)) }
+    ensures told { Told (S.contents sink.old) failed.old (S.contents sink.new) failed.new
+        (text.literal_text (literal_content literal.now)) }
     ensures due { StaysDue (S.has_refused sink.old) failed.old (S.has_refused sink.new) failed.new }
 {
     match literal {
@@ -82,9 +82,10 @@ fn tell_literal<S: Sink, A: Allocator + Clone>(
     }
 }
 
-// A value or the name of a parameter.
+// Writes a value or the name of a parameter.
 pub(crate) fn tell_arg<S: Sink, A: Allocator + Clone>(sink: &mut S, failed: &mut bool, arg: &Arg<A>)
-    ensures told { Told (S.contents sink.old) failed.old (S.contents sink.new) failed.new (text.arg_text (arg_content arg.now)) }
+    ensures told { Told (S.contents sink.old) failed.old (S.contents sink.new) failed.new
+        (text.arg_text (arg_content arg.now)) }
     ensures due { StaysDue (S.has_refused sink.old) failed.old (S.has_refused sink.new) failed.new }
 {
     match arg {
@@ -93,9 +94,10 @@ pub(crate) fn tell_arg<S: Sink, A: Allocator + Clone>(sink: &mut S, failed: &mut
     }
 }
 
-// An argument.
+// Writes an argument.
 fn tell_passed<S: Sink, A: Allocator + Clone>(sink: &mut S, failed: &mut bool, passed: &Passed<A>)
-    ensures told { Told (S.contents sink.old) failed.old (S.contents sink.new) failed.new (text.passed_text (passed_content passed.now)) }
+    ensures told { Told (S.contents sink.old) failed.old (S.contents sink.new) failed.new
+        (text.passed_text (passed_content passed.now)) }
     ensures due { StaysDue (S.has_refused sink.old) failed.old (S.has_refused sink.new) failed.new }
 {
     tell_name(sink, failed, &passed.name);
@@ -103,13 +105,14 @@ fn tell_passed<S: Sink, A: Allocator + Clone>(sink: &mut S, failed: &mut bool, p
     tell_arg(sink, failed, &passed.value);
 }
 
-// Arguments with commas between them.
+// Writes arguments with commas between them.
 fn tell_passed_list<S: Sink, A: Allocator + Clone>(
     sink: &mut S,
     failed: &mut bool,
     args: &Vec<Passed<A>, A>,
 )
-    ensures told { Told (S.contents sink.old) failed.old (S.contents sink.new) failed.new (text.listed text.passed_text (map passed_content args.now.items)) }
+    ensures told { Told (S.contents sink.old) failed.old (S.contents sink.new) failed.new
+        (text.comma_list text.passed_text (map passed_content args.now.items)) }
     ensures due { StaysDue (S.has_refused sink.old) failed.old (S.has_refused sink.new) failed.new }
 {
     for (i, passed) in args.iter().enumerate() {
@@ -118,13 +121,14 @@ fn tell_passed_list<S: Sink, A: Allocator + Clone>(
     }
 }
 
-// The arguments of a `do`, where it has some.
+// Writes the arguments of a `do`, if it has some.
 pub(crate) fn tell_args<S: Sink, A: Allocator + Clone>(
     sink: &mut S,
     failed: &mut bool,
     args: &Vec<Passed<A>, A>,
 )
-    ensures told { Told (S.contents sink.old) failed.old (S.contents sink.new) failed.new (text.bracket_list text.passed_text (map passed_content args.now.items)) }
+    ensures told { Told (S.contents sink.old) failed.old (S.contents sink.new) failed.new
+        (text.bracket_list text.passed_text (map passed_content args.now.items)) }
     ensures due { StaysDue (S.has_refused sink.old) failed.old (S.has_refused sink.new) failed.new }
 {
     if args.is_empty() {
@@ -135,7 +139,7 @@ pub(crate) fn tell_args<S: Sink, A: Allocator + Clone>(
     tell(sink, failed, b")");
 }
 
-// The kind of a parameter.
+// Writes the kind of a parameter.
 fn tell_kind<S: Sink>(sink: &mut S, failed: &mut bool, kind: Kind)
     ensures told { Told (S.contents sink.old) failed.old (S.contents sink.new) failed.new (text.kind_text kind) }
     ensures due { StaysDue (S.has_refused sink.old) failed.old (S.has_refused sink.new) failed.new }
@@ -146,13 +150,14 @@ fn tell_kind<S: Sink>(sink: &mut S, failed: &mut bool, kind: Kind)
     }
 }
 
-// A parameter of a class.
+// Writes a parameter of a class.
 fn tell_class_param<S: Sink, A: Allocator + Clone>(
     sink: &mut S,
     failed: &mut bool,
     param: &ClassParam<A>,
 )
-    ensures told { Told (S.contents sink.old) failed.old (S.contents sink.new) failed.new (text.class_param_text (class_param_content param.now)) }
+    ensures told { Told (S.contents sink.old) failed.old (S.contents sink.new) failed.new
+        (text.class_param_text (class_param_content param.now)) }
     ensures due { StaysDue (S.has_refused sink.old) failed.old (S.has_refused sink.new) failed.new }
 {
     tell_kind(sink, failed, param.kind);
@@ -161,13 +166,14 @@ fn tell_class_param<S: Sink, A: Allocator + Clone>(
     tell_literal(sink, failed, &param.value);
 }
 
-// The value that a parameter has where none is passed.
+// Writes the default of a parameter, if it has one.
 fn tell_default<S: Sink, A: Allocator + Clone>(
     sink: &mut S,
     failed: &mut bool,
     default: &Option<Literal<A>>,
 )
-    ensures told { Told (S.contents sink.old) failed.old (S.contents sink.new) failed.new (text.default_text (option_map literal_content default.now)) }
+    ensures told { Told (S.contents sink.old) failed.old (S.contents sink.new) failed.new
+        (text.default_text (option_map literal_content default.now)) }
     ensures due { StaysDue (S.has_refused sink.old) failed.old (S.has_refused sink.new) failed.new }
 {
     if let Some(literal) = default {
@@ -176,13 +182,14 @@ fn tell_default<S: Sink, A: Allocator + Clone>(
     }
 }
 
-// A parameter of an action.
+// Writes a parameter of an action.
 fn tell_action_param<S: Sink, A: Allocator + Clone>(
     sink: &mut S,
     failed: &mut bool,
     param: &ActionParam<A>,
 )
-    ensures told { Told (S.contents sink.old) failed.old (S.contents sink.new) failed.new (text.action_param_text (action_param_content param.now)) }
+    ensures told { Told (S.contents sink.old) failed.old (S.contents sink.new) failed.new
+        (text.action_param_text (action_param_content param.now)) }
     ensures due { StaysDue (S.has_refused sink.old) failed.old (S.has_refused sink.new) failed.new }
 {
     tell_kind(sink, failed, param.kind);
@@ -190,13 +197,14 @@ fn tell_action_param<S: Sink, A: Allocator + Clone>(
     tell_default(sink, failed, &param.default);
 }
 
-// The parameters of a class with commas between them.
+// Writes the parameters of a class with commas between them.
 pub(crate) fn tell_class_params<S: Sink, A: Allocator + Clone>(
     sink: &mut S,
     failed: &mut bool,
     params: &Vec<ClassParam<A>, A>,
 )
-    ensures told { Told (S.contents sink.old) failed.old (S.contents sink.new) failed.new (text.listed text.class_param_text (map class_param_content params.now.items)) }
+    ensures told { Told (S.contents sink.old) failed.old (S.contents sink.new) failed.new
+        (text.comma_list text.class_param_text (map class_param_content params.now.items)) }
     ensures due { StaysDue (S.has_refused sink.old) failed.old (S.has_refused sink.new) failed.new }
 {
     for (i, param) in params.iter().enumerate() {
@@ -205,13 +213,14 @@ pub(crate) fn tell_class_params<S: Sink, A: Allocator + Clone>(
     }
 }
 
-// The parameters of an action with commas between them.
+// Writes the parameters of an action with commas between them.
 fn tell_action_param_list<S: Sink, A: Allocator + Clone>(
     sink: &mut S,
     failed: &mut bool,
     params: &Vec<ActionParam<A>, A>,
 )
-    ensures told { Told (S.contents sink.old) failed.old (S.contents sink.new) failed.new (text.listed text.action_param_text (map action_param_content params.now.items)) }
+    ensures told { Told (S.contents sink.old) failed.old (S.contents sink.new) failed.new
+        (text.comma_list text.action_param_text (map action_param_content params.now.items)) }
     ensures due { StaysDue (S.has_refused sink.old) failed.old (S.has_refused sink.new) failed.new }
 {
     for (i, param) in params.iter().enumerate() {
@@ -220,13 +229,14 @@ fn tell_action_param_list<S: Sink, A: Allocator + Clone>(
     }
 }
 
-// The parameters of an action, where it has some.
+// Writes the parameters of an action, if it has some.
 pub(crate) fn tell_action_params<S: Sink, A: Allocator + Clone>(
     sink: &mut S,
     failed: &mut bool,
     params: &Vec<ActionParam<A>, A>,
 )
-    ensures told { Told (S.contents sink.old) failed.old (S.contents sink.new) failed.new (text.bracket_list text.action_param_text (map action_param_content params.now.items)) }
+    ensures told { Told (S.contents sink.old) failed.old (S.contents sink.new) failed.new
+        (text.bracket_list text.action_param_text (map action_param_content params.now.items)) }
     ensures due { StaysDue (S.has_refused sink.old) failed.old (S.has_refused sink.new) failed.new }
 {
     if params.is_empty() {

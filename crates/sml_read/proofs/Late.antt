@@ -7,18 +7,18 @@ use Rattle.sml_tree.specs.Syntax.{ItemData}
 use Rattle.sml_tree.specs.Form.{File, part, P, Files}
 use Rattle.sml_tree.specs.Piece.{marked_words}
 use Rattle.sml_tree.specs.Derive.{IsFile}
-use Rattle.sml_reader.specs.declared.fault.Fault.{Fault}
-use Rattle.sml_reader.specs.declared.fault.Fault.TheVariants as fault
-use Rattle.sml_reader.specs.declared.fault.Stop.{Stop}
-use Rattle.sml_reader.specs.declared.fault.Stop.TheVariants as stop
-use Rattle.sml_reader.specs.Left.{left}
-use Rattle.sml_reader.specs.Machine.{run}
-use Rattle.sml_reader.specs.Reads.{Gives}
-use Rattle.sml_items.specs.Faults.{FileFault}
+use Rattle.sml_read_parts.specs.declared.fault.Fault.{Fault}
+use Rattle.sml_read_parts.specs.declared.fault.Fault.TheVariants as fault
+use Rattle.sml_read_parts.specs.declared.fault.Stop.{Stop}
+use Rattle.sml_read_parts.specs.declared.fault.Stop.TheVariants as stop
+use Rattle.sml_read_parts.specs.Left.{left}
+use Rattle.sml_read_parts.specs.Machine.{run}
+use Rattle.sml_read_parts.specs.Reads.{Gives}
+use Rattle.sml_read.specs.Faults.{FileFault}
 use Rattle.sml_read.specs.Promise.{IsShort, first_foreign, Cause, error_of}
-use Rattle.sml_items.proofs.Sound.{sound}
-use Rattle.sml_items.proofs.Complete.{Ready}
-use Rattle.sml_items.proofs.Faulty.{faulty}
+use Rattle.sml_read.proofs.Sound.{sound}
+use Rattle.sml_read.proofs.Complete.{Ready}
+use Rattle.sml_read.proofs.Faulty.{faulty}
 
 -- nothing follows a file
 pub file_ready : Ready (P Files ∷ [])

@@ -2,3 +2,9 @@ pub mod Ended
 pub mod Late
 pub mod Only
 pub mod Refused
+pub mod Chains
+pub mod Choices
+pub mod Complete
+pub mod Faulty
+pub mod Sound
+pub mod Tables

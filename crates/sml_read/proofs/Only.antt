@@ -7,17 +7,17 @@ use Rattle.sml_tree.specs.Syntax.{ItemData}
 use Rattle.sml_tree.specs.Form.{File, part, Part, Bone, Form, Value, Mark, Fine, Deep, Many}
 use Rattle.sml_tree.specs.Piece.{Piece, marked_words}
 use Rattle.sml_tree.specs.Derive.{IsFile, Marked, Derives, fine, plain, marked}
-use Rattle.sml_reader.specs.declared.fault.Fault.{Fault}
-use Rattle.sml_reader.specs.declared.fault.Fault.TheVariants as fault
-use Rattle.sml_reader.specs.declared.fault.Stop.{Stop}
-use Rattle.sml_reader.specs.declared.fault.Stop.TheVariants as stop
+use Rattle.sml_read_parts.specs.declared.fault.Fault.{Fault}
+use Rattle.sml_read_parts.specs.declared.fault.Fault.TheVariants as fault
+use Rattle.sml_read_parts.specs.declared.fault.Stop.{Stop}
+use Rattle.sml_read_parts.specs.declared.fault.Stop.TheVariants as stop
 use Rattle.sml_read.specs.declared.error.ReadErrorKind.TheVariants.{Memory}
-use Rattle.sml_reader.specs.Left.{left}
-use Rattle.sml_reader.specs.Reads.{Gives}
-use Rattle.sml_read.specs.Promise.{error_of, refusal}
-use Rattle.sml_reader.specs.Machine.{run, Move, Stuck, Goes, advance}
-use Rattle.sml_items.specs.Faults.{FileFault, FaultOf}
-use Rattle.sml_items.proofs.Complete.{complete, Ready, Takes, stepped}
+use Rattle.sml_read_parts.specs.Left.{left}
+use Rattle.sml_read_parts.specs.Reads.{Gives}
+use Rattle.sml_read.specs.Promise.{error_of, read_refusal}
+use Rattle.sml_read_parts.specs.Machine.{run, TokenMove, Stuck, Goes, advance}
+use Rattle.sml_read.specs.Faults.{FileFault, FaultOf}
+use Rattle.sml_read.proofs.Complete.{complete, Ready, Takes, stepped}
 use Rattle.sml_read.proofs.Late.{file_ready}
 
 -- what is derived, the machine reads
@@ -30,7 +30,7 @@ said text ts file v e h d = let p = read ts file d in let r = ap (λ l. run (Fil
 
 -- where a text says a file, memory alone stops the reading
 pub memory_alone : {X : Type 0} (view : X → List ItemData) (text : List ℕ) (ts : List Token) (file : List ItemData) (s : Stop) → tokens_from Domain 0 text ≡ ts
-    → Gives view (Err s) (run (File 0 0 0) _ (part (File 0 0 0)) (left false 0 text)) → IsFile (marked_words ts) file → error_of s (length text) ≡ refusal Memory 0
+    → Gives view (Err s) (run (File 0 0 0) _ (part (File 0 0 0)) (left false 0 text)) → IsFile (marked_words ts) file → error_of s (length text) ≡ read_refusal Memory 0
 memory_alone view text ts file stop.Memory e h d = refl
 memory_alone view text ts file (stop.Fault f) e h d = let p = read ts file d in let r = ap (λ l. run (File 0 0 0) _ (part (File 0 0 0)) (marked_words l)) e in absurd (cc h)
 
@@ -43,14 +43,14 @@ same_mark : (g : Part) (bones : List Bone) (form : Form (Value g) bones) (before
 same_mark g bones form [] t x y ms ns v w ready a b =
     go (advance g bones form t) (stepped g bones form (marked x t ∷ ms) v a ready).0 (stepped g bones form (marked y t ∷ ns) w b ready).0
   where
-    go : (move : Move g) → Takes move x ms v → Takes move y ns w → x ≡ y
+    go : (move : TokenMove g) → Takes move x ms v → Takes move y ns w → x ≡ y
     go Stuck p q = absurd p
     go (Goes mark after form') p q = sym p.0 ∙ q.0
 same_mark g bones form (u ∷ before) t x y ms ns v w ready a b =
     go (advance g bones form u) (stepped g bones form (marked Fine u ∷ (fine before ++ marked x t ∷ ms)) v a ready).0 (stepped g bones form (marked Fine u ∷ (fine before ++ marked y t ∷ ns)) w b ready).0
     (λ after form'. same_mark g after form' before t x y ms ns v w)
   where
-    go : (move : Move g) → Takes move Fine (fine before ++ marked x t ∷ ms) v → Takes move Fine (fine before ++ marked y t ∷ ns) w
+    go : (move : TokenMove g) → Takes move Fine (fine before ++ marked x t ∷ ms) v → Takes move Fine (fine before ++ marked y t ∷ ns) w
         → ((after : List Bone) (form' : Form (Value g) after) → Ready after → Derives g after form' (fine before ++ marked x t ∷ ms) v → Derives g after form' (fine before ++ marked y t ∷ ns) w → x ≡ y) → x ≡ y
     go Stuck p q rec = absurd p
     go (Goes mark after form') p q rec = rec after form' p.1 p.2 q.2

@@ -1,2 +1,4 @@
 pub mod Promise
 pub mod Refusal
+pub mod Arms
+pub mod Faults

@@ -5,19 +5,19 @@ use Rattle.sml_text.specs.Tokens.{Token, TokensOf, BadTokenOf}
 use Rattle.sml_tree.specs.Syntax.{ItemData}
 use Rattle.sml_tree.specs.Piece.{marked_words}
 use Rattle.sml_tree.specs.Derive.{IsFile}
-use Rattle.sml_items.specs.Faults.{FileFault}
-use Rattle.sml_reader.specs.declared.fault.Fault.{Fault}
-use Rattle.sml_reader.specs.declared.fault.Fault.TheVariants as fault
-use Rattle.sml_reader.specs.declared.fault.Stop.{Stop}
-use Rattle.sml_reader.specs.declared.fault.Stop.TheVariants as stop
+use Rattle.sml_read.specs.Faults.{FileFault}
+use Rattle.sml_read_parts.specs.declared.fault.Fault.{Fault}
+use Rattle.sml_read_parts.specs.declared.fault.Fault.TheVariants as fault
+use Rattle.sml_read_parts.specs.declared.fault.Stop.{Stop}
+use Rattle.sml_read_parts.specs.declared.fault.Stop.TheVariants as stop
 use Rattle.sml_read.specs.declared.error.ReadError.{ReadError}
 use Rattle.sml_read.specs.declared.error.ReadErrorKind.{ReadErrorKind}
 use Rattle.sml_read.specs.declared.error.ReadErrorKind.TheVariants.{TooLong, NotAscii, BadToken, Unexpected, TooDeep, TooMany, Memory}
 use Rattle.sml_read.specs.declared.reading.TheConstants.{MAX_TEXT}
 
 -- a refusal
-abbrev pub refusal : ReadErrorKind → ℕ → ReadError
-refusal kind offset = record { kind = kind; offset = offset }
+abbrev pub read_refusal : ReadErrorKind → ℕ → ReadError
+read_refusal kind offset = record { kind = kind; offset = offset }
 
 -- the text is within its limit
 abbrev pub IsShort : List ℕ → Type 0
@@ -33,11 +33,13 @@ HasTokens text = IsShort text × (first_foreign text ≡ None) × ((ts : List To
 
 -- the file that a text says, in the whole grammar and within all limits
 abbrev pub IsFileOf : List ℕ → List ItemData → Type 0
-IsFileOf text file = IsShort text × (first_foreign text ≡ None) × ((ts : List Token) × TokensOf Domain text ts × IsFile (marked_words ts) file)
+IsFileOf text file = IsShort text × (first_foreign text ≡ None)
+    × ((ts : List Token) × TokensOf Domain text ts × IsFile (marked_words ts) file)
 
 -- the tokens of a text have this first fault
 abbrev pub FaultOfText : List ℕ → Fault → Type 0
-FaultOfText text f = IsShort text × (first_foreign text ≡ None) × ((ts : List Token) × TokensOf Domain text ts × FileFault (marked_words ts) f)
+FaultOfText text f = IsShort text × (first_foreign text ≡ None)
+    × ((ts : List Token) × TokensOf Domain text ts × FileFault (marked_words ts) f)
 
 -- why a text is refused so
 abbrev pub Cause : List ℕ → ReadErrorKind → ℕ → Type 0
@@ -52,15 +54,15 @@ Cause text Memory at = HasTokens text × (at ≡ 0)
 -- the file was read, or memory ran out
 abbrev pub ReadsFile : {X : Type 0} → (X → List ItemData) → Result X ReadError → List ItemData → Type 0
 ReadsFile content (Ok x) file = content x ≡ file
-ReadsFile content (Err e) file = e ≡ refusal Memory 0
+ReadsFile content (Err e) file = e ≡ read_refusal Memory 0
 
--- what a stop is to the caller, of a text of so many bytes
+-- the error for a stop in a text of `size` bytes
 abbrev pub error_of : Stop → ℕ → ReadError
-error_of stop.Memory size = refusal Memory 0
-error_of (stop.Fault (fault.Unexpected at)) size = refusal Unexpected at
-error_of (stop.Fault (fault.TooDeep at)) size = refusal TooDeep at
-error_of (stop.Fault (fault.TooMany at)) size = refusal TooMany at
-error_of (stop.Fault fault.Ends) size = refusal Unexpected size
+error_of stop.Memory size = read_refusal Memory 0
+error_of (stop.Fault (fault.Unexpected at)) size = read_refusal Unexpected at
+error_of (stop.Fault (fault.TooDeep at)) size = read_refusal TooDeep at
+error_of (stop.Fault (fault.TooMany at)) size = read_refusal TooMany at
+error_of (stop.Fault fault.Ends) size = read_refusal Unexpected size
 
 -- a text says at most one file
 abbrev pub OneFile : Type 0

@@ -6,25 +6,25 @@ use Rattle.sml_read.specs.declared.error.ReadErrorKind.{ReadErrorKind}
 use Rattle.sml_read.specs.declared.error.ReadErrorKind.TheVariants.{TooLong, NotAscii, BadToken, Unexpected, TooDeep, TooMany, Memory}
 
 -- the number of a kind
-abbrev pub number_of : ReadErrorKind → ℕ
-number_of TooLong = 1
-number_of NotAscii = 2
-number_of BadToken = 3
-number_of Unexpected = 4
-number_of TooDeep = 5
-number_of TooMany = 6
-number_of Memory = 7
+abbrev pub read_kind_number : ReadErrorKind → ℕ
+read_kind_number TooLong = 1
+read_kind_number NotAscii = 2
+read_kind_number BadToken = 3
+read_kind_number Unexpected = 4
+read_kind_number TooDeep = 5
+read_kind_number TooMany = 6
+read_kind_number Memory = 7
 
 -- the name of a kind
-abbrev pub name_of : ReadErrorKind → List ℕ
-name_of TooLong = codes "TooLong"
-name_of NotAscii = codes "NotAscii"
-name_of BadToken = codes "BadToken"
-name_of Unexpected = codes "Unexpected"
-name_of TooDeep = codes "TooDeep"
-name_of TooMany = codes "TooMany"
-name_of Memory = codes "Memory"
+abbrev pub read_kind_name : ReadErrorKind → List ℕ
+read_kind_name TooLong = codes "TooLong"
+read_kind_name NotAscii = codes "NotAscii"
+read_kind_name BadToken = codes "BadToken"
+read_kind_name Unexpected = codes "Unexpected"
+read_kind_name TooDeep = codes "TooDeep"
+read_kind_name TooMany = codes "TooMany"
+read_kind_name Memory = codes "Memory"
 
 -- a refusal in words
-abbrev pub error_text : ReadError → List ℕ
-error_text e = name_of e.kind ++ codes " at " ++ decimal e.offset
+abbrev pub read_error_text : ReadError → List ℕ
+read_error_text e = read_kind_name e.kind ++ codes " at " ++ decimal e.offset

@@ -1,6 +1,6 @@
 //! Why a text is refused.
 ghost use Rattle.std.specs.Prelude.{◌≡◌, Some};
-ghost use Rattle.sml_read.specs.Refusal.{number_of, name_of, error_text};
+ghost use Rattle.sml_read.specs.Refusal.{read_kind_number, read_kind_name, read_error_text};
 
 use std::error::Error;
 use std::fmt;
@@ -10,21 +10,21 @@ use std::fmt;
 pub enum ReadErrorKind {
     /// The text has more than 1,048,576 bytes.
     TooLong,
-    /// A byte above 0x7F stands in it.
+    /// The text has a byte above 0x7F.
     NotAscii,
-    /// Something is no blank, comment or token.
+    /// Something is not a blank, a comment or a token.
     BadToken,
-    /// No file of the grammar goes on with this token, or the text ends too early.
+    /// No file of the grammar continues with this token, or the text ends too early.
     Unexpected,
-    /// An `if`, a `not` or a bracket stands inside too many others.
+    /// An `if`, a `not` or a bracket is inside too many others.
     TooDeep,
     /// An item is one too many.
     TooMany,
-    /// There was no memory.
+    /// Out of memory.
     Memory,
 }
 
-/// A refusal, and the byte where it stands, counted from 0. Memory has the offset 0.
+/// A refusal, and the byte of the text that it is about, counted from 0. `Memory` has the offset 0.
 #[derive(Clone, Copy, Debug, PartialEq, Eq)]
 pub struct ReadError {
     pub kind: ReadErrorKind,
@@ -32,9 +32,9 @@ pub struct ReadError {
 }
 
 impl ReadErrorKind {
-    /// The kind's number, from 1 to 7.
+    /// Returns the kind's number, from 1 to 7.
     pub fn number(self) -> u8
-        ensures { result ≡ number_of self }
+        ensures { result ≡ read_kind_number self }
     {
         match self {
             ReadErrorKind::TooLong => 1,
@@ -47,9 +47,9 @@ impl ReadErrorKind {
         }
     }
 
-    /// The kind's name, as `TooLong`.
+    /// Returns the kind's name, as `TooLong`.
     pub fn name(self) -> &'static str
-        ensures { result.now ≡ name_of self }
+        ensures { result.now ≡ read_kind_name self }
     {
         match self {
             ReadErrorKind::TooLong => "TooLong",
@@ -64,7 +64,7 @@ impl ReadErrorKind {
 }
 
 impl fmt::Display for ReadErrorKind {
-    ghost output = { λ kind. Some (name_of kind) };
+    ghost output = { λ kind. Some (read_kind_name kind) };
 
     fn fmt<W: fmt::Write>(&self, f: &mut fmt::Formatter<W>) -> fmt::Result {
         f.write_str(self.name())
@@ -72,7 +72,7 @@ impl fmt::Display for ReadErrorKind {
 }
 
 impl fmt::Display for ReadError {
-    ghost output = { λ error. Some (error_text error) };
+    ghost output = { λ error. Some (read_error_text error) };
 
     fn fmt<W: fmt::Write>(&self, f: &mut fmt::Formatter<W>) -> fmt::Result {
         write!(f, "{} at {}", self.kind, self.offset)

@@ -2,7 +2,7 @@
 
 ghost use Rattle.sml_read.specs.Promise.{OneFile, OneFault, NoFault};
 
-use sml_text::laws::laws_of_tokens;
+use sml_text::laws_of_tokens;
 
 /// What holds of the files of every text. It does nothing when called.
 pub fn laws_of_files()

@@ -13,7 +13,7 @@ use Rattle.sml_tree.proofs.Marks.{all_front, all_back}
 use Rattle.sml_print.specs.Words.{indent, deeper, comma_text, bracket_list, passed_text, arg_text}
 use Rattle.sml_print.specs.Conditions.{cond_text}
 use Rattle.sml_print.specs.Blocks.{every_text, send_text, assign_text, towards_text, waited_text, wait_text, change_text, else_text, instr_text, block_text}
-use Rattle.sml_round_trip.specs.Writable.{IsName, IsArg, IsWaited, IsWritableCond, IsWritableSend, IsWritableBlock}
+use Rattle.sml_round_trip.specs.Writable.{IsWritableName, IsArg, IsWaited, IsWritableCond, IsWritableSend, IsWritableBlock}
 use Rattle.sml_round_trip.proofs.Says.{Anywhere, Say, Wrote, say_end, say_blank, say_part, say_last, say_grouped, wrote_by, wrote_none, say_spelled}
 use Rattle.sml_round_trip.proofs.Words.{say_word, say_name, say_sign}
 use Rattle.sml_round_trip.proofs.Values.{arg_wrote, args_wrote, bracket_edge, comma_more, waited_wrote, more_waited}
@@ -60,7 +60,7 @@ send_wrote d level s text is h b =
     (say_blank refl refl
     (say_part (every_wrote s.all) (λ more e. tt) (say_name s.target h.2 (λ more e. refl) (λ at. refl) (say_blank refl refl (say_last b refl))))))))))))
 
-assign_wrote : (d level : ℕ) (name : List ℕ) (value : ArgData) (text : List ℕ) (is : List InstrData) → IsName name → IsArg value → BlockWrote d text is
+assign_wrote : (d level : ℕ) (name : List ℕ) (value : ArgData) (text : List ℕ) (is : List InstrData) → IsWritableName name → IsArg value → BlockWrote d text is
     → BlockWrote d (instr_text level (assign name value) ++ text) (assign name value ∷ is)
 assign_wrote d level name value text is h k b =
     wrote_by _ (inr (inr (inl refl)))
@@ -73,7 +73,7 @@ assign_wrote d level name value text is h k b =
     (say_blank refl refl
     (say_sign sign.Equals tt (λ at. refl) (say_blank refl refl (say_part (arg_wrote value k) (λ more e. refl) (say_blank refl refl (say_last b refl))))))))))))
 
-move_wrote : (d level : ℕ) (state text : List ℕ) (is : List InstrData) → IsName state → BlockWrote d text is → BlockWrote d (instr_text level (move_to state) ++ text) (move_to state ∷ is)
+move_wrote : (d level : ℕ) (state text : List ℕ) (is : List InstrData) → IsWritableName state → BlockWrote d text is → BlockWrote d (instr_text level (move_to state) ++ text) (move_to state ∷ is)
 move_wrote d level state text is h b =
     wrote_by _ (inr (inr (inr (inl refl))))
     (say_grouped (indent level) (towards_text (codes "move_to ") state) text
@@ -82,7 +82,7 @@ move_wrote d level state text is h b =
     (say_blank refl refl
     (say_spelled _ (state ++ (codes "\n" ++ text)) (simp append_assoc) (say_name state h (λ more e. refl) (λ at. refl) (say_blank refl refl (say_last b refl))))))))
 
-terminate_wrote : (d level : ℕ) (state text : List ℕ) (is : List InstrData) → IsName state → BlockWrote d text is → BlockWrote d (instr_text level (terminate state) ++ text) (terminate state ∷ is)
+terminate_wrote : (d level : ℕ) (state text : List ℕ) (is : List InstrData) → IsWritableName state → BlockWrote d text is → BlockWrote d (instr_text level (terminate state) ++ text) (terminate state ∷ is)
 terminate_wrote d level state text is h b =
     wrote_by _ (inr (inr (inr (inr (inl refl)))))
     (say_grouped (indent level) (towards_text (codes "terminate_action /state=") state) text
@@ -109,7 +109,7 @@ wait_wrote d level w ws text is h k b =
     (say_part (more_waited 1 ws k) (λ more e. refl)
     (say_blank refl refl (say_sign sign.CloseBracket tt (λ at. refl) (say_blank refl refl (say_last b refl)))))))))))))
 
-insert_wrote : (d level : ℕ) (member set text : List ℕ) (is : List InstrData) → IsName member → IsName set
+insert_wrote : (d level : ℕ) (member set text : List ℕ) (is : List InstrData) → IsWritableName member → IsWritableName set
     → BlockWrote d text is
     → BlockWrote d (instr_text level (insert_in member set) ++ text) (insert_in member set ∷ is)
 insert_wrote d level member set text is h k b =
@@ -124,7 +124,7 @@ insert_wrote d level member set text is h k b =
     (say_word (codes "in") kind.In refl refl tt (λ rest e. refl) (λ at. refl)
     (say_blank refl refl (say_name set k (λ more e. refl) (λ at. refl) (say_blank refl refl (say_last b refl))))))))))))
 
-remove_wrote : (d level : ℕ) (member set text : List ℕ) (is : List InstrData) → IsName member → IsName set
+remove_wrote : (d level : ℕ) (member set text : List ℕ) (is : List InstrData) → IsWritableName member → IsWritableName set
     → BlockWrote d text is
     → BlockWrote d (instr_text level (remove_from member set) ++ text) (remove_from member set ∷ is)
 remove_wrote d level member set text is h k b =
@@ -143,7 +143,7 @@ else_wrote : (d level : ℕ) (b : BlockData) (text : List ℕ) → BlockWrote d 
 else_wrote d level no_more text h = wrote_none refl
 else_wrote d level (step i b) text h = wrote_by _ (inl refl) (indented level (say_word (codes "else") kind.Else refl refl tt (λ rest e. refl) (λ at. refl) (say_blank refl refl (say_last h refl))))
 
--- the two blocks of an `if`, and what stands before them
+-- the two blocks of an `if`, and what is before them
 abbrev arms_text : ℕ → BlockData → BlockData → List ℕ
 arms_text level first second = codes "then\n" ++ (block_text (deeper level) first ++ (else_text level second (block_text (deeper level) second) ++ (indent level ++ codes "endif\n")))
 

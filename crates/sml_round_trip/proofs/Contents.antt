@@ -10,7 +10,7 @@ use Rattle.sml_tree.specs.Grammar.{unit_rules, conj_rules, kind_rules, class_par
 use Rattle.sml_tree.specs.Piece.{Piece}
 use Rattle.sml_tree.specs.Derive.{fine, IsFile}
 use Rattle.sml_tree.proofs.Marks.{◌⨾◌}
-use Rattle.sml_round_trip.specs.Writable.{IsName, IsLiteral, IsArg, IsPassed, IsWaited, AreNamed, IsWritableCond, IsWritableInstr, IsWritableBlock, IsClassParam, IsActionParam, IsWritableAction, IsWritableState, IsWritable}
+use Rattle.sml_round_trip.specs.Writable.{IsWritableName, IsLiteral, IsArg, IsPassed, IsWaited, AreNamed, IsWritableCond, IsWritableInstr, IsWritableBlock, IsClassParam, IsActionParam, IsWritableAction, IsWritableState, IsWritable}
 use Rattle.sml_round_trip.proofs.Real.{IsReal, name_real, int_real, bytes_real}
 use Rattle.sml_round_trip.proofs.Held.{Holding, EachHolds, free_holding, begun_holding, AllReal, part_held}
 
@@ -43,9 +43,9 @@ Writable (of.MoreAnd depth n left) v = IsWritableCond left → IsWritableCond v.
 Writable (of.MoreOr depth n left) v = IsWritableCond left → IsWritableCond v.formula
 Writable of.StateList v = AreNamed v
 Writable of.Names v = AreNamed v
-Writable (of.MoreName n) v = AllByRecursion IsName v
-Writable of.Members v = AllByRecursion IsName v
-Writable (of.MoreMember n) v = AllByRecursion IsName v
+Writable (of.MoreName n) v = AllByRecursion IsWritableName v
+Writable of.Members v = AllByRecursion IsWritableName v
+Writable (of.MoreMember n) v = AllByRecursion IsWritableName v
 Writable _ v = Unit {0}
 
 sorts : (n : ℕ) → EachHolds Writable (of.Sort n) (kind_rules n)

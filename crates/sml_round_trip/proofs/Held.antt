@@ -13,8 +13,8 @@ abbrev pub AllReal : List Marked → Type 0
 AllReal ms = AllByRecursion (λ m. IsReal m.token) ms
 
 module _ (Held : (n : Part) → Value n → Type 0) where
-  -- Where Held holds of the parts of a form, K holds of what the form is worth. A token has three arguments (itself, its
-  -- kind, that it is of a text), and a part has two (its worth, what holds of it).
+  -- Where Held holds of the parts of a form, K holds of what the form is worth. A token has three arguments (itself,
+  -- its kind, that it is of a text), and a part has two (its worth, what holds of it).
   abbrev pub Holds : {A : Type 0} (bones : List Bone) → Form A bones → (A → Type 0) → Type 0
   Holds [] (gives v) K = K v
   Holds (_ ∷ bones) (needs kind mark f) K = (t : Piece) → t.kind ≡ kind → IsReal t → Holds bones (f t) K
@@ -44,7 +44,7 @@ module _ (Held : (n : Part) → Value n → Type 0) where
   pub free_holding : (n : Part) → ((v : Value n) → Held n v) → Holding n
   free_holding n h = (some_always n (empty n) h, each_always n (rules n) h)
 
-  -- a form and what stands behind it
+  -- a form and what is behind it
   bound : (n m : Part) (more : List Bone) (k : Value n → Form (Value m) more) (bones : List Bone) (form : Form (Value n) bones) (K : Value n → Type 0) (L : Value m → Type 0)
       → Holds bones form K → ((w : Value n) → K w → Holds more (k w) L) → Holds (bones ++ more) (form >>= k) L
   bound n m more k [] (gives v) K L s h = h v s

@@ -9,10 +9,10 @@ use Rattle.sml_tree.specs.Form.{gives, Part, Value, Marks}
 use Rattle.sml_tree.specs.Brackets.{open_depth}
 use Rattle.sml_tree.specs.Inside.{action_conditions, state_conditions, conditions}
 use Rattle.sml_tree.proofs.Marks.{all_front, all_back}
-use Rattle.sml_print.specs.Words.{bracket_list, listed, name_text, action_param_text}
+use Rattle.sml_print.specs.Words.{bracket_list, comma_list, name_text, action_param_text}
 use Rattle.sml_print.specs.Blocks.{block_text}
 use Rattle.sml_print.specs.Items.{mark_text, action_text, state_text, params_text, file_text}
-use Rattle.sml_round_trip.specs.Writable.{IsName, IsWritableAction, IsWritableState, IsWritableClass, IsWritable}
+use Rattle.sml_round_trip.specs.Writable.{IsWritableName, IsWritableAction, IsWritableState, IsWritableClass, IsWritable}
 use Rattle.sml_round_trip.proofs.Says.{Edge, Anywhere, Wrote, say_end, say_blank, say_part, say_last, wrote_by, wrote_none, say_spelled}
 use Rattle.sml_round_trip.proofs.Words.{say_word, say_name, say_sign}
 use Rattle.sml_round_trip.proofs.Values.{class_params_wrote, action_params_wrote, members_wrote, bracket_edge}
@@ -112,7 +112,7 @@ class_wrote a b c x items h few y =
     (say_blank refl refl
     (say_part (class_params_wrote x.params h.1) (λ more e. tt) (say_part (states_wrote 0 x.states h.2 few) (λ more e. tt) (say_last y refl))))))))))
 
-object_wrote : (a b c : ℕ) (x : ObjectData) (items : List ItemData) → IsName x.name → IsName x.class → FileWrote a (b + 1) c items → FileWrote a b c (object x ∷ items)
+object_wrote : (a b c : ℕ) (x : ObjectData) (items : List ItemData) → IsWritableName x.name → IsWritableName x.class → FileWrote a (b + 1) c items → FileWrote a b c (object x ∷ items)
 object_wrote a b c x items h k y =
     wrote_by _ (inr (inl refl))
     (say_word (codes "object") kind.Object refl refl tt (λ rest e. refl) (λ at. refl)
@@ -124,7 +124,7 @@ object_wrote a b c x items h k y =
     (say_word (codes "is_of_class") kind.IsOfClass refl refl tt (λ rest e. refl) (λ at. refl)
     (say_blank refl refl (say_name x.class k (λ more e. refl) (λ at. refl) (say_blank refl refl (say_last y refl)))))))))))
 
-group_wrote : (a b c : ℕ) (name : List ℕ) (members : List (List ℕ)) (items : List ItemData) → IsName name → AllByRecursion IsName members → FileWrote a b (c + 1) items
+group_wrote : (a b c : ℕ) (name : List ℕ) (members : List (List ℕ)) (items : List ItemData) → IsWritableName name → AllByRecursion IsWritableName members → FileWrote a b (c + 1) items
     → FileWrote a b c (group (record { name = name; members = members }) ∷ items)
 group_wrote a b c name [] items h k y =
     wrote_by _ (inr (inr (inl refl)))
@@ -142,7 +142,7 @@ group_wrote a b c name (member ∷ members) items h k y =
     (say_word (codes "objectset") kind.ObjectSet refl refl tt (λ rest e. refl) (λ at. refl)
     (say_sign sign.Colon tt (λ at. refl)
     (say_blank refl refl
-    (say_spelled _ (name ++ (codes " { " ++ (listed name_text (member ∷ members) ++ (codes " }\n" ++ file_text items)))) (simp append_assoc)
+    (say_spelled _ (name ++ (codes " { " ++ (comma_list name_text (member ∷ members) ++ (codes " }\n" ++ file_text items)))) (simp append_assoc)
     (say_name name h (λ more e. refl) (λ at. refl)
     (say_blank refl refl
     (say_sign sign.OpenBrace tt (λ at. refl)

@@ -2,9 +2,9 @@
 use Rattle.std.proofs.Common.{◌≡◌, ℕ, ◌+◌, Bool, true, false, List, [], ◌∷◌, ◌++◌, length, refl, ap, sym, subst, append_assoc, Some, None}
 use Rattle.sml_text.specs.declared.source.Source.TheVariants.{Domain}
 use Rattle.sml_text.specs.Bytes.{is_ascii, is_blank}
-use Rattle.sml_text.specs.Tokens.{Lexeme, Token, told, Each, Stands, blank, TokensAt, ends, goes_on}
+use Rattle.sml_text.specs.Tokens.{Lexeme, Token, with_token, Each, LexemeStands, blank, TokensAt, ends, goes_on}
 use Rattle.sml_tree.specs.declared.token_kind.TokenKind.{TokenKind}
-use Rattle.sml_tree.specs.Piece.{Piece, pieces, kind_of, is_slash}
+use Rattle.sml_tree.specs.Piece.{Piece, pieces, piece_kind, is_slash}
 
 -- a token without its place
 pub record Mould : Type 0 where
@@ -18,7 +18,7 @@ abbrev pub moulds : List Piece → List Mould
 moulds [] = []
 moulds (t ∷ ts) = mould t.kind t.lexeme ∷ moulds ts
 
--- the text is of ASCII and has these tokens, wherever it begins, behind a slash or not
+-- the text is of ASCII and has these tokens, at any place where it begins, behind a slash or not
 pub record Lexes (slash : Bool) (text : List ℕ) (ms : List Mould) : Type 0 where
   pub ascii : Each is_ascii text
   pub tokens : (at : ℕ) → (ts : List Token) × TokensAt Domain at text ts × (moulds (pieces slash ts) ≡ ms)
@@ -31,13 +31,13 @@ pub lexes_none : (slash : Bool) → Lexes slash [] []
 lexes_none slash = record { ascii = tt; tokens = λ at. ([], ends at, refl) }
 
 -- a token in front
-pub lexes_token : (slash : Bool) (bytes rest : List ℕ) (l : Lexeme) (ms : List Mould) → Stands Domain bytes rest (Some l) → Each is_ascii bytes
-    → Lexes (is_slash l) rest ms → Lexes slash (bytes ++ rest) (mould (kind_of slash l) l ∷ ms)
+pub lexes_token : (slash : Bool) (bytes rest : List ℕ) (l : Lexeme) (ms : List Mould) → LexemeStands Domain bytes rest (Some l) → Each is_ascii bytes
+    → Lexes (is_slash l) rest ms → Lexes slash (bytes ++ rest) (mould (piece_kind slash l) l ∷ ms)
 lexes_token slash bytes rest l ms s a h = record {
   ascii = each_append is_ascii bytes rest a h.ascii;
   tokens = λ at.
       let x = h.tokens (at + length bytes) in
-      (told at (Some l) x.0, goes_on at bytes rest (Some l) x.0 s x.1, ap (λ (l' : List Mould). mould (kind_of slash l) l ∷ l') x.2);
+      (with_token at (Some l) x.0, goes_on at bytes rest (Some l) x.0 s x.1, ap (λ (l' : List Mould). mould (piece_kind slash l) l ∷ l') x.2);
 }
 
 -- a blank in front
@@ -49,7 +49,7 @@ lexes_blank slash c rest ms e a h = record {
       (x.0, goes_on at (c ∷ []) rest None x.0 (blank c rest e) x.1, x.2);
 }
 
--- The text, with whatever of that end stands behind it, has these tokens in front of those behind it.
+-- The text, with any text of that end behind it, has these tokens in front of those behind it.
 pub record Spelt (slash : Bool) (E : List ℕ → Type 0) (text : List ℕ) (ms : List Mould) : Type 0 where
   pub whole : (more : List ℕ) (ns : List Mould) → E more → Lexes false more ns → Lexes slash (text ++ more) (ms ++ ns)
 

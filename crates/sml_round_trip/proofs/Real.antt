@@ -10,12 +10,12 @@ use Rattle.sml_text.specs.declared.source.Source.TheVariants.{Domain}
 use Rattle.sml_text.specs.declared.source.Sign.{Sign as SignKind}
 use Rattle.sml_text.specs.declared.source.Sign.TheVariants as sign
 use Rattle.sml_text.specs.Bytes.{is_letter, is_word, is_word_byte, is_string_byte, folded}
-use Rattle.sml_text.specs.Tokens.{Lexeme, Word, Int, Str, Sign, Session, Token, Each, Stands, blank, comment, word, int, string, sign as a_sign, session, IsLong, TokensAt, ends, goes_on, told}
+use Rattle.sml_text.specs.Tokens.{Lexeme, Word, Int, Str, Sign, Session, Token, Each, LexemeStands, blank, comment, word, int, string, sign as a_sign, session, IsLong, TokensAt, ends, goes_on, with_token}
 use Rattle.sml_tree.specs.declared.token_kind.TokenKind.{TokenKind}
 use Rattle.sml_tree.specs.declared.token_kind.TokenKind.TheVariants as kind
-use Rattle.sml_tree.specs.Piece.{Piece, pieces, kind_of, is_slash, Reserved, reserved, mark_words, kind_in, word_kind, sign_kind, word_of, int_of, bytes_of}
+use Rattle.sml_tree.specs.Piece.{Piece, pieces, piece_kind, is_slash, Reserved, reserved, mark_words, kind_in, word_kind, sign_kind, word_of, int_of, bytes_of}
 use Rattle.sml_tree.proofs.Upper.{upper-upper}
-use Rattle.sml_round_trip.specs.Writable.{IsName}
+use Rattle.sml_round_trip.specs.Writable.{IsWritableName}
 use Rattle.sml_text.specs.declared.limits.TheConstants.{LONGEST_NAME, LONGEST_STRING}
 
 -- what a token holds
@@ -33,7 +33,7 @@ IfGood (Some l) = IsGood l
 -- a token of a text, behind a slash or not
 pub record IsReal (t : Piece) : Type 0 where
   pub slash : Bool
-  pub kind : t.kind ≡ kind_of slash t.lexeme
+  pub kind : t.kind ≡ piece_kind slash t.lexeme
   pub good : IsGood t.lexeme
 
 letter_upper : (c : ℕ) → is_letter c ≡ true → is_letter (to_ascii_uppercase c) ≡ true
@@ -53,7 +53,7 @@ word_upper c body letter each short =
     let fits : nat_le (length (c ∷ body)) LONGEST_NAME ≡ true = grind (arith, nat_tests) in
     and_from _ _ (and_from _ _ (letter_upper c letter) (all_upper body each)) (ap (λ n. nat_le n LONGEST_NAME) l ∙ fits)
 
-stands_good : (bytes rest : List ℕ) (what : Option Lexeme) → Stands Domain bytes rest what → IfGood what
+stands_good : (bytes rest : List ℕ) (what : Option Lexeme) → LexemeStands Domain bytes rest what → IfGood what
 stands_good bytes rest what (blank c _ h) = tt
 stands_good bytes rest what (comment body _ each over) = tt
 stands_good bytes rest what (word c body _ letter each over short) = (word_upper c body letter each short, upper-upper (c ∷ body))
@@ -66,7 +66,7 @@ pub all_real : (slash : Bool) (at : ℕ) (text : List ℕ) (ts : List Token) →
 all_real slash at text ts (ends _) = tt
 all_real slash at text ts (goes_on _ bytes rest what us s more) = go what (stands_good bytes rest what s) (λ b. all_real b (at + length bytes) rest us more)
   where
-    go : (what : Option Lexeme) → IfGood what → ((b : Bool) → AllByRecursion IsReal (pieces b us)) → AllByRecursion IsReal (pieces slash (told at what us))
+    go : (what : Option Lexeme) → IfGood what → ((b : Bool) → AllByRecursion IsReal (pieces b us)) → AllByRecursion IsReal (pieces slash (with_token at what us))
     go None h next = next slash
     go (Some l) h next = (record { slash = slash; kind = refl; good = h }, next (is_slash l))
 
@@ -96,7 +96,7 @@ sign_no_name sign.OpenBrace e = absurd (cc e)
 sign_no_name sign.CloseBrace e = absurd (cc e)
 sign_no_name sign.Slash e = absurd (cc e)
 
-name_of : (l : Lexeme) (slash : Bool) → kind_of slash l ≡ kind.Name → IsGood l → IsName (word_of l)
+name_of : (l : Lexeme) (slash : Bool) → piece_kind slash l ≡ kind.Name → IsGood l → IsWritableName (word_of l)
 name_of (Word w) slash e h = record { word = h.0; upper = h.1; free = free_name slash w e }
 name_of (Int n) slash e h = absurd (cc e)
 name_of (Str bytes) slash e h = absurd (cc e)
@@ -104,7 +104,7 @@ name_of (Sign s) slash e h = absurd (sign_no_name s e)
 name_of (Session k) slash e h = absurd (cc e)
 
 -- a token that is a name
-pub name_real : (t : Piece) → t.kind ≡ kind.Name → IsReal t → IsName (word_of t.lexeme)
+pub name_real : (t : Piece) → t.kind ≡ kind.Name → IsReal t → IsWritableName (word_of t.lexeme)
 name_real t e r = name_of t.lexeme r.slash (sym r.kind ∙ e) r.good
 
 -- ---- ints and strings
@@ -142,14 +142,14 @@ not_spelled k l h e g = absurd (true_false (sym h ∙ ap is_spelled e ∙ g))
     true_false : true ≡ false → ⊥
     true_false x = absurd (cc x)
 
-int_of_kind : (l : Lexeme) (slash : Bool) → kind_of slash l ≡ kind.Int → IsGood l → IsLong (int_of l)
+int_of_kind : (l : Lexeme) (slash : Bool) → piece_kind slash l ≡ kind.Int → IsGood l → IsLong (int_of l)
 int_of_kind (Word w) slash e h = absurd (not_spelled _ _ (word_spelled slash w) e refl)
 int_of_kind (Int n) slash e h = h
 int_of_kind (Str bytes) slash e h = absurd (cc e)
 int_of_kind (Sign s) slash e h = absurd (not_spelled _ _ (sign_spelled s) e refl)
 int_of_kind (Session k) slash e h = absurd (cc e)
 
-bytes_of_kind : (l : Lexeme) (slash : Bool) → kind_of slash l ≡ kind.Str → IsGood l → Each is_string_byte (bytes_of l) × (length (bytes_of l) ≤ LONGEST_STRING)
+bytes_of_kind : (l : Lexeme) (slash : Bool) → piece_kind slash l ≡ kind.Str → IsGood l → Each is_string_byte (bytes_of l) × (length (bytes_of l) ≤ LONGEST_STRING)
 bytes_of_kind (Word w) slash e h = absurd (not_spelled _ _ (word_spelled slash w) e refl)
 bytes_of_kind (Int n) slash e h = absurd (cc e)
 bytes_of_kind (Str bytes) slash e h = h

@@ -2,11 +2,11 @@
 use Rattle.std.proofs.Common.{◌≡◌, ℕ, Bool, true, false, List, [], ◌∷◌, ◌++◌, refl, ap, sym, ◌∙◌, subst, append_assoc, append-nil, map, Some, inl, inr}
 use Rattle.std.specs.List.{AllByRecursion}
 use Rattle.sml_text.specs.Bytes.{is_blank, is_ascii, is_word_byte}
-use Rattle.sml_text.specs.Tokens.{Lexeme, Each, Over, Stands}
+use Rattle.sml_text.specs.Tokens.{Lexeme, Each, Over, LexemeStands}
 use Rattle.sml_text.specs.declared.source.Source.TheVariants.{Domain}
 use Rattle.sml_tree.specs.declared.token_kind.TokenKind.{TokenKind}
 use Rattle.sml_tree.specs.declared.token_kind.TokenKind.TheVariants.{Not, OpenBracket}
-use Rattle.sml_tree.specs.Piece.{Piece, kind_of, is_slash}
+use Rattle.sml_tree.specs.Piece.{Piece, piece_kind, is_slash}
 use Rattle.sml_tree.specs.Form.{Bone, B, P, Form, gives, needs, calls, part, ◌>>=◌, Mark, Fine, Deep, Part, family, Value}
 use Rattle.sml_tree.specs.Grammar.{Rule, rules, empty, begun}
 use Rattle.sml_tree.specs.Derive.{Marked, marked, plain, OneOf, Derives, nothing, token, left_out, written}
@@ -36,7 +36,7 @@ DerivedFrom g bones form ts v = (ks : List Marked) × (plain ks ≡ ts) × Deriv
 abbrev pub Formed : (g : Part) (bones : List Bone) → Form (Value g) bones → List Mould → Value g → Type 0
 Formed g bones form ms v = (ts : List Piece) → moulds ts ≡ ms → DerivedFrom g bones form ts v
 
--- where the kind is a `not` or a bracket, no limit stands against it
+-- where the kind is a `not` or a bracket, no limit refuses it
 abbrev pub Free : TokenKind → Mark → Type 0
 Free Not mark = mark ≡ Fine
 Free OpenBracket mark = mark ≡ Fine
@@ -125,7 +125,7 @@ say_blank {slash} {E} {g} {bones} {form} {text} {v} {c} e a h = record {
 
 -- a token
 pub say_token : {slash : Bool} {E : List ℕ → Type 0} {g : Part} {bones : List Bone} {mark : Mark} {f : Piece → Form (Value g) bones} {text : List ℕ} {v : Value g}
-    (bytes : List ℕ) (l : Lexeme) (k : TokenKind) → ((rest : List ℕ) → E rest → Stands Domain bytes (text ++ rest) (Some l)) → Each is_ascii bytes → kind_of slash l ≡ k → Free k mark
+    (bytes : List ℕ) (l : Lexeme) (k : TokenKind) → ((rest : List ℕ) → E rest → LexemeStands Domain bytes (text ++ rest) (Some l)) → Each is_ascii bytes → piece_kind slash l ≡ k → Free k mark
     → ((at : ℕ) → f (piece_at k l at) ≡ f (piece_at k l 0)) → Say (is_slash l) E g bones (f (piece_at k l 0)) text v → Say slash E g (B k ∷ bones) (needs k mark f) (bytes ++ text) v
 say_token {slash} {E} {g} {bones} {mark} {f} {text} {v} bytes l k s a is free blind h = record {
   tokens = mould k l ∷ h.tokens;
@@ -138,7 +138,7 @@ say_token {slash} {E} {g} {bones} {mark} {f} {text} {v} bytes l k s a is free bl
   formed = formed_token g bones k mark f l h.tokens v free blind h.formed;
 }
 
--- a part, and what stands behind it
+-- a part, and what is behind it
 pub say_part : {slash : Bool} {E F : List ℕ → Type 0} {g n : Part} {bones : List Bone} {f : Value n → Form (Value g) bones} {a b : List ℕ} {w : Value n} {v : Value g}
     → Wrote slash E n a w → ((more : List ℕ) → F more → E (b ++ more)) → Say false F g bones (f w) b v → Say slash F g (P (family n) ∷ bones) (calls n f) (a ++ b) v
 say_part {slash} {E} {F} {g} {n} {bones} {f} {a} {b} {w} {v} x clear y = record {
@@ -207,7 +207,7 @@ chosen r one h = record { rule = r; one = one; say = h }
 pub chosen_wrote : {slash : Bool} {E : List ℕ → Type 0} {n : Part} {text : List ℕ} {v : Value n} → Chosen slash E n text v → Wrote slash E n text v
 chosen_wrote c = wrote_by c.rule c.one c.say
 
--- a part whose rules are those of another, each begun, with what stands behind that
+-- a part whose rules are those of another, each begun, with what is behind that
 pub begin : {slash : Bool} {E F : List ℕ → Type 0} {a b : List ℕ} (n m : Part) (more : List Bone) (k : Value n → Form (Value m) more) (w : Value n) (v : Value m)
     → ((r : Rule n) → OneOf (map (begun n m k) (rules n)) (begun n m k r) → OneOf (rules m) (begun n m k r))
     → Chosen slash E n a w → ((rest : List ℕ) → F rest → E (b ++ rest)) → Say false F m more (k w) b v → Chosen slash F m (a ++ b) v

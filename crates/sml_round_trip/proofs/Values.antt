@@ -9,16 +9,16 @@ use Rattle.sml_tree.specs.declared.file.Kind.TheVariants as sort
 use Rattle.sml_tree.specs.Syntax.{LiteralData, int, str, ArgData, lit, param, PassedData, WaitedData, ClassParamData, ActionParamData}
 use Rattle.sml_tree.specs.Form as of
 use Rattle.sml_tree.specs.Form.{Part, Value}
-use Rattle.sml_print.specs.Words.{literal_text, arg_text, passed_text, default_text, class_param_text, action_param_text, comma_text, listed, bracket_list, name_text}
+use Rattle.sml_print.specs.Words.{literal_text, arg_text, passed_text, default_text, class_param_text, action_param_text, comma_text, comma_list, bracket_list, name_text}
 use Rattle.sml_print.specs.Items.{params_text}
 use Rattle.sml_print.specs.Blocks.{waited_text}
 use Rattle.sml_print.specs.Conditions.{states_text}
-use Rattle.sml_round_trip.specs.Writable.{IsName, IsLiteral, IsArg, IsPassed, IsWaited, AreNamed, IsClassParam, IsActionParam}
+use Rattle.sml_round_trip.specs.Writable.{IsWritableName, IsLiteral, IsArg, IsPassed, IsWaited, AreNamed, IsClassParam, IsActionParam}
 use Rattle.sml_round_trip.proofs.Says.{Edge, Anywhere, Wrote, say_end, say_blank, say_part, say_last, say_grouped, wrote_by, wrote_none, say_alone}
 use Rattle.sml_round_trip.proofs.Words.{say_word, say_name, say_sign, say_string, say_int}
 
 -- ---- where a word ends
--- behind it stands a list in brackets, or what stands behind that
+-- behind it stands a list in brackets, or what is behind that
 pub bracket_edge : {X : Type 0} (f : X → List ℕ) (xs : List X) (text more : List ℕ) → Edge (text ++ more) → Edge ((bracket_list f xs ++ text) ++ more)
 bracket_edge f [] text more e = e
 bracket_edge f (x ∷ xs) text more e = refl
@@ -163,14 +163,14 @@ more_waited n (w ∷ ws) h =
     (say_blank refl refl (say_part (waited_wrote n w h.0) (λ more e. comma_edge waited_text ws more e) (say_last (more_waited (n + 1) ws h.1) refl))))
 
 -- ---- names
-more_names : (n : ℕ) (names : List (List ℕ)) → AllByRecursion IsName names → Wrote false Edge (of.MoreName n) (flat_map (comma_text name_text) names) names
+more_names : (n : ℕ) (names : List (List ℕ)) → AllByRecursion IsWritableName names → Wrote false Edge (of.MoreName n) (flat_map (comma_text name_text) names) names
 more_names n [] h = wrote_none refl
 more_names n (name ∷ names) h =
     wrote_by _ (inl refl)
     (say_sign sign.Comma tt (λ at. refl)
     (say_blank refl refl (say_name name h.0 (λ more e. comma_edge name_text names more e) (λ at. refl) (say_last (more_names (n + 1) names h.1) refl))))
 
-names_wrote : (name : List ℕ) (names : List (List ℕ)) → IsName name → AllByRecursion IsName names → Wrote false Edge of.Names (listed name_text (name ∷ names)) (name ∷ names)
+names_wrote : (name : List ℕ) (names : List (List ℕ)) → IsWritableName name → AllByRecursion IsWritableName names → Wrote false Edge of.Names (comma_list name_text (name ∷ names)) (name ∷ names)
 names_wrote name names h k = wrote_by _ (inl refl) (say_name name h (λ more e. comma_edge name_text names more e) (λ at. refl) (say_last (more_names 1 names k) refl))
 
 pub states_wrote : (names : List (List ℕ)) → AreNamed names → Wrote false Edge of.StateList (states_text names) names
@@ -183,13 +183,13 @@ states_wrote (name ∷ other ∷ names) h =
     (say_part (names_wrote name (other ∷ names) (h.1).0 (h.1).1) (λ more e. refl)
     (say_blank refl refl (say_sign sign.CloseBrace tt (λ at. refl) say_end)))))
 
-more_members : (n : ℕ) (names : List (List ℕ)) → AllByRecursion IsName names → Wrote false Edge (of.MoreMember n) (flat_map (comma_text name_text) names) names
+more_members : (n : ℕ) (names : List (List ℕ)) → AllByRecursion IsWritableName names → Wrote false Edge (of.MoreMember n) (flat_map (comma_text name_text) names) names
 more_members n [] h = wrote_none refl
 more_members n (name ∷ names) h =
     wrote_by _ (inl refl)
     (say_sign sign.Comma tt (λ at. refl)
     (say_blank refl refl (say_name name h.0 (λ more e. comma_edge name_text names more e) (λ at. refl) (say_last (more_members (n + 1) names h.1) refl))))
 
-pub members_wrote : (names : List (List ℕ)) → AllByRecursion IsName names → Wrote false Edge of.Members (listed name_text names) names
+pub members_wrote : (names : List (List ℕ)) → AllByRecursion IsWritableName names → Wrote false Edge of.Members (comma_list name_text names) names
 members_wrote [] h = wrote_none refl
 members_wrote (name ∷ names) h = wrote_by _ (inl refl) (say_name name h.0 (λ more e. comma_edge name_text names more e) (λ at. refl) (say_last (more_members 1 names h.1) refl))

@@ -7,14 +7,14 @@ use Rattle.sml_text.specs.declared.source.Source.TheVariants.{Domain}
 use Rattle.sml_text.specs.declared.source.Sign.{Sign as SignKind}
 use Rattle.sml_text.specs.declared.source.Sign.TheVariants as sign
 use Rattle.sml_text.specs.Bytes.{is_ascii, is_letter, is_digit, is_word_byte, is_word_text, is_word, is_string_byte, folded, sign_byte}
-use Rattle.sml_text.specs.Tokens.{Word, Int, Str, Sign, Each, Stands, word, int, string, sign as a_sign, IsLong, int_value, minus_bytes, negated}
+use Rattle.sml_text.specs.Tokens.{Word, Int, Str, Sign, Each, LexemeStands, word, int, string, sign as a_sign, IsLong, int_value, minus_bytes, negated}
 use Rattle.sml_text.specs.Decimal.{IsDecimal, IsIntText, int_text}
 use Rattle.sml_text.proofs.Decimals.{some_int_text}
 use Rattle.sml_tree.specs.declared.token_kind.TokenKind.{TokenKind}
 use Rattle.sml_tree.specs.declared.token_kind.TokenKind.TheVariants as kind
 use Rattle.sml_tree.specs.Piece.{Piece, word_kind, sign_kind, is_slash}
 use Rattle.sml_tree.specs.Form.{Bone, B, Form, needs, Mark, Part, Value}
-use Rattle.sml_round_trip.specs.Writable.{IsName}
+use Rattle.sml_round_trip.specs.Writable.{IsWritableName}
 use Rattle.sml_round_trip.proofs.Lexed.{each_append}
 use Rattle.sml_round_trip.proofs.Says.{piece_at, Edge, Free, Say, say_token}
 use Rattle.sml_text.specs.declared.limits.TheConstants.{LONGEST_NAME, LONGEST_STRING}
@@ -41,7 +41,7 @@ string_ascii : (c : ℕ) → is_string_byte c ≡ true → is_ascii c ≡ true
 string_ascii c h = grind (arith, nat_tests)
 
 -- ---- words
-word_stands : (bytes rest : List ℕ) → is_word bytes ≡ true → Edge rest → Stands Domain bytes rest (Some (Word (folded bytes)))
+word_stands : (bytes rest : List ℕ) → is_word bytes ≡ true → Edge rest → LexemeStands Domain bytes rest (Some (Word (folded bytes)))
 word_stands [] rest h e = absurd (cc h)
 word_stands (c ∷ body) rest h e =
     let p = and_parts (is_word_text (c ∷ body)) (nat_le (length (c ∷ body)) LONGEST_NAME) h in
@@ -65,11 +65,11 @@ module _ {E : List ℕ → Type 0} {g : Part} {bones : List Bone} {mark : Mark} 
   say_word bytes k h is free clear blind x = say_token bytes (Word (folded bytes)) k (λ rest e. word_stands bytes (text ++ rest) h (clear rest e)) (word_bytes bytes h) is free blind x
 
   -- a name
-  pub say_name : (name : List ℕ) → IsName name → ((rest : List ℕ) → E rest → Edge (text ++ rest))
+  pub say_name : (name : List ℕ) → IsWritableName name → ((rest : List ℕ) → E rest → Edge (text ++ rest))
       → ((at : ℕ) → f (piece_at kind.Name (Word name) at) ≡ f (piece_at kind.Name (Word name) 0)) → Say false E g bones (f (piece_at kind.Name (Word name) 0)) text v
       → Say false E g (B kind.Name ∷ bones) (needs kind.Name mark f) (name ++ text) v
   say_name name h clear blind x =
-      say_token name (Word name) kind.Name (λ rest e. subst (λ w. Stands Domain name (text ++ rest) (Some (Word w))) h.upper (word_stands name (text ++ rest) h.word (clear rest e)))
+      say_token name (Word name) kind.Name (λ rest e. subst (λ w. LexemeStands Domain name (text ++ rest) (Some (Word w))) h.upper (word_stands name (text ++ rest) h.word (clear rest e)))
       (word_bytes name h.word) h.free tt blind x
 
   -- a sign
@@ -98,17 +98,17 @@ module _ {E : List ℕ → Type 0} {g : Part} {bones : List Bone} {mark : Mark} 
 
 -- ---- ints
 digits_stand : (minus : Bool) (n : ℕ) (value : ℤ) (digits rest : List ℕ) → IsDecimal n digits → Edge rest → ((m : ℕ) → m ≡ n → int_value minus digits ≡ value) → IsLong value
-    → Stands Domain (minus_bytes minus ++ digits) rest (Some (Int value))
+    → LexemeStands Domain (minus_bytes minus ++ digits) rest (Some (Int value))
 digits_stand minus n value [] rest d e is long = let s = d.some in absurd (omega (arith, s))
 digits_stand minus n value (c ∷ digits) rest d e is long =
     let same : int_value minus (c ∷ digits) ≡ value = is n refl in
-    let Q : ℤ → Type 0 = λ x. Stands Domain (minus_bytes minus ++ (c ∷ digits)) rest (Some (Int x)) in
+    let Q : ℤ → Type 0 = λ x. LexemeStands Domain (minus_bytes minus ++ (c ∷ digits)) rest (Some (Int x)) in
     subst Q same (int minus c digits rest d.digits.0 d.digits.1 e (subst IsLong (sym same) long))
 
-int_stands : (n : ℤ) (text rest : List ℕ) → IsIntText n text → Edge rest → IsLong n → Stands Domain text rest (Some (Int n))
+int_stands : (n : ℤ) (text rest : List ℕ) → IsIntText n text → Edge rest → IsLong n → LexemeStands Domain text rest (Some (Int n))
 int_stands (pos n) text rest d e long = digits_stand false n (pos n) text rest d e (λ m h. ap pos d.value) long
 int_stands (negsuc n) text rest d e long =
-    subst (λ t. Stands Domain t rest (Some (Int (negsuc n)))) (sym d.1) (digits_stand true (suc n) (negsuc n) d.0 rest d.2 e (λ m h. ap negated d.2.value) long)
+    subst (λ t. LexemeStands Domain t rest (Some (Int (negsuc n)))) (sym d.1) (digits_stand true (suc n) (negsuc n) d.0 rest d.2 e (λ m h. ap negated d.2.value) long)
 
 int_bytes : (n : ℤ) (text : List ℕ) → IsIntText n text → Each is_ascii text
 int_bytes (pos n) text d = each_other is_digit is_ascii text digit_ascii d.digits

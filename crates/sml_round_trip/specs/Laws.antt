@@ -14,11 +14,12 @@ use Rattle.sml_tree.specs.declared.limits.TheConstants.{MAX_OPEN}
 abbrev pub HasFewBrackets : List ItemData → Type 0
 HasFewBrackets file = AllByRecursion (λ c. open_depth c ≤ MAX_OPEN) (conditions file)
 
--- the canonical text of a tree says that tree just where what the tree holds can be written and all is within the limits
+-- the canonical text of a tree says that tree exactly if what the tree holds can be written and is within the limits
 abbrev pub SaidByItsText : Type 0
-SaidByItsText = (file : List ItemData) → IsFileOf (file_text file) file ↔ (IsWritable file × IsWithinLimits file × HasFewBrackets file × IsShort (file_text file))
+SaidByItsText = (file : List ItemData) → IsFileOf (file_text file) file ↔
+    (IsWritable file × IsWithinLimits file × HasFewBrackets file × IsShort (file_text file))
 
--- the canonical text of a file says the file and nothing else, where it is within the limit of texts
+-- the canonical text of a file says the file and nothing else, if it is within the limit of texts
 abbrev pub RoundTrip : Type 0
 RoundTrip = (text : List ℕ) (file : List ItemData) → IsFileOf text file → IsShort (file_text file)
     → IsFileOf (file_text file) file × ((other : List ItemData) → IsFileOf (file_text file) other → file ≡ other)

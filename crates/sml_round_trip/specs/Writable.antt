@@ -1,4 +1,5 @@
--- What a file holds whose text can be read: its names, ints and strings are those of tokens, and no list of states is empty.
+-- What a file holds whose text can be read: its names, ints and strings are those of tokens, and no list of states is
+-- empty.
 use Rattle.std.specs.Prelude.{◌≡◌, ◌≤◌, ◌<◌, ℕ, false, true, List, length, IfSome}
 use Rattle.std.specs.List.{AllByRecursion}
 use Rattle.sml_text.specs.Bytes.{is_word, is_string_byte, folded}
@@ -9,7 +10,7 @@ use Rattle.sml_tree.specs.Syntax.{LiteralData, int, str, ArgData, lit, param, Pa
 use Rattle.sml_text.specs.declared.limits.TheConstants.{LONGEST_STRING}
 
 -- a word in upper case that is not reserved
-pub record IsName (name : List ℕ) : Type 0 where
+pub record IsWritableName (name : List ℕ) : Type 0 where
   pub word : is_word name ≡ true
   pub upper : folded name ≡ name
   pub free : word_kind false name ≡ Name
@@ -22,19 +23,19 @@ IsLiteral (str bytes) = Each is_string_byte bytes × (length bytes ≤ LONGEST_S
 -- a value, or the name of a parameter
 abbrev pub IsArg : ArgData → Type 0
 IsArg (lit value) = IsLiteral value
-IsArg (param name) = IsName name
+IsArg (param name) = IsWritableName name
 
 -- an argument
 abbrev pub IsPassed : PassedData → Type 0
-IsPassed p = IsName p.name × IsArg p.value
+IsPassed p = IsWritableName p.name × IsArg p.value
 
 -- some names
 abbrev pub AreNamed : List (List ℕ) → Type 0
-AreNamed names = (0 < length names) × AllByRecursion IsName names
+AreNamed names = (0 < length names) × AllByRecursion IsWritableName names
 
 -- a test, of some states
 abbrev pub IsWritableTest : TestData → Type 0
-IsWritableTest t = IsName t.name × AreNamed t.states
+IsWritableTest t = IsWritableName t.name × AreNamed t.states
 
 -- a condition, by its tests
 abbrev pub IsWritableCond : CondData → Type 0
@@ -45,11 +46,11 @@ IsWritableCond (test t) = IsWritableTest t
 
 -- a `do`
 abbrev pub IsWritableSend : SendData → Type 0
-IsWritableSend s = IsName s.action × AllByRecursion IsPassed s.args × IsName s.target
+IsWritableSend s = IsWritableName s.action × AllByRecursion IsPassed s.args × IsWritableName s.target
 
 -- what a `wait` names
 abbrev pub IsWaited : WaitedData → Type 0
-IsWaited w = IsName w.name
+IsWaited w = IsWritableName w.name
 
 -- a `wait`, for something
 abbrev pub IsWritableWait : List WaitedData → Type 0
@@ -60,12 +61,12 @@ abbrev mutual
   pub IsWritableInstr : InstrData → Type 0
   IsWritableInstr (send s) = IsWritableSend s
   IsWritableInstr (choose c first second) = IsWritableCond c × IsWritableBlock first × IsWritableBlock second
-  IsWritableInstr (assign name value) = IsName name × IsArg value
-  IsWritableInstr (move_to state) = IsName state
-  IsWritableInstr (terminate state) = IsName state
+  IsWritableInstr (assign name value) = IsWritableName name × IsArg value
+  IsWritableInstr (move_to state) = IsWritableName state
+  IsWritableInstr (terminate state) = IsWritableName state
   IsWritableInstr (wait_for waited) = IsWritableWait waited
-  IsWritableInstr (insert_in member set) = IsName member × IsName set
-  IsWritableInstr (remove_from member set) = IsName member × IsName set
+  IsWritableInstr (insert_in member set) = IsWritableName member × IsWritableName set
+  IsWritableInstr (remove_from member set) = IsWritableName member × IsWritableName set
 
   -- a block, by its instructions
   pub IsWritableBlock : BlockData → Type 0
@@ -74,29 +75,30 @@ abbrev mutual
 
 -- a parameter of a class
 abbrev pub IsClassParam : ClassParamData → Type 0
-IsClassParam p = IsName p.name × IsLiteral p.value
+IsClassParam p = IsWritableName p.name × IsLiteral p.value
 
 -- a parameter of an action
 abbrev pub IsActionParam : ActionParamData → Type 0
-IsActionParam p = IsName p.name × IfSome p.default IsLiteral
+IsActionParam p = IsWritableName p.name × IfSome p.default IsLiteral
 
 -- an action
 abbrev pub IsWritableAction : ActionData → Type 0
-IsWritableAction a = IsName a.name × AllByRecursion IsActionParam a.params × IsWritableBlock a.body
+IsWritableAction a = IsWritableName a.name × AllByRecursion IsActionParam a.params × IsWritableBlock a.body
 
 -- a state
 abbrev pub IsWritableState : StateData → Type 0
-IsWritableState s = IsName s.name × AllByRecursion IsWritableAction s.actions
+IsWritableState s = IsWritableName s.name × AllByRecursion IsWritableAction s.actions
 
 -- a class
 abbrev pub IsWritableClass : ClassData → Type 0
-IsWritableClass c = IsName c.name × AllByRecursion IsClassParam c.params × AllByRecursion IsWritableState c.states
+IsWritableClass c =
+    IsWritableName c.name × AllByRecursion IsClassParam c.params × AllByRecursion IsWritableState c.states
 
 -- an item
 abbrev pub IsWritableItem : ItemData → Type 0
 IsWritableItem (class c) = IsWritableClass c
-IsWritableItem (object o) = IsName o.name × IsName o.class
-IsWritableItem (group g) = IsName g.name × AllByRecursion IsName g.members
+IsWritableItem (object o) = IsWritableName o.name × IsWritableName o.class
+IsWritableItem (group g) = IsWritableName g.name × AllByRecursion IsWritableName g.members
 
 -- a file, by its items
 abbrev pub IsWritable : List ItemData → Type 0

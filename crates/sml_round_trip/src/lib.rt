@@ -1,4 +1,6 @@
 //! What is printed is read as the same file.
 #![tactic(auto)]
 
-pub mod laws;
+mod laws;
+
+pub use laws::laws_of_printing;

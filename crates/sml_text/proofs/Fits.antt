@@ -7,7 +7,7 @@ use Rattle.sml_text.specs.declared.source.Source.{Source}
 use Rattle.sml_text.specs.declared.front.Front.{Front}
 use Rattle.sml_text.specs.declared.front.Front.TheVariants.{End, Skip, Word as AWord, Int as AnInt, Str as AStr, Sign as ASign, Session as ASession, Bad}
 use Rattle.sml_text.specs.Bytes.{is_word, is_word_byte, is_string_byte}
-use Rattle.sml_text.specs.Tokens.{Each, Lexeme, Word, Int, Str, Sign, Session, Stands, blank, comment, word, int, string, sign, session}
+use Rattle.sml_text.specs.Tokens.{Each, Lexeme, Word, Int, Str, Sign, Session, LexemeStands, blank, comment, word, int, string, sign, session}
 use Rattle.sml_text.specs.Front.{IsFront}
 use Rattle.sml_text.specs.Views.{FrontFits}
 use Rattle.sml_text.specs.declared.limits.TheConstants.{LONGEST_NAME, LONGEST_STRING}
@@ -25,7 +25,7 @@ Fits bytes (Some (Str s)) = Each is_string_byte s × (length s ≤ LONGEST_STRIN
 Fits bytes (Some (Sign s)) = Unit {0}
 Fits bytes (Some (Session k)) = (1 ≤ k) × (k ≤ 8)
 
-stands_fits : (source : Source) (bytes rest : List ℕ) (what : Option Lexeme) → Stands source bytes rest what → Fits bytes what
+stands_fits : (source : Source) (bytes rest : List ℕ) (what : Option Lexeme) → LexemeStands source bytes rest what → Fits bytes what
 stands_fits source bytes rest what (blank c _ h) = tt
 stands_fits source bytes rest what (comment body _ each over) = tt
 stands_fits source bytes rest what (word c body _ letter each over short) =

@@ -1,4 +1,4 @@
--- What is read at the front of a text is what stands there, and nothing else stands there.
+-- What is read at the front of a text is what is there, and nothing else is there.
 use Rattle.std.proofs.Common.{◌≡◌, ◌≤◌, ℕ, pos, zero, suc, ◌+◌, ◌-◌, ◌^◌, List, [], ◌∷◌, ◌++◌, refl, ap, sym, ◌∙◌, subst, Option, Some, None, true, false, Bool, arith, length, take, drop, ◌==◌, ◌&&◌, append_assoc, take-append-drop, length-take, length-append}
 use Rattle.std.specs.Prelude.{nat_le, nat_lt, if◌then◌else◌}
 use Rattle.std.proofs.lemmas.Bool.Decides.{nat_tests}
@@ -9,10 +9,10 @@ use Rattle.sml_text.specs.declared.source.Sign.TheVariants.{Colon, Comma, Equals
 use Rattle.sml_text.specs.declared.front.Front.{Front}
 use Rattle.sml_text.specs.declared.front.Front.TheVariants.{End, Skip, Word as AWord, Int as AnInt, Str as AStr, Sign as ASign, Session as ASession, Bad}
 use Rattle.sml_text.specs.Bytes.{is_blank, is_letter, is_digit, is_word_byte, is_string_byte, no_line_feed, folded, sign_byte}
-use Rattle.sml_text.specs.Tokens.{Each, Over, Lexeme, Word, Int, Str, Sign, Session, Stands, blank, comment, word, int, string, sign, session, digits_value, int_value, minus_bytes, IsLong, negated}
+use Rattle.sml_text.specs.Tokens.{Each, Over, Lexeme, Word, Int, Str, Sign, Session, LexemeStands, blank, comment, word, int, string, sign, session, digits_value, int_value, minus_bytes, IsLong, negated}
 use Rattle.sml_text.specs.Front.{StandsFirst, NoneStands, IsFront}
 use Rattle.sml_text.specs.Scan.{span, passes_first, is_quote, word_front, is_long, minus_size, int_front, string_front, session_front, sign_front, front}
-use Rattle.sml_text.specs.Stream.{Thing, thing_of, first}
+use Rattle.sml_text.specs.Stream.{Thing, thing_of, first_thing}
 use Rattle.sml_text.proofs.Spans.{Cut, cut, span_cut, take_seam, drop_seam}
 use Rattle.sml_text.specs.declared.limits.TheConstants.{LONGEST_NAME, LONGEST_STRING}
 
@@ -76,7 +76,7 @@ int_of minus n digits more =
     if more then Bad else
     if is_long minus (digits_value digits) then AnInt (int_value minus digits) (n + minus_size minus) else Bad
 
--- the digits that stand in front are read as an int
+-- the digits that are in front are read as an int
 int_read : (minus : Bool) (c : ℕ) (digits rest : List ℕ) → Each is_digit (c ∷ digits) → Over is_word_byte rest → IsLong (int_value minus (c ∷ digits))
     → int_front minus (c ∷ digits ++ rest) ≡ AnInt (int_value minus (c ∷ digits)) (length (c ∷ digits) + minus_size minus)
 int_read minus c digits rest each over long =
@@ -99,8 +99,8 @@ digit_first source c text h =
     let a = digit_alone c h in
     fourth_test (is_blank c) (c == 33) (is_letter c) (is_digit c) _ _ _ _ _ a.0 a.1 a.2 h
 
--- what stands in front is read
-pub stands_first : (source : Source) (bytes rest : List ℕ) (what : Option Lexeme) → Stands source bytes rest what → first source (bytes ++ rest) ≡ Some (record { size = length bytes; what = what })
+-- what is in front is read
+pub stands_first : (source : Source) (bytes rest : List ℕ) (what : Option Lexeme) → LexemeStands source bytes rest what → first_thing source (bytes ++ rest) ≡ Some (record { size = length bytes; what = what })
 stands_first source bytes rest what (blank c _ h) = rw h refl
 stands_first source bytes rest what (comment body _ each over) =
     let h = span_cut no_line_feed body rest each over in
@@ -124,7 +124,7 @@ stands_first source bytes rest what (string body _ each short) =
     let fits : nat_le (length body) LONGEST_STRING ≡ true = grind (arith, nat_tests) in
     let front : take (length body) (body ++ 34 ∷ rest) ≡ body = take_seam body (34 ∷ rest) _ refl in
     let back : drop (length body) (body ++ 34 ∷ rest) ≡ 34 ∷ rest = drop_seam body (34 ∷ rest) _ refl in
-    ap (λ t. first source (34 ∷ t)) whole ∙ rw (n, fits, back, front) (thing_long _ _ _ (omega (arith, length-append body (34 ∷ []))))
+    ap (λ t. first_thing source (34 ∷ t)) whole ∙ rw (n, fits, back, front) (thing_long _ _ _ (omega (arith, length-append body (34 ∷ []))))
 stands_first source bytes rest what (sign Colon _) = refl
 stands_first source bytes rest what (sign Comma _) = refl
 stands_first source bytes rest what (sign Equals _) = refl
@@ -139,7 +139,7 @@ stands_first source bytes rest what (session k _ line least most) =
     let same : 48 + k - 48 ≡ k = omega arith in
     rw (line, low, high, same) refl
 
--- what is read stands there, where it is something
+-- what is read is there, where it is something
 abbrev Says : Source → List ℕ → Front → Type 0
 Says source text End = text ≡ []
 Says source text (Skip n) = StandsFirst source text n None
@@ -160,13 +160,13 @@ some_byte c text e = absurd (cc e)
 same : (n c : ℕ) → (c == n) ≡ true → n ≡ c
 same n c h = grind (arith, nat_tests)
 
--- bytes that stand in front of a rest
-stands_front : (source : Source) (text bytes rest : List ℕ) (n : ℕ) (what : Option Lexeme) → text ≡ bytes ++ rest → length bytes ≡ n → Stands source bytes rest what → StandsFirst source text n what
+-- bytes that are in front of a rest
+stands_front : (source : Source) (text bytes rest : List ℕ) (n : ℕ) (what : Option Lexeme) → text ≡ bytes ++ rest → length bytes ≡ n → LexemeStands source bytes rest what → StandsFirst source text n what
 stands_front source text bytes rest n what whole long stands = record {
   within = (let e = ap length whole in let l = length-append bytes rest in omega (arith, e, l, long));
-  stands = subst (λ t. Stands source (take n t) (drop n t) what) (sym whole)
-      (subst (λ b. Stands source b (drop n (bytes ++ rest)) what) (sym (take_seam bytes rest n long))
-      (subst (λ r. Stands source bytes r what) (sym (drop_seam bytes rest n long)) stands));
+  stands = subst (λ t. LexemeStands source (take n t) (drop n t) what) (sym whole)
+      (subst (λ b. LexemeStands source b (drop n (bytes ++ rest)) what) (sym (take_seam bytes rest n long))
+      (subst (λ r. LexemeStands source bytes r what) (sym (drop_seam bytes rest n long)) stands));
 }
 
 word_says : (source : Source) (c : ℕ) (text : List ℕ) → is_letter c ≡ true → Says source (c ∷ text) (word_front text)
@@ -179,7 +179,7 @@ word_says source c text letter = by_test (Says source (c ∷ text)) (nat_le (spa
         let whole : c ∷ text ≡ (c ∷ k.body) ++ k.rest = ap (λ t. c ∷ t) k.whole in
         let front : c ∷ k.body ≡ take (span is_word_byte text + 1) (c ∷ text) = sym (ap (take (span is_word_byte text + 1)) whole ∙ take_seam (c ∷ k.body) k.rest _ n) in
         stands_front source (c ∷ text) (c ∷ k.body) k.rest _ _ whole n
-        (subst (λ w. Stands source (c ∷ k.body) k.rest (Some (Word (folded w)))) front (word c k.body k.rest letter k.each k.over (grind (arith, nat_tests))))
+        (subst (λ w. LexemeStands source (c ∷ k.body) k.rest (Some (Word (folded w)))) front (word c k.body k.rest letter k.each k.over (grind (arith, nat_tests))))
 
 minus_length : (minus : Bool) → length (minus_bytes minus) ≡ minus_size minus
 minus_length true = refl
@@ -187,7 +187,7 @@ minus_length false = refl
 
 -- digits, at least one, behind a minus or none
 digits_say : (source : Source) (minus : Bool) (body rest : List ℕ) → (length body == 0) ≡ false → Each is_digit body → Over is_word_byte rest → is_long minus (digits_value body) ≡ true
-    → Stands source (minus_bytes minus ++ body) rest (Some (Int (int_value minus body)))
+    → LexemeStands source (minus_bytes minus ++ body) rest (Some (Int (int_value minus body)))
 digits_say source minus [] rest some each over long = absurd (cc some)
 digits_say source minus (c ∷ digits) rest some each over long = int minus c digits rest each.0 each.1 over (tested_long minus (c ∷ digits) long)
 
@@ -209,7 +209,7 @@ int_says source minus text byte =
         stands_front source (minus_bytes minus ++ text) (minus_bytes minus ++ k.body) k.rest _ _
         (ap (λ t. minus_bytes minus ++ t) k.whole ∙ sym (append_assoc (minus_bytes minus) k.body k.rest))
         (omega (arith, a, m, l))
-        (subst (λ d. Stands source (minus_bytes minus ++ k.body) k.rest (Some (Int (int_value minus d)))) (sym front)
+        (subst (λ d. LexemeStands source (minus_bytes minus ++ k.body) k.rest (Some (Int (int_value minus d)))) (sym front)
         (digits_say source minus k.body k.rest
         (subst (λ n. (n == 0) ≡ false) (sym l) some) k.each
         (first_over is_word_byte k.rest (subst (λ r. passes_first is_word_byte r ≡ false) back over))
@@ -223,7 +223,7 @@ closed_says source text after n k l short closed =
     let long : length (34 ∷ (k.body ++ 34 ∷ [])) ≡ n + 2 = omega (arith, length-append k.body (34 ∷ []), l) in
     let front : k.body ≡ take n text = sym (ap (take n) k.whole ∙ take_seam k.body k.rest n l) in
     stands_front source (34 ∷ text) (34 ∷ (k.body ++ 34 ∷ [])) after _ _ whole long
-    (subst (λ b. Stands source (34 ∷ (k.body ++ 34 ∷ [])) after (Some (Str b))) front (string k.body after k.each (omega (arith, l, short))))
+    (subst (λ b. LexemeStands source (34 ∷ (k.body ++ 34 ∷ [])) after (Some (Str b))) front (string k.body after k.each (omega (arith, l, short))))
 
 string_says : (source : Source) (text : List ℕ) → Says source (34 ∷ text) (string_front text)
 string_says source text =
@@ -253,7 +253,7 @@ session_says Line (c ∷ text) = by_test (Says Line (64 ∷ c ∷ text)) (nat_le
     go h =
         let low : 49 ≤ c = grind (arith, nat_tests) in
         let high : c ≤ 56 = grind (arith, nat_tests) in
-        record { within = omega arith; stands = subst (λ x. Stands Line (64 ∷ x ∷ []) text (Some (Session (c - 48)))) (omega (arith, low)) (session (c - 48) text refl (omega (arith, low)) (omega (arith, high))) }
+        record { within = omega arith; stands = subst (λ x. LexemeStands Line (64 ∷ x ∷ []) text (Some (Session (c - 48)))) (omega (arith, low)) (session (c - 48) text refl (omega (arith, low)) (omega (arith, high))) }
 
 sign_says : (source : Source) (c : ℕ) (text : List ℕ) → Says source (c ∷ text) (sign_front c)
 sign_says source c text =
@@ -268,7 +268,7 @@ sign_says source c text =
     some_byte c text))))))))
   where
     go : (s : SignKind) → sign_byte s ≡ c → StandsFirst source (c ∷ text) 1 (Some (Sign s))
-    go s e = record { within = omega arith; stands = subst (λ x. Stands source (x ∷ []) text (Some (Sign s))) e (sign s text) }
+    go s e = record { within = omega arith; stands = subst (λ x. LexemeStands source (x ∷ []) text (Some (Sign s))) e (sign s text) }
 
 comment_says : (source : Source) (text : List ℕ) → Cut no_line_feed text → StandsFirst source (33 ∷ text) (span no_line_feed text + 1) None
 comment_says source text k =
@@ -294,7 +294,7 @@ front_says source (c ∷ text) =
 pub no_thing : (t : Thing) → None ≡ Some t → ⊥
 no_thing t e = absurd (cc e)
 
--- what is read at the front stands there, and where nothing is read nothing stands
+-- what is read at the front is there, and where nothing is read nothing stands
 pub front_is : (source : Source) (text : List ℕ) → IsFront source text (front source text)
 front_is source text = go (front source text) refl (front_says source text)
   where
@@ -306,7 +306,7 @@ front_is source text = go (front source text) refl (front_says source text)
     go (AStr n) e s = s
     go (ASign k) e s = s
     go (ASession k) e s = s
-    go Bad e s = (s, λ bytes rest what whole stands. no_thing _ (sym (ap (λ x. thing_of x text) e) ∙ ap (first source) whole ∙ stands_first source bytes rest what stands))
+    go Bad e s = (s, λ bytes rest what whole stands. no_thing _ (sym (ap (λ x. thing_of x text) e) ∙ ap (first_thing source) whole ∙ stands_first source bytes rest what stands))
 
 -- a thing of a text stands at its front
 abbrev pub IsThing : Source → List ℕ → Option Thing → Type 0
@@ -323,22 +323,22 @@ front_thing source text (ASign k) s = s
 front_thing source text (ASession k) s = s
 front_thing source text Bad s = tt
 
--- what stands at the front is the first thing
-thing_first : (source : Source) (text : List ℕ) (n : ℕ) (what : Option Lexeme) → StandsFirst source text n what → thing n what ≡ first source text
+-- what is at the front is the first thing
+thing_first : (source : Source) (text : List ℕ) (n : ℕ) (what : Option Lexeme) → StandsFirst source text n what → thing n what ≡ first_thing source text
 thing_first source text n what s =
     let w = s.within in let l = length-take n text in
     thing_long n (length (take n text)) what (omega (arith, w, l))
-    ∙ sym (stands_first source (take n text) (drop n text) what s.stands) ∙ ap (first source) (take-append-drop n text)
+    ∙ sym (stands_first source (take n text) (drop n text) what s.stands) ∙ ap (first_thing source) (take-append-drop n text)
 
-none_first : (source : Source) (text : List ℕ) → NoneStands source text → None ≡ first source text
-none_first source text none = go (first source text) (front_thing source text (front source text) (front_is source text))
+none_first : (source : Source) (text : List ℕ) → NoneStands source text → None ≡ first_thing source text
+none_first source text none = go (first_thing source text) (front_thing source text (front source text) (front_is source text))
   where
     go : (t : Option Thing) → IsThing source text t → None ≡ t
     go None s = refl
     go (Some t) s = absurd (none (take t.size text) (drop t.size text) t.what (sym (take-append-drop t.size text)) s.stands)
 
-pub front_first : (source : Source) (text : List ℕ) (x : Front) → IsFront source text x → thing_of x text ≡ first source text
-front_first source text End s = ap (first source) (sym s)
+pub front_first : (source : Source) (text : List ℕ) (x : Front) → IsFront source text x → thing_of x text ≡ first_thing source text
+front_first source text End s = ap (first_thing source) (sym s)
 front_first source text (Skip n) s = thing_first source text _ _ s
 front_first source text (AWord n) s = thing_first source text _ _ s
 front_first source text (AnInt value n) s = thing_first source text _ _ s

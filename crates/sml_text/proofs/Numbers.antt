@@ -25,7 +25,7 @@ value_head i xs = let h = digits_grow (take i xs) (drop i xs) in let e = ap digi
 pub value_more : (xs : List ℕ) (i : ℕ) → i < length xs → digits_value (take (i + 1) xs) ≡ digits_value (take i xs) * 10 + (get_or xs i 0 - 48)
 value_more xs i h = ap digits_value (take_more xs i 0 h) ∙ fold_append 0 (take i xs) (get_or xs i 0 ∷ [])
 
--- a front of the digits spells too much, so they do
+-- a prefix of the digits spells too much, so they do
 pub too_much : (xs : List ℕ) (i : ℕ) → i < length xs → 2 ^ 64 ≤ digits_value (take i xs) * 10 + (get_or xs i 0 - 48) → 2 ^ 64 ≤ digits_value xs
 too_much xs i h big = let m = value_more xs i h in let l = value_head (i + 1) xs in omega (arith, big, m, l)
 

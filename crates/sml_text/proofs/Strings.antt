@@ -10,7 +10,7 @@ use Rattle.sml_text.specs.declared.front.Front.TheVariants.{Str as AStr, Bad}
 use Rattle.sml_text.specs.declared.limits.TheConstants.{LONGEST_STRING}
 use Rattle.sml_text.proofs.Spans.{span_head, span_head_all, span_within}
 
--- a front within the limit is seen whole
+-- a prefix within the limit is seen whole
 pub short_span : (text : List ℕ) (k n : ℕ) → n ≡ span is_string_byte (take k text) → k ≤ length text → (k < LONGEST_STRING + 1 → length text ≤ k) → n ≤ LONGEST_STRING → n ≡ span is_string_byte text
 short_span text k n e within whole short = ⊎_elim
     (λ (less : span is_string_byte (take k text) < k). e ∙ span_head is_string_byte k text less)

@@ -10,7 +10,7 @@ use Rattle.sml_text.specs.declared.limits.TheConstants.{LONGEST_NAME}
 abbrev pub is_blank : ℕ → Bool
 is_blank c = c == 32 || (c == 9 || (c == 13 || c == 10))
 
--- what no comment goes past
+-- any byte except the line feed, at which a comment ends
 abbrev pub no_line_feed : ℕ → Bool
 no_line_feed c = not (c == 10)
 
@@ -26,7 +26,7 @@ is_digit c = is_ascii_digit c
 abbrev pub is_word_byte : ℕ → Bool
 is_word_byte c = is_letter c || (is_digit c || c == 95)
 
--- what may stand in a string: from the space to `~`, without the quote
+-- what may be in a string: from the space to `~`, without the quote
 abbrev pub is_string_byte : ℕ → Bool
 is_string_byte c = nat_le 32 c && (nat_le c 126 && not (c == 34))
 

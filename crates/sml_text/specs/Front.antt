@@ -1,10 +1,10 @@
--- What it means that something stands at the front of a text.
+-- What it means that something is at the front of a text.
 use Rattle.std.specs.Prelude.{◌≡◌, ◌≤◌, ℕ, ◌+◌, Bool, true, false, List, [], ◌++◌, Option, Some, None, length, take, drop}
 use Rattle.sml_text.specs.declared.source.Source.{Source}
 use Rattle.sml_text.specs.declared.front.Front.{Front}
 use Rattle.sml_text.specs.declared.front.Front.TheVariants.{End, Skip, Word as AWord, Int as AnInt, Str as AStr, Sign as ASign, Session as ASession, Bad}
 use Rattle.sml_text.specs.Bytes.{folded}
-use Rattle.sml_text.specs.Tokens.{Lexeme, Word, Int, Str, Sign, Session, Stands}
+use Rattle.sml_text.specs.Tokens.{Lexeme, Word, Int, Str, Sign, Session, LexemeStands}
 
 -- how many bytes it takes
 abbrev pub front_size : Front → ℕ
@@ -28,22 +28,23 @@ front_what (ASign s) text = Some (Sign s)
 front_what (ASession k) text = Some (Session k)
 front_what Bad text = None
 
--- neither the end nor what is none
+-- neither the end nor bytes that are not a token
 abbrev pub front_stands : Front → Bool
 front_stands End = false
 front_stands Bad = false
 front_stands _ = true
 
--- so many bytes of the text stand in front of the others as this
+-- the first `n` bytes of the text stand in front of the others as `what`
 pub record StandsFirst (source : Source) (text : List ℕ) (n : ℕ) (what : Option Lexeme) : Type 0 where
   pub within : n ≤ length text
-  pub stands : Stands source (take n text) (drop n text) what
+  pub stands : LexemeStands source (take n text) (drop n text) what
 
--- nothing stands in front of this text, however it is split
+-- no blank, comment or token is in front of this text, for any split of it
 abbrev pub NoneStands : Source → List ℕ → Type 0
-NoneStands source text = (bytes rest : List ℕ) (what : Option Lexeme) → text ≡ bytes ++ rest → Stands source bytes rest what → ⊥
+NoneStands source text =
+    (bytes rest : List ℕ) (what : Option Lexeme) → text ≡ bytes ++ rest → LexemeStands source bytes rest what → ⊥
 
--- this stands at the front of the text
+-- this is at the front of the text
 abbrev pub IsFront : Source → List ℕ → Front → Type 0
 IsFront source text End = text ≡ []
 IsFront source text (Skip n) = StandsFirst source text n None

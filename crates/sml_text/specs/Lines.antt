@@ -16,4 +16,5 @@ module _ {S : Type 0} (makes : S → List ℕ → List ℕ → S → Type 0) whe
   -- what lines write, one after another
   abbrev pub Outputs : S → List (List ℕ) → List ℕ → S → Type 0
   Outputs m [] out m2 = (out ≡ []) × (m2 ≡ m)
-  Outputs m (line ∷ lines) out m2 = (mid : S) × (one : List ℕ) × (rest : List ℕ) × makes m line one mid × Outputs mid lines rest m2 × (out ≡ one ++ rest)
+  Outputs m (line ∷ lines) out m2 = (mid : S) × (one : List ℕ) × (rest : List ℕ) × makes m line one mid
+      × Outputs mid lines rest m2 × (out ≡ one ++ rest)

@@ -1,4 +1,4 @@
--- What stands at the front of a text, found by its first byte.
+-- What is at the front of a text, found by its first byte.
 use Rattle.std.specs.Prelude.{ℕ, ◌+◌, ◌-◌, ◌^◌, Bool, true, false, ◌==◌, ◌&&◌, nat_le, nat_lt, List, [], ◌∷◌, length, take, drop, take_while, if◌then◌else◌}
 use Rattle.sml_text.specs.declared.source.Source.{Source}
 use Rattle.sml_text.specs.declared.source.Source.TheVariants.{Domain, Line}
@@ -22,7 +22,7 @@ passes_first p (c ∷ text) = p c
 abbrev pub is_quote : ℕ → Bool
 is_quote c = c == 34
 
--- the word whose letter stands before this text
+-- the word whose first letter is just before this text
 abbrev pub word_front : List ℕ → Front
 word_front text = if nat_le (span is_word_byte text + 1) LONGEST_NAME then AWord (span is_word_byte text + 1) else Bad
 
@@ -43,13 +43,13 @@ int_front minus text =
     then AnInt (int_value minus (take (span is_digit text) text)) (span is_digit text + minus_size minus)
     else Bad
 
--- the string whose opening quote stands before this text
+-- the string whose opening quote is just before this text
 abbrev pub string_front : List ℕ → Front
 string_front text =
     if nat_le (span is_string_byte text) LONGEST_STRING && passes_first is_quote (drop (span is_string_byte text) text)
     then AStr (span is_string_byte text) else Bad
 
--- the session whose `@` stands before this text
+-- the session whose `@` is just before this text
 abbrev pub session_front : Source → List ℕ → Front
 session_front Domain text = Bad
 session_front Line [] = Bad
@@ -68,7 +68,7 @@ sign_front c =
     if c == 47 then ASign Slash else
     Bad
 
--- what stands in front, by the first byte
+-- what is in front, by the first byte
 abbrev pub front : Source → List ℕ → Front
 front source [] = End
 front source (c ∷ text) =

@@ -42,11 +42,11 @@ abbrev pub negated : ℕ → ℤ
 negated zero = pos 0
 negated (suc n) = negsuc n
 
--- the int that digits spell behind a minus or behind none
+-- the int that digits spell, behind a minus or not
 abbrev pub int_value : Bool → List ℕ → ℤ
 int_value minus digits = if minus then negated (digits_value digits) else pos (digits_value digits)
 
--- the bytes of a minus, or none
+-- the bytes of a minus, or no bytes
 abbrev pub minus_bytes : Bool → List ℕ
 minus_bytes minus = if minus then 45 ∷ [] else []
 
@@ -56,37 +56,45 @@ IsLong n = (negsuc (2 ^ 63 - 1) ≤ℤ n) × (n ≤ℤ pos (2 ^ 63 - 1))
 
 -- Stands source bytes rest what: these bytes stand in front of the rest, as a blank or a comment (nothing) or as
 -- a token. Comments, words and ints are taken as long as possible.
-pub data Stands (source : Source) : List ℕ → List ℕ → Option Lexeme → Type 0 where
-  blank : (c : ℕ) (rest : List ℕ) → is_blank c ≡ true → Stands source (c ∷ []) rest None
-  comment : (body rest : List ℕ) → Each no_line_feed body → Over no_line_feed rest → Stands source (33 ∷ body) rest None
-  word : (c : ℕ) (body rest : List ℕ) → is_letter c ≡ true → Each is_word_byte body → Over is_word_byte rest → length (c ∷ body) ≤ LONGEST_NAME
-      → Stands source (c ∷ body) rest (Some (Word (folded (c ∷ body))))
-  int : (minus : Bool) (c : ℕ) (digits rest : List ℕ) → is_digit c ≡ true → Each is_digit digits → Over is_word_byte rest → IsLong (int_value minus (c ∷ digits))
-      → Stands source (minus_bytes minus ++ (c ∷ digits)) rest (Some (Int (int_value minus (c ∷ digits))))
-  string : (body rest : List ℕ) → Each is_string_byte body → length body ≤ LONGEST_STRING → Stands source (34 ∷ (body ++ 34 ∷ [])) rest (Some (Str body))
-  sign : (s : SignKind) (rest : List ℕ) → Stands source (sign_byte s ∷ []) rest (Some (Sign s))
-  session : (k : ℕ) (rest : List ℕ) → source ≡ Line → 1 ≤ k → k ≤ 8 → Stands source (64 ∷ (48 + k) ∷ []) rest (Some (Session k))
+pub data LexemeStands (source : Source) : List ℕ → List ℕ → Option Lexeme → Type 0 where
+  blank : (c : ℕ) (rest : List ℕ) → is_blank c ≡ true → LexemeStands source (c ∷ []) rest None
+  comment : (body rest : List ℕ) → Each no_line_feed body → Over no_line_feed rest →
+      LexemeStands source (33 ∷ body) rest None
+  word : (c : ℕ) (body rest : List ℕ) → is_letter c ≡ true → Each is_word_byte body → Over is_word_byte rest →
+      length (c ∷ body) ≤ LONGEST_NAME
+      → LexemeStands source (c ∷ body) rest (Some (Word (folded (c ∷ body))))
+  int : (minus : Bool) (c : ℕ) (digits rest : List ℕ) → is_digit c ≡ true → Each is_digit digits →
+      Over is_word_byte rest → IsLong (int_value minus (c ∷ digits))
+      → LexemeStands source (minus_bytes minus ++ (c ∷ digits)) rest (Some (Int (int_value minus (c ∷ digits))))
+  string : (body rest : List ℕ) → Each is_string_byte body → length body ≤ LONGEST_STRING →
+      LexemeStands source (34 ∷ (body ++ 34 ∷ [])) rest (Some (Str body))
+  sign : (s : SignKind) (rest : List ℕ) → LexemeStands source (sign_byte s ∷ []) rest (Some (Sign s))
+  session : (k : ℕ) (rest : List ℕ) → source ≡ Line → 1 ≤ k → k ≤ 8 →
+      LexemeStands source (64 ∷ (48 + k) ∷ []) rest (Some (Session k))
 
 -- a lexeme as a token in front of others
-abbrev pub told : ℕ → Option Lexeme → List Token → List Token
-told at None ts = ts
-told at (Some lexeme) ts = record { lexeme = lexeme; at = at } ∷ ts
+abbrev pub with_token : ℕ → Option Lexeme → List Token → List Token
+with_token at None ts = ts
+with_token at (Some lexeme) ts = record { lexeme = lexeme; at = at } ∷ ts
 
 -- TokensAt source at text ts: the text, whose first byte is at that place, has these tokens.
 pub data TokensAt (source : Source) : ℕ → List ℕ → List Token → Type 0 where
   ends : (at : ℕ) → TokensAt source at [] []
   goes_on : (at : ℕ) (bytes rest : List ℕ) (what : Option Lexeme) (ts : List Token)
-      → Stands source bytes rest what → TokensAt source (at + length bytes) rest ts → TokensAt source at (bytes ++ rest) (told at what ts)
+      → LexemeStands source bytes rest what → TokensAt source (at + length bytes) rest ts →
+      TokensAt source at (bytes ++ rest) (with_token at what ts)
 
--- BadAt source at text bad: the first thing of the text that is no blank, comment or token is at the place `bad`.
+-- BadAt source at text bad: the first thing of the text that is not a blank, a comment or a token is at `bad`.
 pub data BadAt (source : Source) : ℕ → List ℕ → ℕ → Type 0 where
-  here : (at c : ℕ) (text : List ℕ) → ((bytes rest : List ℕ) (what : Option Lexeme) → c ∷ text ≡ bytes ++ rest → Stands source bytes rest what → ⊥) → BadAt source at (c ∷ text) at
-  later : (at : ℕ) (bytes rest : List ℕ) (what : Option Lexeme) (bad : ℕ) → Stands source bytes rest what → BadAt source (at + length bytes) rest bad → BadAt source at (bytes ++ rest) bad
+  here : (at c : ℕ) (text : List ℕ) → ((bytes rest : List ℕ) (what : Option Lexeme) → c ∷ text ≡ bytes ++ rest →
+      LexemeStands source bytes rest what → ⊥) → BadAt source at (c ∷ text) at
+  later : (at : ℕ) (bytes rest : List ℕ) (what : Option Lexeme) (bad : ℕ) → LexemeStands source bytes rest what →
+      BadAt source (at + length bytes) rest bad → BadAt source at (bytes ++ rest) bad
 
 -- the text has these tokens
 abbrev pub TokensOf : Source → List ℕ → List Token → Type 0
 TokensOf source text ts = TokensAt source 0 text ts
 
--- the text has no tokens, and this is the place of the first thing that is none
+-- the text has no tokens, and this is the place of the first thing that is not a token
 abbrev pub BadTokenOf : Source → List ℕ → ℕ → Type 0
 BadTokenOf source text bad = BadAt source 0 text bad

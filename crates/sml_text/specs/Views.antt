@@ -36,7 +36,7 @@ IsLexeme (ReadStr s) = Each is_string_byte s.now × (length s.now ≤ LONGEST_ST
 IsLexeme (ReadSign s) = Unit {0}
 IsLexeme (ReadSession k) = (1 ≤ k) × (k ≤ 8)
 
--- the bytes that stand at the front are such
+-- the bytes at the front are such
 abbrev pub FrontFits : Front → List ℕ → Type 0
 FrontFits (AWord n) text = (n ≤ length text) × IsTrue (is_word (take n text))
 FrontFits (AStr n) text = (n + 2 ≤ length text) × Each is_string_byte (take n (drop 1 text)) × (n ≤ LONGEST_STRING)

@@ -1,4 +1,4 @@
-//! What stands at the front of a text.
+//! What is at the front of a text.
 
 ghost use Rattle.std.specs.Prelude.{◌≡◌, ◌≤◌, ◌<◌, ◌+◌, ◌^◌, MatchOption, IfSome, length};
 ghost use Rattle.sml_text.specs.Bytes.{is_blank as blank, is_word_byte as word_byte, is_letter as letter, is_digit as digit, is_string_byte as string_byte, no_line_feed};
@@ -9,35 +9,35 @@ ghost use Rattle.sml_text.specs.Scan.{span, front, word_front, int_front, string
 use crate::limits::{LONGEST_NAME, LONGEST_STRING};
 use crate::source::{Sign, Source};
 
-/// What stands at the front of a text.
+/// What is at the front of a text.
 #[derive(Clone, Copy, PartialEq, Eq)]
 pub enum Front {
     /// The text is at its end.
     End,
-    /// So many bytes of a blank or of a comment.
+    /// A blank or a comment, and how many bytes it has.
     Skip(usize),
-    /// A word of so many bytes.
+    /// A word, and how many bytes it has.
     Word(usize),
-    /// An int of so many bytes, with its minus and leading zeros.
+    /// An int of `length` bytes, with its minus and leading zeros.
     Int { value: i64, length: usize },
-    /// A string with so many bytes between its quotes.
+    /// A string, and how many bytes are between its quotes.
     Str(usize),
     Sign(Sign),
     /// A session, from 1 to 8.
     Session(u8),
-    /// Neither a blank or a comment, nor a token.
+    /// Not a blank, a comment or a token.
     Bad,
 }
 
 impl Front {
-    // Whether something stands there: neither the end nor what is none.
+    // Whether something is there: neither the end nor bytes that are not a token.
     pub(crate) fn stands(self) -> bool
         ensures { result ≡ front_stands self }
     {
         !matches!(self, Front::End | Front::Bad)
     }
 
-    // How many bytes of the text it takes, 0 at the end and where nothing stands.
+    // How many bytes of the text it takes: 0 at the end and for `Bad`.
     pub(crate) fn size(self) -> usize
         requires { front_size self < 2 ^ 64 }
         ensures { result ≡ front_size self }
@@ -82,7 +82,7 @@ fn is_string_byte(c: u8) -> bool
     matches!(c, b' '..=b'~') && c != b'"'
 }
 
-// How many bytes of a word stand in front.
+// Counts the bytes of a word in front.
 fn word_length(text: &[u8]) -> usize
     ensures length { result ≤ length text.now }
     ensures span { result ≡ span word_byte text.now }
@@ -90,7 +90,7 @@ fn word_length(text: &[u8]) -> usize
     text.iter().take_while(|c| is_word_byte(**c)).count()
 }
 
-// How many digits stand in front.
+// Counts the digits in front.
 fn digits_length(text: &[u8]) -> usize
     ensures length { result ≤ length text.now }
     ensures span { result ≡ span digit text.now }
@@ -98,7 +98,7 @@ fn digits_length(text: &[u8]) -> usize
     text.iter().take_while(|c| is_digit(**c)).count()
 }
 
-// How many bytes stand before the end of the line.
+// Counts the bytes before the end of the line.
 fn line_length(text: &[u8]) -> usize
     ensures length { result ≤ length text.now }
     ensures span { result ≡ span no_line_feed text.now }
@@ -106,7 +106,7 @@ fn line_length(text: &[u8]) -> usize
     text.iter().take_while(|c| **c != b'\n').count()
 }
 
-// How many bytes of a string stand in front.
+// Counts the bytes of a string in front.
 fn string_length(text: &[u8]) -> usize
     ensures length { result ≤ length text.now }
     ensures span { result ≡ span string_byte text.now }
@@ -114,7 +114,7 @@ fn string_length(text: &[u8]) -> usize
     text.iter().take_while(|c| is_string_byte(**c)).count()
 }
 
-// A word whose first letter stands before this text.
+// Reads a word whose first letter is just before this text.
 fn word_at(rest: &[u8]) -> Front
     ensures { result ≡ word_front rest.now }
 {
@@ -126,7 +126,7 @@ fn word_at(rest: &[u8]) -> Front
     }
 }
 
-// The number that digits spell, where it fits. Leading zeros cost a step each and nothing else.
+// Returns the number that digits spell, if it fits. Leading zeros cost a step each and nothing else.
 fn number(digits: &[u8]) -> Option<u64>
     requires { Each digit digits.now }
     ensures { MatchOption result (2 ^ 64 ≤ digits_value digits.now) (λ n. n ≡ digits_value digits.now) }
@@ -138,10 +138,11 @@ fn number(digits: &[u8]) -> Option<u64>
     Some(number)
 }
 
-// The int of these digits, where it has 64 bits.
+// Returns the int of these digits, if it has 64 bits.
 fn int(minus: bool, digits: &[u8]) -> Option<i64>
     requires { Each digit digits.now }
-    ensures { MatchOption result (IsLong (int_value minus digits.now) → ⊥) (λ n. (n ≡ int_value minus digits.now) × IsLong n) }
+    ensures { MatchOption result (IsLong (int_value minus digits.now) → ⊥) (λ n. (n ≡ int_value minus digits.now)
+        × IsLong n) }
 {
     let number = i128::from(number(digits)?);
     i64::try_from(if minus { -number } else { number }).ok()
@@ -161,7 +162,7 @@ fn begins_quote(text: &[u8]) -> bool
     matches!(text, [b'"', ..])
 }
 
-// An int whose digits begin this text, behind a minus or behind none.
+// Reads an int whose digits begin this text, behind a minus or not.
 fn int_at(minus: bool, text: &[u8]) -> Front
     ensures { result ≡ int_front minus text.now }
 {
@@ -179,7 +180,7 @@ fn int_at(minus: bool, text: &[u8]) -> Front
     }
 }
 
-// A string whose opening quote stands before this text. No more than one byte past the limit is looked at.
+// Reads a string whose opening quote is just before this text. Looks at one byte past the limit at most.
 fn string_at(rest: &[u8]) -> Front
     ensures { result ≡ string_front rest.now }
 {
@@ -191,7 +192,7 @@ fn string_at(rest: &[u8]) -> Front
     }
 }
 
-// A session whose `@` stands before this text.
+// Reads a session whose `@` is just before this text.
 fn session_at(source: Source, rest: &[u8]) -> Front
     ensures { result ≡ session_front source rest.now }
 {
@@ -201,7 +202,7 @@ fn session_at(source: Source, rest: &[u8]) -> Front
     }
 }
 
-// A sign.
+// Returns a sign.
 fn sign_at(c: u8) -> Front
     ensures { result ≡ sign_front c }
 {
@@ -218,7 +219,7 @@ fn sign_at(c: u8) -> Front
     }
 }
 
-// What stands in front, by the first byte. Inlined, since its callers take the answer apart at once.
+// Returns what is in front, by the first byte. Inlined, since its callers take the answer apart at once.
 #[inline(always)]
 fn scan(source: Source, text: &[u8]) -> Front
     ensures { result ≡ front source text.now }
@@ -238,11 +239,11 @@ fn scan(source: Source, text: &[u8]) -> Front
     }
 }
 
-/// What stands at the front of a text. A comment is skipped in one go, without its line feed; a
+/// Returns what is at the front of a text. A comment is skipped in one go, without its line feed; a
 /// session is looked for in lines alone. (docs/LANGUAGE.md, "Tokens".)
 ///
-/// The time grows with what stands there: with the length of a comment, a word or an int; of a
-/// string no more than 256 bytes are looked at. No memory is taken.
+/// The time grows with the length of a comment, a word or an int; of a string no more than 256 bytes
+/// are looked at. No memory is allocated.
 #[inline(always)]
 pub fn front_at(source: Source, text: &[u8]) -> Front
     ensures { IsFront source text.now result }

@@ -1,4 +1,4 @@
-//! Where bytes come from, and the signs that stand in them.
+//! Where bytes come from, and the signs that are in them.
 
 /// What a text is: the text of a domain, or a line of a schedule or script, in which a session is a
 /// token too. (docs/LANGUAGE.md, "Tokens"; docs/FORMATS.md, "Schedules".)

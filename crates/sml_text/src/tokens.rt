@@ -3,7 +3,7 @@
 ghost use Rattle.std.specs.Prelude.{◌≡◌, ◌↔◌, ◌<◌, ◌+◌, ◌-◌, ◌^◌, ◌∷◌, [], ℕ, List, MatchOption, IfSome, IsTrue, length, drop, Some, None};
 ghost use Rattle.sml_text.specs.Tokens.{Token as Told, TokensOf, BadTokenOf};
 ghost use Rattle.sml_text.specs.Front.{front_what};
-ghost use Rattle.sml_text.specs.Stream.{tokens_from, bad_from, Ends};
+ghost use Rattle.sml_text.specs.Stream.{tokens_from, bad_from, TextEnds};
 ghost use Rattle.sml_text.specs.Views.{lexeme_of, token_of, StandsAt, IsLexeme, FrontFits};
 
 use crate::front::{Front, front_at};
@@ -12,7 +12,7 @@ use crate::source::{Sign, Source};
 /// What a token is.
 #[derive(Clone, Copy, PartialEq, Eq)]
 pub enum Lexeme<'a> {
-    /// A word as it stands in the text. Two words are the same where their upper cases are.
+    /// A word as the text has it. Two words are the same if they agree in upper case.
     Word(&'a [u8]),
     Int(i64),
     /// The bytes between the quotes.
@@ -29,10 +29,11 @@ pub struct Token<'a> {
     pub at: usize,
 }
 
-// What stands at the front of a text as a lexeme.
+// Returns what is at the front of a text as a lexeme.
 fn lexeme_at(front: Front, text: &[u8]) -> Option<Lexeme>
     requires { FrontFits front text.now }
-    ensures same { MatchOption result (front_what front text.now ≡ None) (λ lexeme. front_what front text.now ≡ Some (lexeme_of lexeme)) }
+    ensures same { MatchOption result (front_what front text.now ≡ None)
+        (λ lexeme. front_what front text.now ≡ Some (lexeme_of lexeme)) }
     ensures fits { IfSome result IsLexeme }
 {
     match front {
@@ -45,11 +46,11 @@ fn lexeme_at(front: Front, text: &[u8]) -> Option<Lexeme>
     }
 }
 
-/// The next token of a text whose first byte is at this place, with the text directly behind the token
-/// and its place; or None at the end of the text and at the first thing that is no token.
+/// Returns the next token of a text whose first byte is at the place `at`, with the text directly behind
+/// the token and its place. Returns None at the end of the text and at the first thing that is not a token.
 ///
 /// The place and the length of the text may be 2^63 - 1 bytes together at most, so that no place is
-/// too large to be counted. The time grows with the bytes up to the end of the token. No memory is taken.
+/// too large to be counted. The time grows with the bytes up to the end of the token. No memory is allocated.
 #[tactic(auto, using(crate::proofs::Streams::stands_there))]
 pub fn next_token(source: Source, text: &[u8], at: usize) -> Option<(Token, &[u8], usize)>
     requires { at + length text.now < 2 ^ 63 }
@@ -82,9 +83,9 @@ pub fn next_token(source: Source, text: &[u8], at: usize) -> Option<(Token, &[u8
 /// Whether nothing but blanks and comments is left: no token, and nothing else.
 ///
 /// The time grows with the bytes up to the first thing that is neither a blank nor a comment. No memory
-/// is taken.
+/// is allocated.
 pub fn is_end(source: Source, text: &[u8]) -> bool
-    ensures { (at : ℕ) → IsTrue result ↔ Ends source at text.now }
+    ensures { (at : ℕ) → IsTrue result ↔ TextEnds source at text.now }
 {
     let mut rest = text;
     'skip: loop {
@@ -96,12 +97,13 @@ pub fn is_end(source: Source, text: &[u8]) -> bool
     }
 }
 
-/// The place of the first thing of a text that is neither a blank or a comment nor a token, or None
-/// where the text has tokens.
+/// Returns the place of the first thing of a text that is not a blank, a comment or a token, or None
+/// if there is no such thing.
 ///
-/// The time grows with the length of the text. No memory is taken.
+/// The time grows with the length of the text. No memory is allocated.
 pub fn first_bad(source: Source, text: &[u8]) -> Option<usize>
-    ensures { MatchOption result ((ts : List Told) × TokensOf source text.now ts) (λ bad. BadTokenOf source text.now bad) }
+    ensures { MatchOption result ((ts : List Told) × TokensOf source text.now ts)
+        (λ bad. BadTokenOf source text.now bad) }
 {
     let mut rest = text;
     let mut at = 0;

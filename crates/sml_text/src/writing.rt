@@ -8,7 +8,7 @@ use std::error::Error;
 use std::fmt;
 use std::io::Write;
 
-/// The writer failed, or took no byte of some.
+/// The writer failed, or took none of the bytes that it was offered.
 #[derive(Clone, Copy, Debug, PartialEq, Eq)]
 pub struct WriteFault;
 
@@ -22,16 +22,16 @@ impl fmt::Display for WriteFault {
 
 impl Error for WriteFault {}
 
-/// What takes bytes, some at a call, and knows whether it has refused to. Every writer is one.
+/// Takes bytes, some at a call, and knows whether it has refused any. Every writer is a sink.
 ///
-/// A writer's own contract doesn't say that it failed. So a function over any `Sink` can say of a fault
-/// that it came from there and was not made up.
+/// A writer's contract doesn't say that it failed. So a function over any `Sink` can say that a fault
+/// came from the sink and was not made up.
 pub trait Sink {
     ghost contents: { Self → Option (List ℕ) };
 
     ghost has_refused: { Self → Type 0 };
 
-    /// Offers the bytes in one call, one at least. None where the sink refused: it failed or took none.
+    /// Offers the bytes in one call, one at least. None if the sink refused: it failed or took none.
     fn offer(&mut self, bytes: &[u8]) -> Option<usize>
         requires { 0 < length bytes.now }
         ensures some { IfSome result (λ n. (0 < n) × (n ≤ length bytes.now)
@@ -53,10 +53,10 @@ impl<W: Write> Sink for W {
     }
 }
 
-/// Writes all of the bytes. At an error a front of them is written: the writer failed, or took no
-/// byte of some.
+/// Writes all of the bytes. On an error a prefix of them is written: the writer failed, or took none
+/// of the bytes that it was offered.
 ///
-/// It offers all of them first, and then what is left, once for each part that the sink takes. No memory is taken.
+/// It offers all of them first, and then the rest, once for each part that the sink takes. No memory is allocated.
 pub fn put<S: Sink>(sink: &mut S, bytes: &[u8]) -> Result<(), WriteFault>
     ensures ok { OnOk result (Wrote (S.contents sink.old) (S.contents sink.new) bytes.now) }
     ensures err { OnErr result (WroteFront (S.contents sink.old) (S.contents sink.new) bytes.now) }
@@ -78,8 +78,8 @@ pub fn put<S: Sink>(sink: &mut S, bytes: &[u8]) -> Result<(), WriteFault>
     Ok(())
 }
 
-/// Writes all of the bytes unless a write before them failed, and remembers where this one does.
-/// So a text of many parts can be written with one test at its end.
+/// Writes all of the bytes unless an earlier write failed, and remembers if this one does.
+/// So a text of many parts can be written with one test at the end.
 ///
 /// The cost is that of `put`.
 pub fn tell<S: Sink>(sink: &mut S, failed: &mut bool, bytes: &[u8])

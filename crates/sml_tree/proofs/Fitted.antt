@@ -10,7 +10,7 @@ use Rattle.sml_tree.specs.Grammar.{unit_rules, conj_rules, kind_rules, class_par
 use Rattle.sml_tree.specs.Derive.{IsFile, fine}
 use Rattle.sml_tree.specs.declared.token_kind.TokenKind.TheVariants.{Name, Equals}
 use Rattle.sml_tree.specs.Inside.{tests, instr_conditions, block_conditions, instr_sends, block_sends, instr_waits, block_waits}
-use Rattle.sml_tree.specs.Limits.{TestFits, CondFits, SendFits, WaitFits, ActionFits, StateFits, ItemFits, is_class, is_object, is_set, IsWithinLimits}
+use Rattle.sml_tree.specs.Limits.{TestFits, CondFits, SendIsInLimits, WaitFits, ActionIsInLimits, StateIsInLimits, ItemFits, is_class, is_object, is_set, IsWithinLimits}
 use Rattle.sml_tree.proofs.Kept.{Keeping, EachKeeps, free_keeping, begun_keeping, part_kept}
 use Rattle.sml_tree.proofs.Marks.{◌⨾◌, IsFine, all_append, fine_marks, below_deep, below_many}
 use Rattle.sml_tree.proofs.Tallied.{Tallied, part_tallied}
@@ -18,13 +18,13 @@ use Rattle.sml_tree.specs.declared.limits.TheConstants.{MAX_ACTIONS, MAX_ARGUMEN
 
 -- a block in which `if`s may nest so deep
 abbrev pub Nests : ℕ → BlockData → Type 0
-Nests k b = (block_depth b ≤ k) × AllByRecursion SendFits (block_sends b) × AllByRecursion CondFits (block_conditions b) × AllByRecursion WaitFits (block_waits b)
+Nests k b = (block_depth b ≤ k) × AllByRecursion SendIsInLimits (block_sends b) × AllByRecursion CondFits (block_conditions b) × AllByRecursion WaitFits (block_waits b)
 
 -- a condition with what was counted before it
 abbrev pub CountFits : Counted → Type 0
 CountFits v = (v.count ≤ MAX_TESTS) × AllByRecursion TestFits (tests v.formula)
 
--- what a part is worth is within what the limits leave behind what stands before it
+-- what a part is worth is within what the limits leave behind what is before it
 abbrev pub Fits : (n : Part) → Value n → Type 0
 Fits (of.File classes objects sets) v =
     (length (filter is_class v) ≤ MAX_CLASSES - classes) × (length (filter is_object v) ≤ MAX_OBJECTS - objects) × (length (filter is_set v) ≤ MAX_SETS - sets) × AllByRecursion ItemFits v
@@ -32,8 +32,8 @@ Fits of.ClassParamList v = length v ≤ MAX_PARAMETERS
 Fits (of.Sort n) v = n + 1 ≤ MAX_PARAMETERS
 Fits (of.ClassParam n) v = n + 1 ≤ MAX_PARAMETERS
 Fits (of.MoreClassParam n) v = length v ≤ MAX_PARAMETERS - n
-Fits (of.State n) v = (length v ≤ MAX_STATES - n) × AllByRecursion StateFits v
-Fits (of.Action n) v = (length v ≤ MAX_ACTIONS - n) × AllByRecursion ActionFits v
+Fits (of.State n) v = (length v ≤ MAX_STATES - n) × AllByRecursion StateIsInLimits v
+Fits (of.Action n) v = (length v ≤ MAX_ACTIONS - n) × AllByRecursion ActionIsInLimits v
 Fits of.ActionParamList v = length v ≤ MAX_PARAMETERS
 Fits (of.ActionParam n) v = n + 1 ≤ MAX_PARAMETERS
 Fits (of.MoreActionParam n) v = length v ≤ MAX_PARAMETERS - n
@@ -43,7 +43,7 @@ Fits (of.Passed n) v = n + 1 ≤ MAX_ARGUMENTS
 Fits (of.MorePassedArg n) v = length v ≤ MAX_ARGUMENTS - n
 Fits (of.Waited n) v = n + 1 ≤ MAX_WAITED
 Fits (of.MoreWaited n) v = length v ≤ MAX_WAITED - n
-Fits (of.Branch depth) v = (instr_depth v ≤ (MAX_IFS - (depth + 1)) + 1) × AllByRecursion SendFits (instr_sends v) × AllByRecursion CondFits (instr_conditions v) × AllByRecursion WaitFits (instr_waits v)
+Fits (of.Branch depth) v = (instr_depth v ≤ (MAX_IFS - (depth + 1)) + 1) × AllByRecursion SendIsInLimits (instr_sends v) × AllByRecursion CondFits (instr_conditions v) × AllByRecursion WaitFits (instr_waits v)
 Fits (of.Arm depth) v = Nests (MAX_IFS - (depth + 1)) (block_of v.yes_part) × Nests (MAX_IFS - (depth + 1)) (block_of v.no_part)
 Fits (of.Else depth) v = Nests (MAX_IFS - depth) (block_of v)
 Fits (of.Cond depth n) v = CountFits v
@@ -107,7 +107,7 @@ fitted (of.MoreActionParam n) = (omega arith, (λ _ _ _ first _ x others _ y. om
 fitted (of.Block d) = (
   (omega arith, tt, tt, tt),
   (λ _ _ _ _ _ _ args _ x every _ _ _ _ _ block _ y. let f = y.0 in (omega (arith, f), (x, y.1), y.2, y.3))
-      ⨾ (λ _ _ m branch _ x block _ y. let few = below_deep MAX_IFS d m in let f = x.0 in let g = y.0 in (omega (arith, few, f, g), all_append SendFits (instr_sends branch) (block_sends (block_of block)) x.1 y.1, all_append CondFits (instr_conditions branch) (block_conditions (block_of block)) x.2 y.2, all_append WaitFits (instr_waits branch) (block_waits (block_of block)) x.3 y.3))
+      ⨾ (λ _ _ m branch _ x block _ y. let few = below_deep MAX_IFS d m in let f = x.0 in let g = y.0 in (omega (arith, few, f, g), all_append SendIsInLimits (instr_sends branch) (block_sends (block_of block)) x.1 y.1, all_append CondFits (instr_conditions branch) (block_conditions (block_of block)) x.2 y.2, all_append WaitFits (instr_waits branch) (block_waits (block_of block)) x.3 y.3))
       ⨾ (λ _ _ _ _ _ _ _ _ _ value _ _ block _ y. let f = y.0 in (omega (arith, f), y.1, y.2, y.3))
       ⨾ (λ _ _ _ _ _ _ block _ y. let f = y.0 in (omega (arith, f), y.1, y.2, y.3))
       ⨾ (λ _ _ _ _ _ _ _ _ _ _ _ _ _ _ _ block _ y. let f = y.0 in (omega (arith, f), y.1, y.2, y.3))
@@ -126,7 +126,7 @@ fitted (of.Branch d) = (
   (
     λ _ _ _ c k x _ _ _ arms _ y. let f = x.0 in let first = (y.0).0 in let second = (y.1).0 in (
       omega (arith, first, second),
-      all_append SendFits (block_sends (block_of arms.yes_part)) (block_sends (block_of arms.no_part)) (y.0).1 (y.1).1,
+      all_append SendIsInLimits (block_sends (block_of arms.yes_part)) (block_sends (block_of arms.no_part)) (y.0).1 (y.1).1,
       ((omega (arith, k, f), x.1), all_append CondFits (block_conditions (block_of arms.yes_part)) (block_conditions (block_of arms.no_part)) (y.0).2 (y.1).2),
       all_append WaitFits (block_waits (block_of arms.yes_part)) (block_waits (block_of arms.no_part)) (y.0).3 (y.1).3,
     ),

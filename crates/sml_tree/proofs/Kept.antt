@@ -1,4 +1,4 @@
--- What is kept by the grammar's ways to write each part, whatever the tokens.
+-- What is kept by the grammar's ways to write each part, for any tokens.
 use Rattle.std.proofs.Common.{◌≡◌, List, [], ◌∷◌, ◌++◌, sym, subst, map, Option, Some, None, IfSome, inl, inr}
 use Rattle.sml_tree.specs.Piece.{Piece}
 use Rattle.sml_tree.specs.Form.{Bone, B, P, Form, gives, needs, calls, part, ◌>>=◌, Mark, Part, family, Value}
@@ -12,8 +12,8 @@ Anything n v = Unit {0}
 
 -- Known is known of all parts, Stands is what the marks may be, and Kept is to be shown.
 module _ (Known : (n : Part) → Value n → Type 0) (Stands : Mark → Type 0) (Kept : (n : Part) → Value n → Type 0) where
-  -- Where Kept holds of the parts of a form, K holds of what the form is worth. A token has three arguments (itself, its
-  -- kind, its mark), and a part has three (its worth, what is known of it, what is kept by it).
+  -- Where Kept holds of the parts of a form, K holds of what the form is worth. A token has three arguments (itself,
+  -- its kind, its mark), and a part has three (its worth, what is known of it, what is kept by it).
   abbrev pub Keeps : {A : Type 0} (bones : List Bone) → Form A bones → (A → Type 0) → Type 0
   Keeps [] (gives v) K = K v
   Keeps (_ ∷ bones) (needs kind mark f) K = (t : Piece) → t.kind ≡ kind → Stands mark → Keeps bones (f t) K
@@ -43,7 +43,7 @@ module _ (Known : (n : Part) → Value n → Type 0) (Stands : Mark → Type 0) 
   pub free_keeping : (n : Part) → ((v : Value n) → Kept n v) → Keeping n
   free_keeping n h = (some_always n (empty n) h, each_always n (rules n) h)
 
-  -- a form and what stands behind it
+  -- a form and what is behind it
   bound : (n m : Part) (more : List Bone) (k : Value n → Form (Value m) more) (bones : List Bone) (form : Form (Value n) bones) (K : Value n → Type 0) (L : Value m → Type 0)
       → Keeps bones form K → ((w : Value n) → K w → Keeps more (k w) L) → Keeps (bones ++ more) (form >>= k) L
   bound n m more k [] (gives v) K L s h = h v s

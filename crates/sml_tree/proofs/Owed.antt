@@ -22,7 +22,7 @@ module _ (Known : (n : Part) → Value n → Type 0) (Fits : (n : Part) → Valu
   EachOwes n [] = Unit {0}
   EachOwes n (r ∷ rs) = Owes (B r.kind ∷ r.bones) (needs r.kind r.mark r.rest) (Fits n) (Unit {0}) × EachOwes n rs
 
-  -- a form and what stands behind it
+  -- a form and what is behind it
   bound : (n m : Part) (more : List Bone) (k : Value n → Form (Value m) more) (bones : List Bone) (form : Form (Value n) bones) (K : Value n → Type 0) (L : Value m → Type 0) (before : Type 0)
       → Owes bones form K before → ((w : Value n) (before' : Type 0) → (K w → before') → Owes more (k w) L before') → Owes (bones ++ more) (form >>= k) L before
   bound n m more k [] (gives v) K L before s h = h v before s

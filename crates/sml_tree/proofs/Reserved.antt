@@ -1,4 +1,4 @@
--- A word is no name where it is reserved, and only there.
+-- A word is not a name exactly if it is reserved.
 use Rattle.std.proofs.Common.{◌≡◌, Bool, true, false, List, [], ◌∷◌, ℕ, refl}
 use Rattle.std.specs.Prelude.{◌↔◌}
 use Rattle.std.specs.List.{list_any, AllByRecursion}

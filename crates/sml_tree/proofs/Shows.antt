@@ -10,7 +10,7 @@ pub plain_append : (ms ns : List Marked) → plain (ms ++ ns) ≡ plain ms ++ pl
 plain_append [] ns = refl
 plain_append (m ∷ ms) ns = ap (λ l. m.token ∷ l) (plain_append ms ns)
 
--- what stands behind a form is derived behind it
+-- what is behind a form is derived behind it
 pub joined : (n : Part) (bones : List Bone) (f : Form (Value n) bones) (us : List Marked) (w : Value n) → Derives n bones f us w
     → (g : Part) (more : List Bone) (k : Value n → Form (Value g) more) (ms : List Marked) (v : Value g)
     → Derives g more (k w) ms v → Derives g (bones ++ more) (f >>= k) (us ++ ms) v
@@ -23,12 +23,12 @@ joined n bones f us w (written _ m bones' f' rule x us1 us2 _ e inner d') g more
     let Q : List Marked → Type 0 = λ all. Derives g (P (family m) ∷ (bones' ++ more)) (calls m (λ y. f' y >>= k)) all v in
     subst Q (sym (append_assoc us1 us2 ms)) (written g m (bones' ++ more) (λ y. f' y >>= k) rule x us1 (us2 ++ ms) v e inner (joined n bones' (f' x) us2 w d' g more k ms v d))
 
--- a part's text in front of what stands behind it
+-- a part's text in front of what is behind it
 pub called : (g n : Part) (bones : List Bone) (f : Value n → Form (Value g) bones) (w : Value n) (us ms : List Marked) (v : Value g) → Derives n (P (family n) ∷ []) (part n) us w
     → Derives g bones (f w) ms v → Derives g (P (family n) ∷ bones) (calls n f) (us ++ ms) v
 called g n bones f w us ms v d e = joined n (P (family n) ∷ []) (part n) us w d g bones f ms v e
 
--- what is said of texts of parts
+-- a statement about texts of parts
 module _ (Good : (n : Part) → List Piece → Value n → Type 0) where
   -- where it holds of the parts of a form, K holds of what the form derives
   abbrev pub Shows : {A : Type 0} (bones : List Bone) → Form A bones → (List Piece → A → Type 0) → Type 0
@@ -66,7 +66,7 @@ module _ (Good : (n : Part) → List Piece → Value n → Type 0) where
   pub free : (n : Part) → ((ts : List Piece) (v : Value n) → Good n ts v) → Closed n
   free n h = (some_always n (empty n) h, each_always n (rules n) h)
 
-  -- a form and what stands behind it
+  -- a form and what is behind it
   bound : (n m : Part) (more : List Bone) (k : Value n → Form (Value m) more) (bones : List Bone) (form : Form (Value n) bones) (K : List Piece → Value n → Type 0) (L : List Piece → Value m → Type 0)
       → Shows bones form K → ((w : Value n) (us : List Piece) → K us w → Shows more (k w) (λ ts v. L (us ++ ts) v)) → Shows (bones ++ more) (form >>= k) L
   bound n m more k [] (gives v) K L s h = h v [] s

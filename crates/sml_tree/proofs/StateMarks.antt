@@ -11,7 +11,7 @@ use Rattle.sml_tree.proofs.Shows.{Closed, free, holds, writes, writes_none}
 abbrev marks_of : Bool → Bool → Marks
 marks_of initial dead = record { initial = initial; dead = dead }
 
--- ---- what the table derives is in the grammar's own shape, behind what stands before it
+-- ---- what the table derives is in the grammar's own shape, behind what is before it
 abbrev Shaped : (n : Part) → List Piece → Value n → Type 0
 Shaped of.StateMark ts v = AreMarks ts v.initial v.dead
 Shaped of.FirstMark ts v = (slash : Piece) → slash.kind ≡ Slash → AreMarks (slash ∷ ts) v.initial v.dead

@@ -1,4 +1,4 @@
--- What is known of a part whatever marks stand in it: the tests of a condition are counted, and an `if` nests.
+-- What is known of a part with any marks: the tests of a condition are counted, and an `if` nests.
 use Rattle.std.proofs.Common.{◌≡◌, ℕ, ◌+◌, ◌≤◌, List, [], ◌∷◌, ◌++◌, refl, ap, sym, ◌∙◌, length, append_assoc, append-nil, arith}
 use Rattle.std.proofs.lemmas.List.{length-append}
 use Rattle.sml_tree.specs.Syntax.{TestData, instr_depth}

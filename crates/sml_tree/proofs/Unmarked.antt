@@ -9,7 +9,7 @@ use Rattle.sml_tree.specs.Form.{B, P, part, Part, family, Value, Mark, Fine, Dee
 use Rattle.sml_tree.specs.Grammar.{rules, unit_rules, conj_rules, kind_rules, class_param, action_param}
 use Rattle.sml_tree.specs.Derive.{fine, Derives}
 use Rattle.sml_tree.specs.Inside.{tests, instr_conditions, block_conditions, instr_sends, block_sends, instr_waits, block_waits}
-use Rattle.sml_tree.specs.Limits.{TestFits, CondFits, SendFits, WaitFits}
+use Rattle.sml_tree.specs.Limits.{TestFits, CondFits, SendIsInLimits, WaitFits}
 use Rattle.sml_tree.specs.Laws.{WithinLimits}
 use Rattle.sml_tree.proofs.Marks.{◌⨾◌, all_front, all_back, not_reached, not_deep, unmarked, plain_fine, fine_not_deep}
 use Rattle.sml_tree.proofs.Tallied.{Tallied, part_tallied}
@@ -29,7 +29,7 @@ owing_unit d n =
     ⨾ (λ _ _ _ _ _ _ sense _ states _ x. ((((tt, not_reached MAX_TESTS n Many x.0), refl), tt), (x.1).0))
     ⨾ tt
 
--- the front of a chain fits where the whole does
+-- a prefix of a chain fits if the whole does
 front_fits : (w v : Counted) → (a : List _) × (tests v.formula ≡ tests w.formula ++ a) × (v.count ≡ w.count + length a) → CountFits v → CountFits w
 front_fits w v a x =
     let c = a.2 in let few = x.0 in
@@ -46,16 +46,16 @@ owing_conj d n =
     begun_owes Tallied Fits (of.Unit' d n) (of.Conj d n) (P of.MoreAnds ∷ []) (λ u. part (of.MoreAnd d u.count u.formula)) (unit_rules d n) (owing_unit d n)
     (λ w before h v a x. (h (front_fits w v a x), x))
 
--- what stands in the first of two blocks fits where what stands in both does, and what stands in the second
+-- what is in the first of two blocks fits where what is in both does, and what is in the second
 first_of_two : {k l : ℕ} (ss us : List SendData) (cs ds : List CondData) (vs ws : List (List WaitedData)) → k ≤ l
-    → AllByRecursion SendFits (ss ++ us) → AllByRecursion CondFits (cs ++ ds) → AllByRecursion WaitFits (vs ++ ws)
-    → (k ≤ l) × AllByRecursion SendFits ss × AllByRecursion CondFits cs × AllByRecursion WaitFits vs
-first_of_two ss us cs ds vs ws nests x y z = (nests, all_front SendFits ss us x, all_front CondFits cs ds y, all_front WaitFits vs ws z)
+    → AllByRecursion SendIsInLimits (ss ++ us) → AllByRecursion CondFits (cs ++ ds) → AllByRecursion WaitFits (vs ++ ws)
+    → (k ≤ l) × AllByRecursion SendIsInLimits ss × AllByRecursion CondFits cs × AllByRecursion WaitFits vs
+first_of_two ss us cs ds vs ws nests x y z = (nests, all_front SendIsInLimits ss us x, all_front CondFits cs ds y, all_front WaitFits vs ws z)
 
 second_of_two : {k l : ℕ} (ss us : List SendData) (cs ds : List CondData) (vs ws : List (List WaitedData)) → k ≤ l
-    → AllByRecursion SendFits (ss ++ us) → AllByRecursion CondFits (cs ++ ds) → AllByRecursion WaitFits (vs ++ ws)
-    → (k ≤ l) × AllByRecursion SendFits us × AllByRecursion CondFits ds × AllByRecursion WaitFits ws
-second_of_two ss us cs ds vs ws nests x y z = (nests, all_back SendFits ss us x, all_back CondFits cs ds y, all_back WaitFits vs ws z)
+    → AllByRecursion SendIsInLimits (ss ++ us) → AllByRecursion CondFits (cs ++ ds) → AllByRecursion WaitFits (vs ++ ws)
+    → (k ≤ l) × AllByRecursion SendIsInLimits us × AllByRecursion CondFits ds × AllByRecursion WaitFits ws
+second_of_two ss us cs ds vs ws nests x y z = (nests, all_back SendIsInLimits ss us x, all_back CondFits cs ds y, all_back WaitFits vs ws z)
 
 owing : (n : Part) → EachOwes Tallied Fits n (rules n)
 owing (of.File classes objects sets) =

@@ -16,11 +16,11 @@ is_chain (either l r) = true
 is_chain (neither c) = false
 is_chain (test x) = false
 
--- one more where there are brackets round it
+-- one more if there are brackets round it
 abbrev pub in_brackets : Bool → ℕ → ℕ
 in_brackets there n = if there then n + 1 else n
 
--- The most that are open at once. Brackets stand round an `or` that is an operand of `and`, round an `and` that is its
+-- The most that are open at once. Brackets are round an `or` that is an operand of `and`, round an `and` that is its
 -- right operand, round an `or` that is the right operand of `or`, round both under `not`, and nowhere else.
 abbrev pub open_depth : CondData → ℕ
 open_depth (both l r) = max (in_brackets (is_or l) (open_depth l)) (in_brackets (is_chain r) (open_depth r))

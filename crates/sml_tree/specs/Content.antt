@@ -39,7 +39,8 @@ abbrev pub cond_content : {A : Type 0} → Cond A → CondData
 cond_content (And' p l q r) = both (cond_content l) (cond_content r)
 cond_content (Or' p l q r) = either (cond_content l) (cond_content r)
 cond_content (Not' p l) = neither (cond_content l)
-cond_content (Test scope name negated states) = test (record { scope = scope; name = name; negated = negated; states = states.items })
+cond_content (Test scope name negated states) =
+    test (record { scope = scope; name = name; negated = negated; states = states.items })
 
 -- the instructions of a block, one after another
 abbrev pub block_of : List InstrData → BlockData
@@ -47,7 +48,8 @@ block_of [] = done
 block_of (i ∷ is) = step i (block_of is)
 
 abbrev pub instr_step : {A : Type 0} → Instr-F A InstrData BlockData → InstrData
-instr_step (Instr-F.Do action args all target) = send (record { action = action; args = map passed_content args.items; all = all; target = target })
+instr_step (Instr-F.Do action args all target) =
+    send (record { action = action; args = map passed_content args.items; all = all; target = target })
 instr_step (Instr-F.If c first second) = choose (cond_content c) first second
 instr_step (Instr-F.Set name value) = assign name (arg_content value)
 instr_step (Instr-F.MoveTo state) = move_to state
@@ -72,13 +74,20 @@ abbrev pub action_param_content : {A : Type 0} → ActionParam A → ActionParam
 action_param_content p = record { kind = p.kind; name = p.name; default = option_map literal_content p.default }
 
 abbrev pub action_content : {A : Type 0} → Action A → ActionData
-action_content a = record { name = a.name; params = map action_param_content a.params.items; body = block_content a.body }
+action_content a =
+    record { name = a.name; params = map action_param_content a.params.items; body = block_content a.body }
 
 abbrev pub state_content : {A : Type 0} → State A → StateData
-state_content s = record { name = s.name; initial = s.initial; dead = s.dead; actions = map action_content s.actions.items }
+state_content s =
+    record { name = s.name; initial = s.initial; dead = s.dead; actions = map action_content s.actions.items }
 
 abbrev pub class_content : {A : Type 0} → Class A → ClassData
-class_content c = record { name = c.name; associated = c.associated; params = map class_param_content c.params.items; states = map state_content c.states.items }
+class_content c = record {
+  name = c.name;
+  associated = c.associated;
+  params = map class_param_content c.params.items;
+  states = map state_content c.states.items;
+}
 
 abbrev pub object_content : Object → ObjectData
 object_content o = record { name = o.name; class = o.class }

@@ -1,12 +1,12 @@
--- Forms: what stands in a text one after the other, and what it is worth.
+-- Forms: what follows one another in a text, and what it is worth.
 use Rattle.std.specs.Prelude.{ℕ, Bool, List, [], ◌∷◌, ◌++◌, Option}
 use Rattle.sml_tree.specs.declared.token_kind.TokenKind.{TokenKind}
 use Rattle.sml_tree.specs.declared.file.Kind.{Kind}
 use Rattle.sml_tree.specs.Piece.{Piece}
 use Rattle.sml_tree.specs.Syntax.{LiteralData, ArgData, PassedData, WaitedData, CondData, InstrData, ClassParamData, ActionParamData, ActionData, StateData, ItemData}
 
--- Whether a limit stands against a token where it stands: Deep at an `if`, `not` or bracket inside
--- sixteen others, Many at the first token of an item too many.
+-- Whether a limit refuses a token at its place: `Deep` at an `if`, `not` or bracket inside sixteen others,
+-- `Many` at the first token of an item too many.
 pub data Mark : Type 0 where
   Fine : Mark
   Deep : Mark
@@ -54,7 +54,7 @@ pub data Family : Type 0 where
   MemberLists : Family
   MoreMembers : Family
 
--- a condition, and how many tests of the whole condition stand before its end
+-- a condition, and how many tests of the whole condition are before its end
 pub record Counted : Type 0 where
   pub formula : CondData
   pub count : ℕ
@@ -201,7 +201,7 @@ Worth MoreMembers = List (List ℕ)
 abbrev pub Value : Part → Type 0
 Value n = Worth (family n)
 
--- what stands somewhere, without its values
+-- what is at a place, without its values
 pub data Bone : Type 0 where
   B : TokenKind → Bone
   P : Family → Bone
@@ -224,11 +224,11 @@ infixl 10 ◌>>◌
 abbrev pub ◌>>◌ : {A C : Type 0} {bones more : List Bone} → Form A bones → Form C more → Form C (bones ++ more)
 a >> b = a >>= (λ _. b)
 
--- a token that is in order wherever it stands
+-- a token that no limit refuses
 abbrev pub word : (kind : TokenKind) → Form Piece (B kind ∷ [])
 word kind = needs kind Fine gives
 
--- a token against which a limit may stand
+-- a token that a limit may refuse
 abbrev pub limited : (kind : TokenKind) → Mark → Form Piece (B kind ∷ [])
 limited kind mark = needs kind mark gives
 

@@ -1,4 +1,4 @@
--- The grammar: the ways to write each part. Above each part stands its rule in the grammar's own notation:
+-- The grammar: the ways to write each part. Above each part is its rule in the grammar's own notation:
 -- `[x]` is x or nothing, `x*` any number of x, `x+,` one or more x with commas between them.
 use Rattle.std.specs.Prelude.{ℕ, ◌+◌, List, [], ◌∷◌, ◌++◌, Option, Some, None, nat_lt, true, false, map, if◌then◌else◌}
 use Rattle.sml_tree.specs.declared.token_kind.TokenKind.{TokenKind}
@@ -14,7 +14,7 @@ use Rattle.sml_tree.specs.Form as of
 use Rattle.sml_tree.specs.Form.{Bone, B, P, Form, gives, ◌>>=◌, ◌>>◌, word, limited, part, Mark, Fine, Deep, Many, Part, family, Value, Counted}
 use Rattle.sml_tree.specs.declared.limits.TheConstants.{MAX_CLASSES, MAX_OBJECTS, MAX_SETS, MAX_STATES, MAX_ACTIONS, MAX_PARAMETERS, MAX_ARGUMENTS, MAX_MEMBERS, MAX_NAMES, MAX_WAITED, MAX_TESTS, MAX_IFS, MAX_OPEN}
 
--- a limit, and the count of what stands before
+-- a limit, and the count of what is before
 abbrev pub most : ℕ → ℕ → Mark → Mark
 most limit count mark = if nat_lt count limit then Fine else mark
 
@@ -29,9 +29,10 @@ pub record Rule (n : Part) : Type 0 where
 abbrev pub way : {n : Part} {bones : List Bone} (kind : TokenKind) → Mark → (Piece → Form (Value n) bones) → Rule n
 way {bones = bones} kind mark rest = record { kind = kind; mark = mark; bones = bones; rest = rest }
 
--- a way to write a part, and what stands behind it in another part
+-- a way to write a part, and what follows it in another part
 abbrev pub begun : {more : List Bone} (n m : Part) → (Value n → Form (Value m) more) → Rule n → Rule m
-begun {more = more} n m k r = record { kind = r.kind; mark = r.mark; bones = r.bones ++ more; rest = λ t. r.rest t >>= k }
+begun {more = more} n m k r =
+    record { kind = r.kind; mark = r.mark; bones = r.bones ++ more; rest = λ t. r.rest t >>= k }
 
 -- the name that a token is
 abbrev pub name : Piece → List ℕ
@@ -68,11 +69,15 @@ abbrev pub action_param_rules : (n : ℕ) → List (Rule (of.ActionParam n))
 action_param_rules n = map (begun (of.Sort n) (of.ActionParam n) action_param) (kind_rules n)
 
 -- ( IN_STATE | NOT_IN_STATE ) states
-abbrev pub asks : Scope → List ℕ → ℕ → Form Counted (P of.Senses ∷ P of.StateLists ∷ [])
-asks scope name tests = do
+abbrev pub asks_part : Scope → List ℕ → ℕ → Form Counted (P of.Senses ∷ P of.StateLists ∷ [])
+asks_part scope name tests = do
   negated ← part of.Sense
   states ← part of.StateList
-  gives (record { formula = test (record { scope = scope; name = name; negated = negated; states = states }); count = tests + 1 })
+  gives (record {
+    formula = test (record { scope = scope; name = name; negated = negated; states = states });
+    count =
+        tests + 1;
+  })
 
 -- unit = NOT unit | ( cond ) | test
 -- test = [ ALL_IN | ANY_IN ] name ( IN_STATE | NOT_IN_STATE ) states
@@ -85,24 +90,26 @@ unit_rules depth tests =
       inner ← part (of.Cond (depth + 1) tests)
       word CloseBracket
       gives inner)
-    ∷ way Name (most MAX_TESTS tests Many) (λ t. asks scope.One (name t) tests)
+    ∷ way Name (most MAX_TESTS tests Many) (λ t. asks_part scope.One (name t) tests)
     ∷ way AllIn (most MAX_TESTS tests Many) (λ _. do
       t ← word Name
-      asks scope.All (name t) tests)
+      asks_part scope.All (name t) tests)
     ∷ way AnyIn (most MAX_TESTS tests Many) (λ _. do
       t ← word Name
-      asks scope.Any (name t) tests)
+      asks_part scope.Any (name t) tests)
     ∷ []
 
 -- conj = unit ( AND unit )*, grouped from the left
 abbrev pub conj_rules : (depth tests : ℕ) → List (Rule (of.Conj depth tests))
-conj_rules depth tests = map (begun (of.Unit' depth tests) (of.Conj depth tests) (λ unit. part (of.MoreAnd depth unit.count unit.formula))) (unit_rules depth tests)
+conj_rules depth tests = map (begun (of.Unit' depth tests) (of.Conj depth tests)
+    (λ unit. part (of.MoreAnd depth unit.count unit.formula))) (unit_rules depth tests)
 
 -- cond = conj ( OR conj )*, grouped from the left
 abbrev pub cond_rules : (depth tests : ℕ) → List (Rule (of.Cond depth tests))
-cond_rules depth tests = map (begun (of.Conj depth tests) (of.Cond depth tests) (λ one. part (of.MoreOr depth one.count one.formula))) (conj_rules depth tests)
+cond_rules depth tests = map (begun (of.Conj depth tests) (of.Cond depth tests)
+    (λ one. part (of.MoreOr depth one.count one.formula))) (conj_rules depth tests)
 
--- what a part is worth that is left out, where it may be
+-- what a part is worth that is left out, if it may be
 abbrev pub empty : (n : Part) → Option (Value n)
 empty (of.File classes objects sets) = Some []
 empty of.ClassMark = Some false

@@ -1,4 +1,4 @@
--- What stands in a block, in a condition and in a file.
+-- What is in a block, in a condition and in a file.
 use Rattle.std.specs.Prelude.{List, [], ◌∷◌, ◌++◌}
 use Rattle.std.specs.List.{flat_map}
 use Rattle.sml_tree.specs.Syntax.{TestData, CondData, both, either, neither, test, SendData, WaitedData, InstrData, BlockData, send, choose, assign, move_to, terminate, wait_for, insert_in, remove_from, done, step, ActionData, StateData, ItemData, class, object, group}

@@ -5,6 +5,7 @@ pub mod Derive
 pub mod Form
 pub mod Grammar
 pub mod Inside
+pub mod Kinds
 pub mod Laws
 pub mod Limits
 pub mod Padding

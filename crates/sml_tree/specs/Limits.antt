@@ -1,4 +1,4 @@
--- The limits of a file, said of its tree.
+-- The limits of a file, as limits of its tree.
 use Rattle.std.specs.Prelude.{◌≤◌, Bool, true, false, List, length}
 use Rattle.std.specs.List.{AllByRecursion, filter}
 use Rattle.sml_tree.specs.Syntax.{TestData, CondData, SendData, WaitedData, BlockData, block_depth, ActionData, StateData, ClassData, ItemData, class, object, group}
@@ -14,32 +14,34 @@ abbrev pub CondFits : CondData → Type 0
 CondFits c = (length (tests c) ≤ MAX_TESTS) × AllByRecursion TestFits (tests c)
 
 -- arguments of a `do`
-abbrev pub SendFits : SendData → Type 0
-SendFits s = length s.args ≤ MAX_ARGUMENTS
+abbrev pub SendIsInLimits : SendData → Type 0
+SendIsInLimits s = length s.args ≤ MAX_ARGUMENTS
 
 -- names of a `wait`
 abbrev pub WaitFits : List WaitedData → Type 0
 WaitFits waited = length waited ≤ MAX_WAITED
 
 -- nesting of `if`
-abbrev pub BlockFits : BlockData → Type 0
-BlockFits b = (block_depth b ≤ MAX_IFS) × AllByRecursion SendFits (block_sends b) × AllByRecursion CondFits (block_conditions b) × AllByRecursion WaitFits (block_waits b)
+abbrev pub BlockIsInLimits : BlockData → Type 0
+BlockIsInLimits b = (block_depth b ≤ MAX_IFS) × AllByRecursion SendIsInLimits (block_sends b)
+    × AllByRecursion CondFits (block_conditions b) × AllByRecursion WaitFits (block_waits b)
 
 -- parameters of an action
-abbrev pub ActionFits : ActionData → Type 0
-ActionFits a = (length a.params ≤ MAX_PARAMETERS) × BlockFits a.body
+abbrev pub ActionIsInLimits : ActionData → Type 0
+ActionIsInLimits a = (length a.params ≤ MAX_PARAMETERS) × BlockIsInLimits a.body
 
 -- actions of a state
-abbrev pub StateFits : StateData → Type 0
-StateFits s = (length s.actions ≤ MAX_ACTIONS) × AllByRecursion ActionFits s.actions
+abbrev pub StateIsInLimits : StateData → Type 0
+StateIsInLimits s = (length s.actions ≤ MAX_ACTIONS) × AllByRecursion ActionIsInLimits s.actions
 
 -- parameters and states of a class
-abbrev pub ClassFits : ClassData → Type 0
-ClassFits c = (length c.params ≤ MAX_PARAMETERS) × (length c.states ≤ MAX_STATES) × AllByRecursion StateFits c.states
+abbrev pub ClassIsInLimits : ClassData → Type 0
+ClassIsInLimits c =
+    (length c.params ≤ MAX_PARAMETERS) × (length c.states ≤ MAX_STATES) × AllByRecursion StateIsInLimits c.states
 
 -- members of a set
 abbrev pub ItemFits : ItemData → Type 0
-ItemFits (class c) = ClassFits c
+ItemFits (class c) = ClassIsInLimits c
 ItemFits (object o) = Unit {0}
 ItemFits (group g) = length g.members ≤ MAX_MEMBERS
 
@@ -62,5 +64,6 @@ is_set (group g) = true
 -- classes, objects and sets of a file
 abbrev pub IsWithinLimits : List ItemData → Type 0
 IsWithinLimits file =
-    (length (filter is_class file) ≤ MAX_CLASSES) × (length (filter is_object file) ≤ MAX_OBJECTS) × (length (filter is_set file) ≤ MAX_SETS)
+    (length (filter is_class file) ≤ MAX_CLASSES) × (length (filter is_object file) ≤ MAX_OBJECTS)
+    × (length (filter is_set file) ≤ MAX_SETS)
     × AllByRecursion ItemFits file

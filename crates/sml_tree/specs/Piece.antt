@@ -65,7 +65,7 @@ mark_words =
     ∷ reads (codes "DEAD_STATE") kind.DeadState
     ∷ []
 
--- the kind of a word by a table, where a word of no row is a name
+-- the kind of a word by a table; a word of no row is a name
 abbrev pub kind_in : List Reserved → List ℕ → TokenKind
 kind_in [] word = kind.Name
 kind_in (row ∷ rows) word = if pointwise nat_eq word row.word then row.kind else kind_in rows word
@@ -94,12 +94,12 @@ sign_kind sign.CloseBrace = kind.CloseBrace
 sign_kind sign.Slash = kind.Slash
 
 -- the kind of a token, behind a slash or not
-abbrev pub kind_of : Bool → Lexeme → TokenKind
-kind_of slash (Word word) = word_kind slash word
-kind_of slash (Int n) = kind.Int
-kind_of slash (Str bytes) = kind.Str
-kind_of slash (Sign s) = sign_kind s
-kind_of slash (Session k) = kind.Stray
+abbrev pub piece_kind : Bool → Lexeme → TokenKind
+piece_kind slash (Word word) = word_kind slash word
+piece_kind slash (Int n) = kind.Int
+piece_kind slash (Str bytes) = kind.Str
+piece_kind slash (Sign s) = sign_kind s
+piece_kind slash (Session k) = kind.Stray
 
 -- whether a token is a slash
 abbrev pub is_slash : Lexeme → Bool
@@ -108,7 +108,7 @@ is_slash _ = false
 
 -- a token with its kind, behind a slash or not
 abbrev pub piece_of : Bool → Token → Piece
-piece_of slash t = record { kind = kind_of slash t.lexeme; lexeme = t.lexeme; at = t.at }
+piece_of slash t = record { kind = piece_kind slash t.lexeme; lexeme = t.lexeme; at = t.at }
 
 -- tokens with their kinds, the first of them behind a slash or not
 abbrev pub pieces : Bool → List Token → List Piece

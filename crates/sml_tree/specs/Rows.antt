@@ -8,6 +8,6 @@ use Rattle.sml_tree.specs.declared.words.Row.{Row}
 abbrev pub row_of : Row → Reserved
 row_of r = record { word = r.word.now; kind = r.kind }
 
--- the rows of words of so many bytes
+-- the rows of words of `n` bytes
 abbrev pub of_length : ℕ → List Reserved → List Reserved
 of_length n rows = filter (λ row. length row.word == n) rows

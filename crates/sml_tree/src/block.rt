@@ -65,14 +65,14 @@ pub enum Instr<A: Allocator + Clone> {
     },
     MoveTo(Name),
     Terminate(Name),
-    /// At least one, and at most `MAX_WAITED`, where a text was read.
+    /// At least one, and at most `MAX_WAITED`, if it was read from a text.
     Wait(Vec<Waited, A>),
-    /// Puts an object last into a set, where it is no member.
+    /// Puts an object last into a set, if it is not a member.
     Insert {
         member: Name,
         set: Name,
     },
-    /// Takes an object out of a set, where it is a member.
+    /// Takes an object out of a set, if it is a member.
     Remove {
         member: Name,
         set: Name,
@@ -87,14 +87,14 @@ pub struct Block<A: Allocator + Clone> {
 }
 
 impl<A: Allocator + Clone> Instr<A> {
-    /// The same instruction in other memory.
+    /// Copies the instruction into other memory.
     pub fn copy_in<B: Allocator + Clone>(&self, alloc: B) -> Result<Instr<B>, AllocError>
         ensures { IfOk result (λ i. instr_content i ≡ instr_content self.now) }
     {
         self.copy_by(&alloc)
     }
 
-    // The same instruction in this memory.
+    // Copies the instruction into this memory.
     #[cycle(copy)]
     #[tactic(auto, using(crate::proofs::Blocks::instr_equations))]
     fn copy_by<B: Allocator + Clone>(&self, alloc: &B) -> Result<Instr<B>, AllocError>
@@ -171,7 +171,13 @@ impl<A: Allocator + Clone> Instr<A> {
         all: bool,
         target: &Name,
     ) -> bool
-        ensures { IsTrue result ↔ (send (record { action = action.now; args = map passed_content args.now.items; all = all; target = target.now }) ≡ instr_content self.now) }
+        ensures { IsTrue result ↔ (send (record {
+          action = action.now;
+          args = map passed_content args.now.items;
+          all =
+              all;
+          target = target.now;
+        }) ≡ instr_content self.now) }
     {
         match self {
             Instr::Do {
@@ -256,7 +262,7 @@ impl<A: Allocator + Clone> Instr<A> {
         }
     }
 
-    /// How deep `if`s nest here, or `u32::MAX` where that is more.
+    /// Returns how deep `if`s nest here, at most `u32::MAX`.
     #[cycle(depth)]
     #[tactic(auto, using(crate::proofs::Blocks::instr_equations))]
     pub fn depth(&self) -> u32
@@ -275,14 +281,15 @@ impl<A: Allocator + Clone> Instr<A> {
     }
 }
 
-// An `if` of copies, where there was memory for each.
+// Makes an `if` of copies, if there was memory for each.
 #[tactic(auto, using(crate::proofs::Blocks::instr_equations))]
 fn branch<A: Allocator + Clone>(
     cond: Result<Cond<A>, AllocError>,
     yes: Result<Block<A>, AllocError>,
     no: Result<Block<A>, AllocError>,
 ) -> Result<Instr<A>, AllocError>
-    ensures { IfOk result (λ i. (c : Cond A) × (y : Block A) × (n : Block A) × (cond ≡ Ok c) × (yes ≡ Ok y) × (no ≡ Ok n) × (instr_content i ≡ choose (cond_content c) (block_content y) (block_content n))) }
+    ensures { IfOk result (λ i. (c : Cond A) × (y : Block A) × (n : Block A) × (cond ≡ Ok c) × (yes ≡ Ok y)
+        × (no ≡ Ok n) × (instr_content i ≡ choose (cond_content c) (block_content y) (block_content n))) }
 {
     Ok(Instr::If {
         cond: cond?,
@@ -292,14 +299,14 @@ fn branch<A: Allocator + Clone>(
 }
 
 impl<A: Allocator + Clone> Block<A> {
-    /// The same instructions in other memory.
+    /// Copies the instructions into other memory.
     pub fn copy_in<B: Allocator + Clone>(&self, alloc: B) -> Result<Block<B>, AllocError>
         ensures { IfOk result (λ b. block_content b ≡ block_content self.now) }
     {
         self.copy_by(&alloc)
     }
 
-    // The same instructions in this memory.
+    // Copies the instructions into this memory.
     #[cycle(copy)]
     #[tactic(auto, using(crate::proofs::Blocks::instr_equations))]
     pub(crate) fn copy_by<B: Allocator + Clone>(&self, alloc: &B) -> Result<Block<B>, AllocError>
@@ -329,7 +336,7 @@ impl<A: Allocator + Clone> Block<A> {
         true
     }
 
-    /// How deep `if`s nest here, or `u32::MAX` where that is more.
+    /// Returns how deep `if`s nest here, at most `u32::MAX`.
     #[cycle(depth)]
     #[tactic(auto, using(crate::proofs::Blocks::instr_equations))]
     pub fn depth(&self) -> u32

@@ -28,14 +28,14 @@ pub enum Cond<A: Allocator + Clone> {
 }
 
 impl<A: Allocator + Clone> Cond<A> {
-    /// The same condition in other memory.
+    /// Copies the condition into other memory.
     pub fn copy_in<B: Allocator + Clone>(&self, alloc: B) -> Result<Cond<B>, AllocError>
         ensures { IfOk result (λ c. cond_content c ≡ cond_content self.now) }
     {
         self.copy_by(&alloc)
     }
 
-    // The same condition in this memory.
+    // Copies the condition into this memory.
     pub(crate) fn copy_by<B: Allocator + Clone>(&self, alloc: &B) -> Result<Cond<B>, AllocError>
         ensures { IfOk result (λ c. cond_content c ≡ cond_content self.now) }
     {
@@ -93,7 +93,7 @@ impl<A: Allocator + Clone> Cond<A> {
     }
 }
 
-// A copy in a box, where there was memory for both.
+// Returns a copy in a box, if there was memory for both.
 fn boxed<A: Allocator + Clone>(
     copy: Result<Cond<A>, AllocError>,
     alloc: &A,
@@ -103,7 +103,7 @@ fn boxed<A: Allocator + Clone>(
     Ok(Box::new(alloc.clone()?, copy?)?)
 }
 
-// Two copies in boxes, where there was memory for all of it.
+// Returns two copies in boxes, if there was memory for all of it.
 fn both<A: Allocator + Clone>(
     left: Result<Cond<A>, AllocError>,
     right: Result<Cond<A>, AllocError>,

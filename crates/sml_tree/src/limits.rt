@@ -1,4 +1,5 @@
-//! The limits of a domain's text, as docs/LANGUAGE.md has them: the reader, its contracts and the definitions cite these.
+//! The limits of a domain's text, as docs/LANGUAGE.md has them. The reader, its contracts and the definitions cite
+//! these.
 
 /// Classes of a file.
 pub const MAX_CLASSES: usize = 64;

@@ -1,10 +1,10 @@
-//! Lists of a tree's parts: how they are copied and compared. The steps in which a list is copied are functions
-//! of their own, since each `?` of a caller has to let go all that the caller holds.
+//! Lists of a tree's parts: how they are copied and compared. Each step in which a list is copied is a separate
+//! function, since each `?` of a caller has to drop all that the caller holds.
 ghost use Rattle.std.specs.Prelude.{◌≡◌, ◌↔◌, ◌++◌, ◌∷◌, [], map, IfOk, IsTrue, Ok, OnOk};
 
 use std::alloc::{AllocError, Allocator};
 
-/// An empty list with room for so many.
+/// Makes an empty list with room for `count` parts.
 pub(crate) fn room_for<T, A: Allocator + Clone>(
     alloc: &A,
     count: usize,
@@ -14,7 +14,7 @@ pub(crate) fn room_for<T, A: Allocator + Clone>(
     Ok(Vec::with_capacity(alloc.clone()?, count)?)
 }
 
-/// Puts a copy behind the copies before it, where there was memory for it.
+/// Puts a copy behind the copies before it, if there was memory for it.
 pub(crate) fn add<T: Drop, A: Allocator>(
     copies: &mut Vec<T, A>,
     copy: Result<T, AllocError>,
@@ -25,11 +25,11 @@ pub(crate) fn add<T: Drop, A: Allocator>(
     Ok(())
 }
 
-/// A part of a tree that stands in lists, beside the same part in memory of another kind.
+/// A part of a tree that is kept in lists, beside the same part in memory of another kind.
 pub(crate) trait Part<B: Allocator + Clone> {
     type Other: Drop;
 
-    // What a part says, whatever memory it is in.
+    // What a part says, in any memory.
     ghost Said: { Type 0 };
 
     ghost said: { Self → Said };
@@ -43,7 +43,7 @@ pub(crate) trait Part<B: Allocator + Clone> {
         ensures { IsTrue result ↔ (said self.now ≡ other_said other.now) };
 }
 
-/// The same parts in other memory.
+/// Copies the parts into other memory.
 pub(crate) fn copy_list<T: Part<B>, A: Allocator + Clone, B: Allocator + Clone>(
     list: &Vec<T, A>,
     alloc: &B,

@@ -1,7 +1,7 @@
 //! The kinds of tokens.
 
 /// What a token of a domain text is: a reserved word, a word that counts only behind a slash, a
-/// sign, or what is none of these. (docs/LANGUAGE.md, "Tokens".)
+/// sign, or something else. (docs/LANGUAGE.md, "Tokens".)
 #[derive(Clone, Copy)]
 pub enum TokenKind {
     Class,
@@ -50,6 +50,6 @@ pub enum TokenKind {
     Name,
     Int,
     Str,
-    /// What stands in no file.
+    /// A token that no file has.
     Stray,
 }

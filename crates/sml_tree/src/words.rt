@@ -1,4 +1,4 @@
-//! The words that are no names.
+//! The words that are not names.
 ghost use Rattle.std.specs.Prelude.{◌≡◌, map, nat_eq};
 ghost use Rattle.std.specs.Cmp.Lexicographic.{pointwise};
 ghost use Rattle.sml_tree.specs.Word.{upper};
@@ -169,7 +169,7 @@ const OF_SIXTEEN: [Row; 1] = [Row {
     kind: TokenKind::TerminateAction,
 }];
 
-// The reserved words of so many bytes.
+// Returns the reserved words of `length` bytes.
 fn words_of(length: usize) -> &'static [Row]
     ensures { map row_of result.now ≡ of_length length reserved }
 {
@@ -205,7 +205,7 @@ fn spells(word: &[u8], upper_word: &[u8]) -> bool
     true
 }
 
-// The kind of a word by these rows, where a word of no row is a name.
+// Returns the kind of a word by these rows; a word of no row is a name.
 fn kind_in(rows: &[Row], word: &[u8]) -> TokenKind
     ensures { result ≡ kind' (map row_of rows.now) (upper word.now) }
 {
@@ -229,14 +229,14 @@ fn is_in(rows: &[Row], word: &[u8]) -> bool
     false
 }
 
-// The kind of a word that stands behind no slash.
+// Returns the kind of a word that is not behind a slash.
 fn plain_kind(word: &[u8]) -> TokenKind
     ensures { result ≡ kind' reserved (upper word.now) }
 {
     kind_in(words_of(word.len()), word)
 }
 
-/// The kind of a word, behind a slash or not. (docs/LANGUAGE.md, "Tokens".) The cost is the count of the
+/// Returns the kind of a word, behind a slash or not. (docs/LANGUAGE.md, "Tokens".) The cost is the count of the
 /// reserved words that are as long.
 pub fn word_kind(slash: bool, word: &[u8]) -> TokenKind
     ensures { result ≡ word' slash (upper word.now) }
@@ -250,7 +250,7 @@ pub fn word_kind(slash: bool, word: &[u8]) -> TokenKind
     }
 }
 
-/// Whether a word in upper case is reserved, and so is no name. (docs/LANGUAGE.md, "Tokens".) The cost
+/// Whether a word in upper case is reserved, and so is not a name. (docs/LANGUAGE.md, "Tokens".) The cost
 /// is the count of the reserved words that are as long.
 pub fn is_reserved(word: &[u8]) -> bool
     ensures { result ≡ reserved' word.now }

@@ -2,7 +2,7 @@
 use Rattle.std.proofs.Common.{◌≤◌, length, All, subst, refl}
 use Rattle.std.proofs.lemmas.List.{take_all}
 use Rattle.std.proofs.lemmas.List.Elements.{All-more}
-use Rattle.smi_rules.specs.Rules as rules
+use Rattle.smi_audit_rules.specs.Rules as rules
 use Rattle.smi_audit.proofs.judge.are_states.Goals as goal
 
 pub loop-reading-preserved : goal.loop-reading-preserved

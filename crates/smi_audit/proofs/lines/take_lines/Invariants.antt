@@ -3,7 +3,7 @@ use Rattle.std.proofs.Common.{◌≡◌, ◌++◌, All, length}
 use Rattle.smi_journal.specs.HasText.{HasTextIn}
 use Rattle.smi_journal.specs.JournalText.{lines_text}
 use Rattle.smi_meaning.specs.Legal.{IsLegal}
-use Rattle.smi_audit.specs.Judges.{IsKept}
+use Rattle.smi_audit.specs.Judges.{JudgeIsKept}
 use Rattle.smi_audit.proofs.lines.take_lines.Given as goal
 
 -- the bytes that are left
@@ -12,7 +12,7 @@ decreases-loop-rest l = length l.rest
 
 abbrev pub invariant-loop-rest : goal.invariant-loop-rest
 invariant-loop-rest l = record {
-  kept : IsKept l.judge;
+  kept : JudgeIsKept l.judge;
   format_is : l.judge.format ≡ l.format;
   domain : l.judge.books.domain ≡ l.domain;
   texts : All (HasTextIn l.format l.domain) l.judge.books.journal;

@@ -1,4 +1,4 @@
--- So many places, and nothing asked.
+-- As many places as turns were made, and nothing asked.
 use Rattle.std.proofs.Common.{◌≡◌, ◌≤◌, []}
 use Rattle.std.specs.Prelude.{replicate, vec_len, vec_capacity}
 use Rattle.smi_audit.proofs.track.no_calls.Given as goal

@@ -1,7 +1,7 @@
 -- One name after another.
 use Rattle.std.proofs.Common.{◌≡◌, ◌∙◌, get_or, ap, sym, true}
 use Rattle.sml_domain.specs.Asking.{asked_of}
-use Rattle.smi_entry.specs.Sets.{members_in, sets_after}
+use Rattle.smi_journal_entries.specs.Sets.{members_in, sets_after}
 use Rattle.sml_domain.specs.Trees.{asked}
 use Rattle.smi_meaning.specs.EntryLaws.{are_clear}
 use Rattle.smi_interp.specs.Expanded.{objects_by_names}

@@ -1,8 +1,8 @@
 use Rattle.std.proofs.Common.{◌≡◌, ◌∙◌, sym, Some}
 use Rattle.sml_tree.specs.Content.{file_content}
-use Rattle.sml_faults.specs.Lookup.{first}
-use Rattle.sml_faults.specs.Kinds.{all_faults, IsWellFormed}
-use Rattle.sml_faults.proofs.Judged.{on_ok, if_err, none_nil}
+use Rattle.sml_check_faults.specs.Lookup.{first_item}
+use Rattle.sml_check_faults.specs.Kinds.{all_faults, IsWellFormed}
+use Rattle.sml_check_faults.proofs.Judged.{on_ok, if_err, none_nil}
 use Rattle.sml_check.proofs.faults.fault_by.Goals as goal
 
 pub returns-clause-well_formed : goal.returns-clause-well_formed
@@ -13,5 +13,5 @@ returns-clause-well_formed g c =
 
 pub returns-clause-fault : goal.returns-clause-fault
 returns-clause-fault g c =
-    if_err _ (λ e. Some (e.kind, e.name) ≡ first (all_faults (file_content c.args.tables.now.file.now)))
+    if_err _ (λ e. Some (e.kind, e.name) ≡ first_item (all_faults (file_content c.args.tables.now.file.now)))
     c.judged.result (λ e some. some ∙ c.lowest_fault.ensures) c.judged.ensures.err

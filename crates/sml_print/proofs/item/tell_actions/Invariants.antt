@@ -4,7 +4,7 @@ use Rattle.sml_tree.specs.Content.{action_content}
 use Rattle.sml_print.specs.Items.{action_text}
 use Rattle.sml_print.proofs.item.tell_actions.Given as goal
 
--- what was told is the text of those before
+-- what was written is the text of those before
 abbrev pub invariant-loop-action : goal.invariant-loop-action
 invariant-loop-action g l =
     Told (g.S.Sink.contents l.fn.sink) l.fn.failed (g.S.Sink.contents l.sink) l.failed (flat_map (λ x. action_text (action_content x)) (take l.action-index l.actions.items))

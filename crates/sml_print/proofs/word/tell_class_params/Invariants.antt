@@ -1,11 +1,11 @@
 use Rattle.std.proofs.Common.{take}
 use Rattle.sml_text.specs.Written.{Told, StaysDue}
 use Rattle.sml_tree.specs.Content.{class_param_content}
-use Rattle.sml_print.specs.Words.{listed, class_param_text}
+use Rattle.sml_print.specs.Words.{comma_list, class_param_text}
 use Rattle.sml_print.proofs.word.tell_class_params.Given as goal
 
--- what was told is the text of those before
+-- what was written is the text of those before
 abbrev pub invariant-loop-i : goal.invariant-loop-i
 invariant-loop-i g l =
-    Told (g.S.Sink.contents l.fn.sink) l.fn.failed (g.S.Sink.contents l.sink) l.failed (listed (λ x. class_param_text (class_param_content x)) (take l.i l.params.items))
+    Told (g.S.Sink.contents l.fn.sink) l.fn.failed (g.S.Sink.contents l.sink) l.failed (comma_list (λ x. class_param_text (class_param_content x)) (take l.i l.params.items))
     × StaysDue (g.S.Sink.has_refused l.fn.sink) l.fn.failed (g.S.Sink.has_refused l.sink) l.failed

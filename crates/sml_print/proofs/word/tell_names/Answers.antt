@@ -1,7 +1,7 @@
 use Rattle.std.proofs.Common.{ap}
 use Rattle.std.proofs.lemmas.List.{take_all}
 use Rattle.sml_text.proofs.Writes.{told_as}
-use Rattle.sml_print.specs.Words.{listed, name_text}
+use Rattle.sml_print.specs.Words.{comma_list, name_text}
 use Rattle.sml_print.proofs.Tolds.{listed_more}
 use Rattle.sml_print.proofs.Tolds.{then_told}
 use Rattle.sml_print.proofs.word.tell_names.Goals as goal
@@ -14,4 +14,4 @@ loop-i-preserved g c = (
 )
 
 pub returns-clause-told : goal.returns-clause-told
-returns-clause-told g c = told_as _ _ _ _ _ _ c.loop-i.invariant.0 (ap (listed name_text) (take_all c.loop-i.i c.args.names.now c.loop-i-test.false))
+returns-clause-told g c = told_as _ _ _ _ _ _ c.loop-i.invariant.0 (ap (comma_list name_text) (take_all c.loop-i.i c.args.names.now c.loop-i-test.false))

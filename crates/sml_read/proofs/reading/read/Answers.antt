@@ -1,7 +1,7 @@
 use Rattle.std.proofs.Common.{◌≤◌, ap, sym, ◌∙◌, Err, rules, length, []}
 use Rattle.sml_text.specs.declared.source.Source.TheVariants.{Domain}
 use Rattle.sml_read.specs.declared.error.ReadErrorKind.TheVariants as kinds
-use Rattle.sml_read.specs.Promise.{refusal}
+use Rattle.sml_read.specs.Promise.{read_refusal}
 use Rattle.sml_read.proofs.Late.{late, derived}
 use Rattle.sml_read.proofs.Only.{said, memory_alone}
 use Rattle.sml_read.proofs.reading.read.Goals as goal
@@ -10,7 +10,7 @@ use Rattle.sml_read.specs.declared.reading.TheConstants.{MAX_TEXT}
 pub returns-in-Some-first_bad-clause-bad_token : goal.returns-in-Some-first_bad-clause-bad_token
 returns-in-Some-first_bad-clause-bad_token g c k short ascii bad =
     let one = c.laws_of_tokens.ensures.one_bad Domain c.args.text.now c.in-Some-first_bad.offset k c.in-Some-first_bad.ensures bad in
-    ap (λ n. Err (refusal kinds.BadToken n)) one
+    ap (λ n. Err (read_refusal kinds.BadToken n)) one
 
 pub returns-in-Ok-clause-read : goal.returns-in-Ok-clause-read
 returns-in-Ok-clause-read g c =

@@ -1,7 +1,7 @@
 use Rattle.std.proofs.Common.{Vec, map, false}
 use Rattle.sml_tree.specs.Content.{item_content}
 use Rattle.sml_tree.specs.declared.file.Item.{Item}
-use Rattle.sml_reader.specs.Left.{left}
+use Rattle.sml_read_parts.specs.Left.{left}
 use Rattle.sml_read.proofs.Ended.{whole_read, token_left}
 use Rattle.sml_read.proofs.reading.read_items.Goals as goal
 

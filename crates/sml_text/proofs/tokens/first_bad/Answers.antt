@@ -1,5 +1,5 @@
 use Rattle.std.proofs.Common.{◌∙◌, sym, ap, arith}
-use Rattle.sml_text.specs.Stream.{Reading, tokens_from}
+use Rattle.sml_text.specs.Stream.{TextReading, tokens_from}
 use Rattle.sml_text.proofs.Streams.{front_ends, front_bad, front_takes, next_reading, read_tokens, read_bad}
 use Rattle.sml_text.proofs.tokens.first_bad.Goals as goal
 
@@ -17,6 +17,6 @@ pub things-preserved : goal.things-preserved
 things-preserved c =
     let takes = front_takes _ _ _ c.front_at-front.ensures (sym c.stands.ensures ∙ c.if-not-stands.false) in (
       c.things.invariant.0
-          ∙ ap (λ (r : Reading). r.bad) (next_reading _ _ _ _ _ _ _ c.front_at-front.ensures c.stands.ensures c.if-not-stands.false c.size-size.ensures c.split_at.ensures.back),
+          ∙ ap (λ (r : TextReading). r.bad) (next_reading _ _ _ _ _ _ _ c.front_at-front.ensures c.stands.ensures c.if-not-stands.false c.size-size.ensures c.split_at.ensures.back),
       omega (arith, takes, c.size-size.ensures, c.split_at.ensures.back_len, c.things.invariant.1),
     )

@@ -1,11 +1,11 @@
 -- What an operator asked for is tested last.
 use Rattle.std.proofs.Common.{◌≡◌, ◌∙◌, false, length, sym, ap, subst}
-use Rattle.smi_entry.specs.declared.entry.Sender.TheVariants.{Operator}
-use Rattle.smi_entry.specs.declared.entry.Entry.TheVariants.{Start}
-use Rattle.smi_entry.specs.Requests.{from_sender}
-use Rattle.smi_entry.specs.Words.{is_killed, is_open, starts_at}
+use Rattle.smi_journal_entries.specs.declared.entry.Sender.TheVariants.{Operator}
+use Rattle.smi_journal_entries.specs.declared.entry.Entry.TheVariants.{Start}
+use Rattle.smi_journal_entries.specs.Requests.{from_sender}
+use Rattle.smi_journal_entries.specs.Words.{is_killed, is_open, starts_at}
 use Rattle.smi_meaning.specs.Legal.{MayFollow}
-use Rattle.smi_rules.specs.declared.rule.Rule.TheVariants as rule
+use Rattle.smi_audit_rules.specs.declared.rule.Rule.TheVariants as rule
 use Rattle.smi_audit.specs.Judges.{BreaksOwn}
 use Rattle.smi_audit.proofs.Broken.{start_bad, start_good, failed, passed}
 use Rattle.smi_audit.proofs.judge.Judge.broken_by_start.Goals as goal

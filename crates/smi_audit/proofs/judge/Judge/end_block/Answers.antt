@@ -1,7 +1,7 @@
 -- A block ends as its track does.
 use Rattle.std.proofs.Common.{◌≡◌, refl, ◌∙◌, ◌++◌, ◌∷◌, [], ap, sym, subst}
-use Rattle.smi_entry.specs.declared.entry.ActionEnd.TheVariants.{State}
-use Rattle.smi_entry.specs.declared.entry.Entry.TheVariants.{End}
+use Rattle.smi_journal_entries.specs.declared.entry.ActionEnd.TheVariants.{State}
+use Rattle.smi_journal_entries.specs.declared.entry.Entry.TheVariants.{End}
 use Rattle.smi_meaning.specs.Legal.{MayFollow}
 use Rattle.smi_audit.specs.Tracks.{track_at}
 use Rattle.smi_audit.proofs.Broken.{end_not_meant, end_good, block_state}

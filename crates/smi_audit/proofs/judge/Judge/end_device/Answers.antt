@@ -2,8 +2,8 @@
 use Rattle.std.proofs.Common.{◌≡◌, ◌∙◌, true, refl, sym, ap, ◌++◌, ◌∷◌, [], subst}
 use Rattle.std.specs.Prelude.{is_some}
 use Rattle.sml_domain.specs.Lookups.{is_state_of}
-use Rattle.smi_entry.specs.declared.entry.ActionEnd.TheVariants.{State}
-use Rattle.smi_entry.specs.declared.entry.Entry.TheVariants.{End}
+use Rattle.smi_journal_entries.specs.declared.entry.ActionEnd.TheVariants.{State}
+use Rattle.smi_journal_entries.specs.declared.entry.Entry.TheVariants.{End}
 use Rattle.smi_meaning.specs.Legal.{MayFollow}
 use Rattle.smi_meaning.specs.Params.{running_at}
 use Rattle.smi_audit.proofs.Broken.{end_good, device_means, device_state}

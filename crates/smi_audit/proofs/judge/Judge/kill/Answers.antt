@@ -1,7 +1,7 @@
 -- A kill that breaks no rule is added.
 use Rattle.std.proofs.Common.{◌≡◌, ◌∙◌, false, refl, sym, ◌++◌, ◌∷◌, [], ap, subst}
-use Rattle.smi_entry.specs.declared.entry.Entry.TheVariants.{Kill}
-use Rattle.smi_entry.specs.Words.{is_killed}
+use Rattle.smi_journal_entries.specs.declared.entry.Entry.TheVariants.{Kill}
+use Rattle.smi_journal_entries.specs.Words.{is_killed}
 use Rattle.smi_meaning.specs.Legal.{MayFollow}
 use Rattle.smi_audit.proofs.Broken.{kill_good, holds}
 use Rattle.smi_audit.proofs.Adding.{adds, kill_added, never_killed}

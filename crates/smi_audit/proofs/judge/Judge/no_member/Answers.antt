@@ -1,8 +1,8 @@
 -- That a set has no member is what the track shows, in the second format.
 use Rattle.std.proofs.Common.{◌≡◌, ◌∙◌, true, false, refl, sym, ap, ◌++◌, ◌∷◌, [], subst}
-use Rattle.smi_entry.specs.declared.entry.Entry.TheVariants.{NoMember}
-use Rattle.smi_entry.specs.Sets.{Sets, sets_after}
-use Rattle.smi_entry.specs.Words.{Item, HadNone, is_open}
+use Rattle.smi_journal_entries.specs.declared.entry.Entry.TheVariants.{NoMember}
+use Rattle.smi_journal_entries.specs.Sets.{Sets, sets_after}
+use Rattle.smi_journal_entries.specs.Words.{Item, HadNone, is_open}
 use Rattle.smi_meaning.specs.Legal.{MayFollow, ShowsNext}
 use Rattle.smi_audit.specs.Splitting.{is_two}
 use Rattle.smi_audit.specs.Tracks.{track_at}

@@ -1,8 +1,8 @@
 -- A post is one that the track shows.
 use Rattle.std.proofs.Common.{◌≡◌, ◌∙◌, true, refl, sym, ap, ◌++◌, ◌∷◌, [], subst}
-use Rattle.smi_entry.specs.declared.entry.Entry.TheVariants.{Post}
-use Rattle.smi_entry.specs.Sets.{Sets, sets_after}
-use Rattle.smi_entry.specs.Words.{Item, Sent, is_open}
+use Rattle.smi_journal_entries.specs.declared.entry.Entry.TheVariants.{Post}
+use Rattle.smi_journal_entries.specs.Sets.{Sets, sets_after}
+use Rattle.smi_journal_entries.specs.Words.{Item, Sent, is_open}
 use Rattle.smi_meaning.specs.Legal.{MayFollow, ShowsNext}
 use Rattle.smi_audit.specs.Tracks.{track_at}
 use Rattle.smi_audit.proofs.Broken.{post_not_meant, post_good, holds}

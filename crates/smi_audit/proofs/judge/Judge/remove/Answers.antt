@@ -1,7 +1,7 @@
 -- A change of a set is one that the track shows, in the second format.
 use Rattle.std.proofs.Common.{◌≡◌, ◌∙◌, true, false, refl, sym, ◌++◌, ◌∷◌, [], ap, subst}
-use Rattle.smi_entry.specs.declared.entry.Entry.TheVariants.{Remove}
-use Rattle.smi_entry.specs.Words.{Item, Turned, is_open}
+use Rattle.smi_journal_entries.specs.declared.entry.Entry.TheVariants.{Remove}
+use Rattle.smi_journal_entries.specs.Words.{Item, Turned, is_open}
 use Rattle.smi_meaning.specs.Legal.{MayFollow, ShowsNext}
 use Rattle.smi_audit.specs.Splitting.{is_two}
 use Rattle.smi_audit.specs.Tracks.{track_at}

@@ -1,11 +1,11 @@
 -- What is seen is what the track shows.
 use Rattle.std.proofs.Common.{◌≡◌, ◌∙◌, true, refl, sym, ap, subst, ◌++◌, ◌∷◌, []}
 use Rattle.std.specs.List.{list_all}
-use Rattle.smi_entry.specs.declared.entry.Entry.TheVariants.{Seen}
-use Rattle.smi_entry.specs.Sets.{Sets, sets_after}
-use Rattle.smi_entry.specs.Words.{Item, Saw, is_open}
+use Rattle.smi_journal_entries.specs.declared.entry.Entry.TheVariants.{Seen}
+use Rattle.smi_journal_entries.specs.Sets.{Sets, sets_after}
+use Rattle.smi_journal_entries.specs.Words.{Item, Saw, is_open}
 use Rattle.smi_meaning.specs.Legal.{MayFollow, ShowsNext, is_clear_for}
-use Rattle.smi_rules.specs.declared.rule.Rule.TheVariants as rule
+use Rattle.smi_audit_rules.specs.declared.rule.Rule.TheVariants as rule
 use Rattle.smi_audit.specs.Judges.{BreaksOwn}
 use Rattle.smi_audit.specs.Tracks.{track_at}
 use Rattle.smi_audit.proofs.Broken.{seen_not_meant, seen_reading, seen_good, holds, fails}

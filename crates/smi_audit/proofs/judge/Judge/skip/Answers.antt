@@ -1,7 +1,7 @@
 -- What does not run is skipped.
 use Rattle.std.proofs.Common.{◌≡◌, ◌∙◌, None, refl, sym, ◌++◌, ◌∷◌, [], ap, subst}
-use Rattle.smi_entry.specs.declared.entry.ActionEnd.TheVariants.{Skipped}
-use Rattle.smi_entry.specs.declared.entry.Entry.TheVariants.{End}
+use Rattle.smi_journal_entries.specs.declared.entry.ActionEnd.TheVariants.{Skipped}
+use Rattle.smi_journal_entries.specs.declared.entry.Entry.TheVariants.{End}
 use Rattle.smi_meaning.specs.Legal.{MayFollow}
 use Rattle.smi_meaning.specs.Params.{running_at}
 use Rattle.smi_audit.proofs.Broken.{end_good, is_none_run}

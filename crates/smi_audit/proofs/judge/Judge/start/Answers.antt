@@ -1,6 +1,6 @@
 -- What was started is followed.
 use Rattle.std.proofs.Common.{refl, sym, ◌∙◌, ◌++◌, ◌∷◌, [], ap, subst}
-use Rattle.smi_entry.specs.declared.entry.Entry.TheVariants.{Start}
+use Rattle.smi_journal_entries.specs.declared.entry.Entry.TheVariants.{Start}
 use Rattle.smi_audit.proofs.Adding.{adds, start_added_as}
 use Rattle.smi_ledger.specs.Books.{NamesKnown, DiesOnce}
 use Rattle.smi_audit.proofs.judge.Judge.start.Goals as goal

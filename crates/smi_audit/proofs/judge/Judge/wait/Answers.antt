@@ -1,15 +1,15 @@
 -- An object waits for what it reads next, unless all of that is clear.
 use Rattle.std.proofs.Common.{◌≡◌, ◌∙◌, List, true, false, refl, sym, ap, subst, ◌++◌, ◌∷◌, []}
 use Rattle.sml_domain.specs.Domain.{Domain}
-use Rattle.sml_domain.specs.Program.{Asked}
+use Rattle.sml_domain.specs.Program.{Subject}
 use Rattle.sml_domain.specs.Sound.{IsSound}
-use Rattle.smi_entry.specs.declared.entry.Entry.TheVariants.{Wait}
-use Rattle.smi_entry.specs.Sets.{Sets, AreOf, sets_after}
-use Rattle.smi_entry.specs.Words.{is_open}
+use Rattle.smi_journal_entries.specs.declared.entry.Entry.TheVariants.{Wait}
+use Rattle.smi_journal_entries.specs.Sets.{Sets, AreOf, sets_after}
+use Rattle.smi_journal_entries.specs.Words.{is_open}
 use Rattle.smi_meaning.specs.EntryLaws.{are_clear}
 use Rattle.smi_meaning.specs.Legal.{MayFollow}
 use Rattle.smi_interp.specs.Expanded.{objects_by_names}
-use Rattle.smi_audit.specs.Tracks.{track_at, ReadsNext, CannotRead}
+use Rattle.smi_audit.specs.Tracks.{track_at, TrackReadsNext, CannotRead}
 use Rattle.smi_audit.proofs.Broken.{wait_not_meant, wait_clear, differ}
 use Rattle.smi_audit.proofs.Followed.{not_read, is_read, waits_for, reads_there}
 use Rattle.smi_audit.proofs.Tracked.{all_wait}
@@ -18,7 +18,7 @@ use Rattle.smi_ledger.specs.Books.{NamesKnown, DiesOnce}
 use Rattle.smi_audit.proofs.judge.Judge.wait.Goals as goal
 
 -- the objects of names, of what is equal
-named : (d d2 : Domain) (sets sets2 : Sets) (names : List Asked) (objects : List _) → d2 ≡ d → sets2 ≡ sets
+named : (d d2 : Domain) (sets sets2 : Sets) (names : List Subject) (objects : List _) → d2 ≡ d → sets2 ≡ sets
     → objects ≡ objects_by_names d2 sets2 names → objects ≡ objects_by_names d sets names
 named d d2 sets sets2 names objects domain same is =
     is ∙ ap (λ x. objects_by_names x sets2 names) domain ∙ ap (λ x. objects_by_names d x names) same
@@ -42,8 +42,8 @@ all_clear-requires-clause-there c =
     let j = c.args.self.now in
     let d = j.books.domain in
     let J = j.books.journal in
-    let reads : ReadsNext (track_at j.tracks.items c.args.o).follower c.in-Some.names.now =
-    subst (λ l. ReadsNext (track_at l c.args.o).follower c.in-Some.names.now) c.deref.ensures.value
+    let reads : TrackReadsNext (track_at j.tracks.items c.args.o).follower c.in-Some.names.now =
+    subst (λ l. TrackReadsNext (track_at l c.args.o).follower c.in-Some.names.now) c.deref.ensures.value
     c.in-Some.ensures.some in
     let sound : IsSound d = subst IsSound c.domain.ensures c.objects-sound.ensures.sound in
     let are : AreOf d (sets_after d J) = subst (AreOf d) c.sets-sets.ensures.is c.sets-sets.ensures.are in
@@ -62,8 +62,8 @@ returns-then-all_clear c =
     let t = track_at j.tracks.items c.args.o in
     let own = track_of j c.args.o c.requires.within c.requires.kept in
     let opened : is_open c.args.o J ≡ true = sym c.is_open.ensures ∙ c.if-not-is_open.false in
-    let reads : ReadsNext t.follower c.in-Some.names.now =
-    subst (λ l. ReadsNext (track_at l c.args.o).follower c.in-Some.names.now) c.deref.ensures.value
+    let reads : TrackReadsNext t.follower c.in-Some.names.now =
+    subst (λ l. TrackReadsNext (track_at l c.args.o).follower c.in-Some.names.now) c.deref.ensures.value
     c.in-Some.ensures.some in
     let by : c.deref-2.result.now ≡ objects_by_names d (sets_after d J) c.in-Some.names.now =
     c.deref-2.ensures.value ∙ named d _ (sets_after d J) _ c.in-Some.names.now c.in_ok-objects.objects.items
@@ -81,8 +81,8 @@ returns c =
     let d = j.books.domain in
     let J = j.books.journal in
     let t = track_at j.tracks.items c.args.o in
-    let reads : ReadsNext t.follower c.in-Some.names.now =
-    subst (λ l. ReadsNext (track_at l c.args.o).follower c.in-Some.names.now) c.deref.ensures.value
+    let reads : TrackReadsNext t.follower c.in-Some.names.now =
+    subst (λ l. TrackReadsNext (track_at l c.args.o).follower c.in-Some.names.now) c.deref.ensures.value
     c.in-Some.ensures.some in
     let by : c.deref-2.result.now ≡ objects_by_names d (sets_after d J) c.in-Some.names.now =
     c.deref-2.ensures.value ∙ named d _ (sets_after d J) _ c.in-Some.names.now c.in_ok-objects.objects.items

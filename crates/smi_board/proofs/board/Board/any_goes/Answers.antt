@@ -1,4 +1,4 @@
--- Where no candidate can go on, none can.
+-- Where no candidate can continue, none can.
 use Rattle.std.proofs.Common.{arith, ◌∙◌, refl, subst, sym}
 use Rattle.std.proofs.lemmas.Bool.{true≢false}
 use Rattle.smi_board.specs.Boards.{BoardView}

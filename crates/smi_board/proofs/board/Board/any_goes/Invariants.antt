@@ -1,4 +1,4 @@
--- Of none before the turn's a task can go on.
+-- Of none before the turn's a task can continue.
 use Rattle.std.proofs.Common.{◌≡◌, ◌<◌, ℕ, false, length}
 use Rattle.smi_board.specs.Boards.{kept_at}
 use Rattle.smi_board.specs.Turns.{can_go_on}

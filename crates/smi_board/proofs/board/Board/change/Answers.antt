@@ -3,15 +3,15 @@ use Rattle.std.proofs.Common.{◌≡◌, ◌<◌, ◌++◌, ◌∷◌, ◌∙◌
 use Rattle.std.specs.Arc.{arc_value}
 use Rattle.sml_domain.specs.Domain.{Domain}
 use Rattle.sml_domain.specs.Sound.{IsSound}
-use Rattle.smi_entry.specs.declared.entry.Entry.TheVariants.{Insert, Remove}
+use Rattle.smi_journal_entries.specs.declared.entry.Entry.TheVariants.{Insert, Remove}
 use Rattle.smi_ledger.specs.Views.{LedgerView}
 use Rattle.smi_interp.specs.Turn.{TurnView}
 use Rattle.smi_board.specs.Boards.{BoardView}
-use Rattle.smi_board.specs.Contacts.{change_entry}
 use Rattle.smi_board.specs.Turns.{IsOut}
 use Rattle.smi_board.proofs.Changed.{keeps_changed, member_there}
 use Rattle.smi_board.proofs.Held.{placed_changed}
 use Rattle.smi_board.proofs.board.Board.change.Goals as goal
+use Rattle.smi_journal_entries.specs.Words.{change_entry}
 
 pub free_all-requires-clause-within : goal.free_all-requires-clause-within
 free_all-requires-clause-within g c =

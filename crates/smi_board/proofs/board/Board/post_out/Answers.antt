@@ -4,15 +4,15 @@ use Rattle.std.specs.Arc.{arc_value}
 use Rattle.sml_domain.specs.Domain.{Domain}
 use Rattle.sml_domain.specs.Sound.{IsSound}
 use Rattle.sml_domain.specs.Trees.{target}
-use Rattle.smi_entry.specs.Sets.{AreOf, sets_after}
-use Rattle.smi_entry.specs.declared.entry.Sender.TheVariants.{Object}
-use Rattle.smi_entry.specs.declared.entry.Verdict.{Verdict}
+use Rattle.smi_journal_entries.specs.Sets.{AreOf, sets_after}
+use Rattle.smi_journal_entries.specs.declared.entry.Sender.TheVariants.{Object}
+use Rattle.smi_journal_entries.specs.declared.entry.Verdict.{Verdict}
 use Rattle.smi_meaning.specs.Items.{Post}
 use Rattle.smi_interp.specs.Turn.{TurnView}
 use Rattle.smi_interp.specs.Expanded.{Send}
 use Rattle.smi_interp.specs.Task.{LeftAsks, with_verdicts}
 use Rattle.smi_board.specs.Boards.{BoardView, IsTied}
-use Rattle.smi_board.specs.Posting.{AreApart, AreJudged, IsPostable, Lists, ParcelView, parcel_of, post_in}
+use Rattle.smi_board.specs.Posting.{AreApart, AreJudged, IsPostable, Lists, ParcelView, parcel_of, post_of_parcel}
 use Rattle.smi_board.specs.Rings.{RingView}
 use Rattle.smi_board.specs.Turns.{IsOut}
 use Rattle.smi_board.proofs.Sent.{judged_long, keeps_sent, parcels_are, parcels_by, parcels_sent_by, posts_of_parcels, sendable_at, targets_there, wants_verdicts}
@@ -108,7 +108,7 @@ post_all-verdicts-requires-clause-apart g c =
     let are : AreOf d (sets_after d i.ledger.journal) = subst (λ x. AreOf x (sets_after x i.ledger.journal)) c.self.invariant.3 (subst (AreOf i.ledger.domain) c.sets-sets.ensures.is c.sets-sets.ensures.are) in
     let can = sendable_at d t i.ledger.journal i.params.items i.kept.items _ _ _ to posts same are sound c.self.invariant.0 c.self.invariant.1 c.self.invariant.2 within out asks in
     let items : c.in-Ok.sending.list.items ≡ map (parcel_of c.turn.result.now.object c.args.by) posts = c.in-Ok.ensures.list in
-    subst AreApart (sym (ap (map post_in) items ∙ posts_of_parcels c.turn.result.now.object c.args.by posts)) can.apart
+    subst AreApart (sym (ap (map post_of_parcel) items ∙ posts_of_parcels c.turn.result.now.object c.args.by posts)) can.apart
 
 pub post_all-verdicts-requires-clause-ready : goal.post_all-verdicts-requires-clause-ready
 post_all-verdicts-requires-clause-ready g c =
@@ -136,12 +136,12 @@ sent-requires-clause-waits g c =
     let after : Lists = record { taken = g.M.Mail.taken c.post_all-verdicts.new.mail; sent = g.M.Mail.sent c.post_all-verdicts.new.mail; waiting = g.M.Mail.waiting c.post_all-verdicts.new.mail; capacity = g.M.Mail.capacity c.post_all-verdicts.new.mail } in
     let J2 = c.post_all-verdicts.new.ledger.journal in
     let vs = c.post_all-verdicts.result.items in
-    let one : AreJudged o before c.make_sending.new.ledger.journal (map post_in c.in-Ok.sending.list.items) vs after J2 =
-    subst (λ m. AreJudged o m c.make_sending.new.ledger.journal (map post_in c.in-Ok.sending.list.items) vs after J2) c.in-Ok.ensures.lists c.post_all-verdicts.ensures.judged in
+    let one : AreJudged o before c.make_sending.new.ledger.journal (map post_of_parcel c.in-Ok.sending.list.items) vs after J2 =
+    subst (λ m. AreJudged o m c.make_sending.new.ledger.journal (map post_of_parcel c.in-Ok.sending.list.items) vs after J2) c.in-Ok.ensures.lists c.post_all-verdicts.ensures.judged in
     let judged : AreJudged t.turn.object before i.ledger.journal posts vs after J2 =
     subst (λ x. AreJudged x before i.ledger.journal posts vs after J2) at
-    (subst (λ ps. AreJudged o before i.ledger.journal ps vs after J2) (ap (map post_in) items ∙ posts_of_parcels o c.args.by posts)
-    (subst (λ K. AreJudged o before K (map post_in c.in-Ok.sending.list.items) vs after J2) c.in-Ok.ensures.journal one)) in
+    (subst (λ ps. AreJudged o before i.ledger.journal ps vs after J2) (ap (map post_of_parcel) items ∙ posts_of_parcels o c.args.by posts)
+    (subst (λ K. AreJudged o before K (map post_of_parcel c.in-Ok.sending.list.items) vs after J2) c.in-Ok.ensures.journal one)) in
     let long : length c.deref-2.result.now ≡ length posts = ap length c.deref-2.ensures.value ∙ judged_long t.turn.object before after i.ledger.journal J2 posts vs judged in
     wants_verdicts t.domain c.args.by to posts (length c.deref-2.result.now) t.pending c.requires.waits long
 
@@ -165,12 +165,12 @@ invariant_of-self-2 g c =
     let after : Lists = record { taken = g.M.Mail.taken c.post_all-verdicts.new.mail; sent = g.M.Mail.sent c.post_all-verdicts.new.mail; waiting = g.M.Mail.waiting c.post_all-verdicts.new.mail; capacity = g.M.Mail.capacity c.post_all-verdicts.new.mail } in
     let J2 = c.post_all-verdicts.new.ledger.journal in
     let vs = c.post_all-verdicts.result.items in
-    let one : AreJudged o before c.make_sending.new.ledger.journal (map post_in c.in-Ok.sending.list.items) vs after J2 =
-    subst (λ m. AreJudged o m c.make_sending.new.ledger.journal (map post_in c.in-Ok.sending.list.items) vs after J2) c.in-Ok.ensures.lists c.post_all-verdicts.ensures.judged in
+    let one : AreJudged o before c.make_sending.new.ledger.journal (map post_of_parcel c.in-Ok.sending.list.items) vs after J2 =
+    subst (λ m. AreJudged o m c.make_sending.new.ledger.journal (map post_of_parcel c.in-Ok.sending.list.items) vs after J2) c.in-Ok.ensures.lists c.post_all-verdicts.ensures.judged in
     let judged : AreJudged t.turn.object before i.ledger.journal posts vs after J2 =
     subst (λ x. AreJudged x before i.ledger.journal posts vs after J2) at
-    (subst (λ ps. AreJudged o before i.ledger.journal ps vs after J2) (ap (map post_in) items ∙ posts_of_parcels o c.args.by posts)
-    (subst (λ K. AreJudged o before K (map post_in c.in-Ok.sending.list.items) vs after J2) c.in-Ok.ensures.journal one)) in
+    (subst (λ ps. AreJudged o before i.ledger.journal ps vs after J2) (ap (map post_of_parcel) items ∙ posts_of_parcels o c.args.by posts)
+    (subst (λ K. AreJudged o before K (map post_of_parcel c.in-Ok.sending.list.items) vs after J2) c.in-Ok.ensures.journal one)) in
     let alike = c.post_all-verdicts.ensures.serves ∙ c.in-Ok.ensures.serves in
     let keeps = keeps_sent d t i.ledger.journal J2 i.params.items i.kept.items (g.M.Mail.serves i.mail) before after to posts vs same c.requires.some c.self.invariant.0 c.self.invariant.1 c.self.invariant.2 within out asks judged in (
       subst (λ f. IsTied d J2 i.params.items f after.taken after.sent) (sym alike) keeps.tied,
@@ -204,12 +204,12 @@ returns-clause-sent g c =
     let after : Lists = record { taken = g.M.Mail.taken c.post_all-verdicts.new.mail; sent = g.M.Mail.sent c.post_all-verdicts.new.mail; waiting = g.M.Mail.waiting c.post_all-verdicts.new.mail; capacity = g.M.Mail.capacity c.post_all-verdicts.new.mail } in
     let J2 = c.post_all-verdicts.new.ledger.journal in
     let vs = c.post_all-verdicts.result.items in
-    let one : AreJudged o before c.make_sending.new.ledger.journal (map post_in c.in-Ok.sending.list.items) vs after J2 =
-    subst (λ m. AreJudged o m c.make_sending.new.ledger.journal (map post_in c.in-Ok.sending.list.items) vs after J2) c.in-Ok.ensures.lists c.post_all-verdicts.ensures.judged in
+    let one : AreJudged o before c.make_sending.new.ledger.journal (map post_of_parcel c.in-Ok.sending.list.items) vs after J2 =
+    subst (λ m. AreJudged o m c.make_sending.new.ledger.journal (map post_of_parcel c.in-Ok.sending.list.items) vs after J2) c.in-Ok.ensures.lists c.post_all-verdicts.ensures.judged in
     let judged : AreJudged t.turn.object before i.ledger.journal posts vs after J2 =
     subst (λ x. AreJudged x before i.ledger.journal posts vs after J2) at
-    (subst (λ ps. AreJudged o before i.ledger.journal ps vs after J2) (ap (map post_in) items ∙ posts_of_parcels o c.args.by posts)
-    (subst (λ K. AreJudged o before K (map post_in c.in-Ok.sending.list.items) vs after J2) c.in-Ok.ensures.journal one)) in
+    (subst (λ ps. AreJudged o before i.ledger.journal ps vs after J2) (ap (map post_of_parcel) items ∙ posts_of_parcels o c.args.by posts)
+    (subst (λ K. AreJudged o before K (map post_of_parcel c.in-Ok.sending.list.items) vs after J2) c.in-Ok.ensures.journal one)) in
     subst (λ (b : BoardView _). (ws : List Verdict) × (c.sent.new.self ≡ with_verdicts t ws c.args.by) × AreJudged t.turn.object
     (record { taken = g.M.Mail.taken b.mail; sent = g.M.Mail.sent b.mail; waiting = g.M.Mail.waiting b.mail; capacity = g.M.Mail.capacity b.mail }) b.journal posts ws after J2) c.self.view_is
     (vs, c.sent.ensures ∙ ap (λ ws. with_verdicts t ws c.args.by) c.deref-2.ensures.value, judged)

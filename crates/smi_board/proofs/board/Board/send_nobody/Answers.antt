@@ -3,8 +3,8 @@ use Rattle.std.proofs.Common.{◌≡◌, ◌<◌, ◌++◌, ◌∷◌, ◌∙◌
 use Rattle.std.specs.Arc.{arc_value}
 use Rattle.sml_domain.specs.Program.{ToMembers}
 use Rattle.sml_domain.specs.Trees.{target}
-use Rattle.smi_entry.specs.Sets.{sets_after}
-use Rattle.smi_entry.specs.declared.entry.Entry.TheVariants.{NoMember}
+use Rattle.smi_journal_entries.specs.Sets.{sets_after}
+use Rattle.smi_journal_entries.specs.declared.entry.Entry.TheVariants.{NoMember}
 use Rattle.smi_ledger.specs.Views.{LedgerView}
 use Rattle.smi_interp.specs.Expanded.{Send}
 use Rattle.smi_interp.specs.Task.{LeftAsks}

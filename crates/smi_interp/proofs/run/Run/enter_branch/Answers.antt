@@ -1,11 +1,11 @@
--- The branch that was picked, and what stands behind it, are left.
+-- The branch that was picked, and what is behind it, are left.
 use Rattle.std.proofs.Common.{◌≡◌, ◌-◌, ◌∙◌, ap, length, subst, sym, map}
 use Rattle.std.specs.List.{slice_get}
 use Rattle.std.specs.Arc.{arc_value}
 use Rattle.sml_domain.specs.Program.{Nothing}
 use Rattle.smi_meaning.specs.Steps.{Leads, with_rest}
 use Rattle.smi_interp.specs.declared.turn.Move.TheVariants as made
-use Rattle.smi_entry.specs.Sets.{members_in}
+use Rattle.smi_journal_entries.specs.Sets.{members_in}
 use Rattle.smi_interp.specs.Expanded.{objects_by_names}
 use Rattle.smi_interp.specs.Turn.{move_of, readings_of}
 use Rattle.smi_interp.specs.Cursor.{left_in, later_of, Follows, Picks, PicksLast}

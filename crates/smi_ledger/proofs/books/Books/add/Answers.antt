@@ -3,8 +3,8 @@ use Rattle.std.specs.Arc.{arc_value}
 use Rattle.std.proofs.Common.{◌≡◌, ◌∙◌, ◌<◌, Some, sym, ap, refl, arith}
 use Rattle.std.specs.Prelude.{option_map}
 use Rattle.sml_domain.specs.Lookups.{class_at, dead_state}
-use Rattle.smi_entry.specs.Journals.{most_entries}
-use Rattle.smi_entry.specs.Sets.{sets_next}
+use Rattle.smi_journal_entries.specs.Journals.{most_entries}
+use Rattle.smi_journal_entries.specs.Sets.{sets_next}
 use Rattle.smi_ledger.specs.Books.{changed_or}
 use Rattle.smi_ledger.proofs.First.{dead_is}
 use Rattle.smi_ledger.proofs.Booked.{ready, ready_takes, ready_left, entered}

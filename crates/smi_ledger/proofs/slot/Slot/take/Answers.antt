@@ -1,5 +1,5 @@
 use Rattle.std.proofs.Common.{◌∙◌, ap, sym}
-use Rattle.smi_entry.specs.declared.entry.Entry.TheVariants.{Start, Post, Seen, NoMember}
+use Rattle.smi_journal_entries.specs.declared.entry.Entry.TheVariants.{Start, Post, Seen, NoMember}
 use Rattle.smi_ledger.specs.Slots.{slot_by}
 use Rattle.smi_ledger.proofs.slot.Slot.take.Goals as goal
 

@@ -1,0 +1,5 @@
+use Rattle.bench.proofs.runs.time_posts.Goals as goal
+
+-- nothing was sent by ends that were just made
+pub open-requires-clause-unused : goal.open-requires-clause-unused
+open-requires-clause-unused g c κs within k e at = (c.in-Ok.ensures.ends k e at).1

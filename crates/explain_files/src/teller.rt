@@ -1,0 +1,86 @@
+//! The parts of a sentence.
+
+use explain_places::{place_of, tell_place, tell_quoted, tell_spot};
+use sml_text::{Sink, tell, tell_u64};
+use sml_tree::Name;
+
+// How many bytes of a token are shown.
+const SHOWN: usize = 64;
+
+/// Writes sentences about a text.
+pub(crate) struct Teller<'t, W: Sink> {
+    pub file: &'t str,
+    pub text: &'t [u8],
+    pub writer: &'t mut W,
+    pub failed: &'t mut bool,
+}
+
+impl<W: Sink> Drop for Teller<'_, W> {
+    fn drop(self) {
+        let Teller {
+            file: _,
+            text: _,
+            writer: _,
+            failed: _,
+        } = self;
+    }
+}
+
+impl<'t, W: Sink> Teller<'t, W> {
+    /// Writes words as they are.
+    pub(crate) fn say(&mut self, words: &[u8]) {
+        tell(&mut *self.writer, &mut *self.failed, words);
+    }
+
+    /// Writes a number.
+    pub(crate) fn number(&mut self, number: u64) {
+        tell_u64(&mut *self.writer, &mut *self.failed, number);
+    }
+
+    /// Writes a name.
+    pub(crate) fn name(&mut self, name: &Name) {
+        self.say(name.as_bytes());
+    }
+
+    /// Writes the word that a name spells, in small letters.
+    pub(crate) fn word(&mut self, name: &Name) {
+        for b in name.as_bytes() {
+            self.say(&[b.to_ascii_lowercase()]);
+        }
+    }
+
+    /// Writes bytes of the text between marks, a long piece cut short.
+    pub(crate) fn quoted(&mut self, bytes: &[u8]) {
+        self.say(b"`");
+        self.say(bytes.split_at(bytes.len().min(SHOWN)).0);
+        if bytes.len() > SHOWN {
+            self.say(b"..");
+        }
+        self.say(b"`");
+    }
+
+    /// Writes the line and the column of a place.
+    pub(crate) fn spot(&mut self, offset: usize) {
+        tell_spot(
+            &mut *self.writer,
+            &mut *self.failed,
+            place_of(self.text, offset),
+        );
+    }
+
+    /// Writes the file and the place in front of a sentence.
+    pub(crate) fn begin(&mut self, offset: usize) {
+        tell_place(
+            &mut *self.writer,
+            &mut *self.failed,
+            self.file,
+            place_of(self.text, offset),
+        );
+    }
+
+    /// Ends a sentence, and shows the line of the place below it.
+    pub(crate) fn end(&mut self, offset: usize) {
+        self.say(b"\n");
+        tell_quoted(&mut *self.writer, &mut *self.failed, self.text, offset);
+    }
+}

@@ -1,0 +1,191 @@
+//! The explanation of a line.
+ghost use Rattle.std.specs.Prelude.{◌+◌, ◌<◌, ◌^◌, All, IfSome, length};
+ghost use Rattle.std.specs.Arc.{arc_value};
+ghost use Rattle.smi_journal.specs.HasText.{HasText};
+
+use crate::earlier::{Earlier, is_fault_without_device, last, last_owner, owner, post_of};
+use crate::next::{Next, next_of};
+use crate::sentence::{first_busy, first_misread, tell_sentence};
+use smi_audit::{Past, PastError, Rule};
+use smi_journal::{Entry, Format, Sender, Verdict, tell_lines};
+use sml_domain::{Domain, ObjId};
+use sml_text::{Sink, tell, tell_u64};
+use std::alloc::{AllocError, Global};
+use std::sync::Arc;
+
+// Writes the line of a journal that has the entry of a place, with its number in front.
+fn tell_numbered<W: Sink>(
+    writer: &mut W,
+    failed: &mut bool,
+    domain: &Domain,
+    entries: &[Entry],
+    place: usize,
+) {
+    if place < entries.len() {
+        tell(writer, failed, b"line ");
+        tell_u64(writer, failed, (place as u64).saturating_add(2));
+        tell(writer, failed, b": ");
+        tell_lines(writer, failed, domain, &entries[place..place + 1]);
+    }
+}
+
+// What an object sent to another and has not ended: what is open there, or else the first post not started.
+fn busy_since(past: &Past, o: ObjId, busy: ObjId) -> Option<usize> {
+    let books = past.books();
+    if !books.domain().has(o) || !books.domain().has(busy) {
+        return None;
+    }
+    if books.is_open(busy) {
+        return last(past.entries(), Earlier::Start(busy));
+    }
+    let started = books.started(&Sender::Object(o), busy);
+    post_of(past.entries(), o, busy, started as u64)
+}
+
+// The earlier entry that a number follows.
+fn counted_from(past: &Past, entry: &Entry) -> Option<usize> {
+    let entries = past.entries();
+    match entry {
+        Entry::Start { object, sender, .. } => last(entries, Earlier::StartOf(*sender, *object)),
+        Entry::Post { sender, target, .. } => last(entries, Earlier::Post(*sender, *target)),
+        _ => None,
+    }
+}
+
+// The earlier entry of a request that was sent under the number of a start.
+fn sent_as(past: &Past, entry: &Entry) -> Option<usize> {
+    match entry {
+        Entry::Start {
+            object,
+            sender: Sender::Object(a),
+            number,
+            ..
+        } => post_of(past.entries(), *a, *object, *number),
+        _ => None,
+    }
+}
+
+// The earlier kill of the target of a post.
+fn target_killed(past: &Past, entry: &Entry) -> Option<usize> {
+    match entry {
+        Entry::Post {
+            target,
+            verdict: Verdict::Accepted(_) | Verdict::Full,
+            ..
+        } => last(past.entries(), Earlier::Kill(*target)),
+        _ => None,
+    }
+}
+
+// The earlier entry for which an object that was read is busy, or which gave it another state.
+fn read_against(past: &Past, entry: &Entry, is_busy: bool) -> Option<usize> {
+    let Entry::Seen { object, readings } = entry else {
+        return None;
+    };
+    if is_busy {
+        let busy = first_busy(past, *object, readings.list())?;
+        busy_since(past, *object, busy)
+    } else {
+        let misread = first_misread(past, readings.list())?;
+        last(past.entries(), Earlier::State(misread))
+    }
+}
+
+// The earlier entry behind which nothing is open at the object of an entry.
+fn closed_by(past: &Past, entry: &Entry) -> Option<usize> {
+    let books = past.books();
+    if is_fault_without_device(books.domain(), entry) {
+        None
+    } else {
+        last(past.entries(), Earlier::Closed(owner(entry)))
+    }
+}
+
+// What the action does next that continues in place of an entry: that of its object, or the one whose posts it splits.
+fn next_in_place(
+    alloc: Global,
+    past: &Past,
+    entry: &Entry,
+    rule: Rule,
+) -> Result<Option<Next>, AllocError> {
+    match rule {
+        Rule::Meaning => next_of(alloc, past, owner(entry)),
+        Rule::Split => match last_owner(past.entries()) {
+            Some(o) => next_of(alloc, past, o),
+            None => Ok(None),
+        },
+        _ => Ok(None),
+    }
+}
+
+// The earlier entry that an entry contradicts which breaks a rule.
+fn rests_on(past: &Past, entry: &Entry, rule: Rule) -> Option<usize> {
+    let entries = past.entries();
+    let o = owner(entry);
+    match rule {
+        // The last post of the send is right before.
+        Rule::Split => entries.len().checked_sub(1),
+        Rule::Killed => last(entries, Earlier::Kill(o)),
+        Rule::Open | Rule::Meaning | Rule::Clear | Rule::NotAState => {
+            last(entries, Earlier::Start(o))
+        }
+        Rule::Number => counted_from(past, entry),
+        Rule::NotSent => sent_as(past, entry),
+        Rule::BadRequest => None,
+        Rule::NotOpen => closed_by(past, entry),
+        Rule::Dead => target_killed(past, entry),
+        Rule::Busy => read_against(past, entry, true),
+        Rule::Reading => read_against(past, entry, false),
+    }
+}
+
+// The place of the entry in a line of a journal. The first line is the header.
+fn place_of(line: u64, entries: &[Entry]) -> Option<usize>
+    ensures { IfSome result (λ place. place < length entries.now) }
+{
+    let place = line.checked_sub(2)? as usize;
+    if place < entries.len() {
+        Some(place)
+    } else {
+        None
+    }
+}
+
+/// Explains why a line of a journal is not legal. Writes its text, one sentence, and the earlier line that this
+/// rests on, if there is one. Line and rule are those of a `Judgement` of these entries as a journal of the format.
+/// Nothing is written if the line has no entry, or if a line before it is not legal.
+///
+/// It is text for people, and no part of a format. What is written is not promised, and only tests hold it. The
+/// time and the memory are those of judging the entries before the line.
+pub fn explain<W: Sink>(
+    alloc: Global,
+    format: Format,
+    domain: Arc<Domain>,
+    entries: &[Entry],
+    line: u64,
+    rule: Rule,
+    writer: &mut W,
+    failed: &mut bool,
+) -> Result<(), AllocError>
+    requires texts { All (HasText (arc_value domain)) entries.now }
+    requires few { length entries.now + 2 < 2 ^ 64 }
+{
+    let Some(place) = place_of(line, entries) else {
+        return Ok(());
+    };
+    let (before, rest) = entries.split_at(place);
+    let past = match Past::of(alloc, format, domain, before) {
+        Ok(past) => past,
+        Err(PastError::Illegal { .. }) => return Ok(()),
+        Err(PastError::Memory) => return Err(AllocError),
+    };
+    let entry = &rest[0];
+    let next = next_in_place(alloc, &past, entry, rule)?;
+    tell_numbered(writer, failed, past.books().domain(), entries, place);
+    tell_sentence(writer, failed, &past, entry, rule, &next);
+    tell(writer, failed, b".\n");
+    if let Some(earlier) = rests_on(&past, entry, rule) {
+        tell_numbered(writer, failed, past.books().domain(), entries, earlier);
+    }
+    Ok(())
+}

@@ -1,0 +1,11 @@
+//! Explains an illegal line of a journal in one sentence, with its text and the earlier line that it contradicts.
+//! Nothing here decides anything: the judge does.
+#![tactic(auto)]
+
+mod bad_request;
+mod earlier;
+mod explaining;
+mod next;
+mod sentence;
+
+pub use explaining::explain;

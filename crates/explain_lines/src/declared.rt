@@ -1,0 +1,215 @@
+//! What a domain declares, and what it does not: the names that may have been meant.
+
+use crate::words::{NameList, tell_meant, tell_name};
+use explain_places::Nearest;
+use sml_domain::{ActionId, Class, Domain, ObjId, StateId};
+use sml_text::{Sink, tell};
+use sml_tree::Name;
+
+/// The class of an object.
+pub(crate) fn class_at(domain: &Domain, o: ObjId) -> Option<&Class> {
+    if domain.has(o) {
+        domain.classes().get(domain.class_of(o).get())
+    } else {
+        None
+    }
+}
+
+/// Writes the name of an object.
+pub(crate) fn tell_object<W: Sink>(writer: &mut W, failed: &mut bool, domain: &Domain, o: ObjId) {
+    if let Some(name) = domain.object_name(o) {
+        tell_name(writer, failed, &name);
+    }
+}
+
+/// Writes the name of an action.
+pub(crate) fn tell_action<W: Sink>(
+    writer: &mut W,
+    failed: &mut bool,
+    domain: &Domain,
+    action: ActionId,
+) {
+    if let Some(name) = domain.action_name(action) {
+        tell_name(writer, failed, &name);
+    }
+}
+
+/// Writes that no object has a name, and which may have been meant.
+pub(crate) fn tell_no_object<W: Sink>(
+    writer: &mut W,
+    failed: &mut bool,
+    domain: &Domain,
+    name: &Name,
+) {
+    if domain.set(name).is_some() {
+        tell_name(writer, failed, name);
+        tell(writer, failed, b" is a set, and a line is for one object");
+        return;
+    }
+    if domain.class(name).is_some() {
+        tell_name(writer, failed, name);
+        tell(writer, failed, b" is a class, and a line is for one object");
+        return;
+    }
+    tell(writer, failed, b"no object has the name ");
+    tell_name(writer, failed, name);
+    let mut nearest = Nearest::new(name);
+    for o in 0..domain.objects() {
+        if let Some(object) = domain.object_name(ObjId::new(o)) {
+            nearest.offer(&object);
+        }
+    }
+    tell_meant(writer, failed, &nearest);
+}
+
+/// Writes that no class has an action, and which may have been meant.
+pub(crate) fn tell_no_action<W: Sink>(
+    writer: &mut W,
+    failed: &mut bool,
+    domain: &Domain,
+    name: &Name,
+) {
+    tell(writer, failed, b"no class declares an action ");
+    tell_name(writer, failed, name);
+    let mut nearest = Nearest::new(name);
+    for class in domain.classes() {
+        offer_actions(&mut nearest, domain, class);
+    }
+    tell_meant(writer, failed, &nearest);
+}
+
+/// Writes that no class has a state, and which may have been meant.
+pub(crate) fn tell_no_state<W: Sink>(
+    writer: &mut W,
+    failed: &mut bool,
+    domain: &Domain,
+    name: &Name,
+) {
+    tell(writer, failed, b"no class has a state ");
+    tell_name(writer, failed, name);
+    let mut nearest = Nearest::new(name);
+    for class in domain.classes() {
+        offer_states(&mut nearest, domain, class);
+    }
+    tell_meant(writer, failed, &nearest);
+}
+
+/// Writes that no set has a name, and which may have been meant.
+pub(crate) fn tell_no_set<W: Sink>(
+    writer: &mut W,
+    failed: &mut bool,
+    domain: &Domain,
+    name: &Name,
+) {
+    if domain.object(name).is_some() {
+        tell_name(writer, failed, name);
+        tell(
+            writer,
+            failed,
+            b" is an object, and a set has to stand there",
+        );
+        return;
+    }
+    tell(writer, failed, b"no set has the name ");
+    tell_name(writer, failed, name);
+    let mut nearest = Nearest::new(name);
+    for group in domain.groups() {
+        nearest.offer(&group.name);
+    }
+    tell_meant(writer, failed, &nearest);
+}
+
+// Offers the actions of a class.
+fn offer_actions(nearest: &mut Nearest, domain: &Domain, class: &Class) {
+    for signature in class.signatures.rows() {
+        if let Some(name) = domain.action_name(signature.action) {
+            nearest.offer(&name);
+        }
+    }
+}
+
+// Offers the states of a class.
+fn offer_states(nearest: &mut Nearest, domain: &Domain, class: &Class) {
+    for state in class.states.rows() {
+        if let Some(name) = domain.state_name(state.number) {
+            nearest.offer(&name);
+        }
+    }
+}
+
+// Writes a class, with its object.
+fn tell_class<W: Sink>(
+    writer: &mut W,
+    failed: &mut bool,
+    domain: &Domain,
+    class: &Class,
+    o: ObjId,
+) {
+    tell(writer, failed, b"class ");
+    tell_name(writer, failed, &class.name);
+    tell(writer, failed, b" (of ");
+    tell_object(writer, failed, domain, o);
+    tell(writer, failed, b")");
+}
+
+// Writes the actions of a class in brackets.
+fn tell_actions<W: Sink>(writer: &mut W, failed: &mut bool, domain: &Domain, class: &Class) {
+    let mut list = NameList::new();
+    for signature in class.signatures.rows() {
+        if let Some(name) = domain.action_name(signature.action) {
+            list.add(writer, failed, &name);
+        }
+    }
+    list.end(writer, failed);
+}
+
+// Writes the states of a class in brackets.
+fn tell_states<W: Sink>(writer: &mut W, failed: &mut bool, domain: &Domain, class: &Class) {
+    let mut list = NameList::new();
+    for state in class.states.rows() {
+        if let Some(name) = domain.state_name(state.number) {
+            list.add(writer, failed, &name);
+        }
+    }
+    list.end(writer, failed);
+}
+
+/// Writes that the class of an object does not declare an action, which it does declare, and which may have been meant.
+pub(crate) fn tell_undeclared<W: Sink>(
+    writer: &mut W,
+    failed: &mut bool,
+    domain: &Domain,
+    o: ObjId,
+    action: &Name,
+) {
+    let Some(class) = class_at(domain, o) else {
+        return;
+    };
+    tell_class(writer, failed, domain, class, o);
+    tell(writer, failed, b" declares no action ");
+    tell_name(writer, failed, action);
+    tell_actions(writer, failed, domain, class);
+    let mut nearest = Nearest::new(action);
+    offer_actions(&mut nearest, domain, class);
+    tell_meant(writer, failed, &nearest);
+}
+
+/// Writes that the class of an object does not have a state, which it has, and which may have been meant.
+pub(crate) fn tell_not_a_state<W: Sink>(
+    writer: &mut W,
+    failed: &mut bool,
+    domain: &Domain,
+    o: ObjId,
+    state: &Name,
+) {
+    let Some(class) = class_at(domain, o) else {
+        return;
+    };
+    tell_class(writer, failed, domain, class, o);
+    tell(writer, failed, b" has no state ");
+    tell_name(writer, failed, state);
+    tell_states(writer, failed, domain, class);
+    let mut nearest = Nearest::new(state);
+    offer_states(&mut nearest, domain, class);
+    tell_meant(writer, failed, &nearest);
+}

@@ -1,0 +1,149 @@
+//! The explanation of the first fault of a line.
+
+use crate::bad_line::LineKind;
+use crate::declared::{tell_no_action, tell_no_object, tell_no_state};
+use crate::fault::{Cause, Fault, Wanted};
+use crate::no_token::tell_no_token;
+use crate::pieces::{from, name_at, part};
+use crate::verb::{Verb, tell_verbs};
+use crate::words::tell_marked;
+use smi_lines::LONGEST_LINE;
+use sml_domain::Domain;
+use sml_text::{Sink, tell, tell_u64};
+use sml_tree::MAX_ARGUMENTS;
+
+const NOT_ASCII: &[u8] = b"only ASCII may stand in a line, in comments too";
+
+const BYTE_ORDER_MARK: &[u8] = b"the text begins with a byte order mark: save it without";
+
+const EMPTY_ARGUMENTS: &[u8] = b"an empty list of arguments: leave the brackets out";
+
+/// Writes the sentence of a fault, without its end.
+pub(crate) fn tell_fault<W: Sink>(
+    writer: &mut W,
+    failed: &mut bool,
+    kind: LineKind,
+    domain: &Domain,
+    line: &[u8],
+    fault: &Fault,
+) {
+    let at = fault.at;
+    match fault.cause {
+        Cause::TooLong | Cause::TooManyArguments => tell_most(writer, failed, fault.cause),
+        Cause::NotAscii => tell_not_ascii(writer, failed, line, at),
+        Cause::NoToken => tell_no_token(writer, failed, line, at),
+        Cause::Comment => tell(writer, failed, b"a comment begins with `!`"),
+        Cause::NoVerb => tell_verbs(writer, failed, kind, line, at),
+        Cause::OtherKind(verb) => tell_other_kind(writer, failed, verb),
+        Cause::Expected { what, behind } => tell_expected(writer, failed, what, behind),
+        Cause::Reserved => tell_reserved(writer, failed, line, at),
+        Cause::LongSession => tell_long_session(writer, failed, line, at),
+        Cause::TooMuch(verb) => tell_too_much(writer, failed, verb),
+        Cause::EmptyArguments => tell(writer, failed, EMPTY_ARGUMENTS),
+        Cause::UnknownObject | Cause::UnknownAction | Cause::UnknownState => {
+            tell_unknown(writer, failed, domain, line, fault);
+        }
+    }
+}
+
+// Writes how much a line has at most.
+fn tell_most<W: Sink>(writer: &mut W, failed: &mut bool, cause: Cause) {
+    let (number, behind): (usize, &[u8]) = match cause {
+        Cause::TooManyArguments => (MAX_ARGUMENTS, b" arguments"),
+        _ => (LONGEST_LINE, b" bytes"),
+    };
+    tell(writer, failed, b"a line has at most ");
+    tell_u64(writer, failed, number as u64);
+    tell(writer, failed, behind);
+}
+
+// Writes that a byte is above 0x7F.
+fn tell_not_ascii<W: Sink>(writer: &mut W, failed: &mut bool, line: &[u8], at: usize) {
+    match from(line, at) {
+        [0xEF, 0xBB, 0xBF, ..] if at == 0 => tell(writer, failed, BYTE_ORDER_MARK),
+        _ => tell(writer, failed, NOT_ASCII),
+    }
+}
+
+// Writes what says the same in the kind of lines that lacks a verb.
+fn tell_other_kind<W: Sink>(writer: &mut W, failed: &mut bool, verb: Verb) {
+    let (text, behind): (&[u8], &[u8]) = match verb {
+        Verb::Device => (
+            b"a schedule",
+            b" lines: `answer OBJECT STATE` is what a device answers",
+        ),
+        Verb::Answer => (
+            b"a script",
+            b" lines: `device OBJECT ACTION STATE` says what a device answers",
+        ),
+        Verb::Fault => (
+            b"a script",
+            b" lines: a device fails at an action for which it has no `device` line",
+        ),
+        Verb::Request | Verb::Start | Verb::Go | Verb::Kill => {
+            (b"a script", b" lines: the workers do that")
+        }
+    };
+    tell(writer, failed, text);
+    tell(writer, failed, b" has no ");
+    tell_marked(writer, failed, verb.word());
+    tell(writer, failed, behind);
+}
+
+// Writes what was expected, and behind what.
+fn tell_expected<W: Sink>(writer: &mut W, failed: &mut bool, what: Wanted, behind: &[u8]) {
+    let words: &[u8] = match what {
+        Wanted::Session => b"a session `@1` to `@8` expected behind ",
+        Wanted::Object => b"the name of an object expected behind ",
+        Wanted::Action => b"the name of an action expected behind ",
+        Wanted::State => b"the name of a state expected behind ",
+        Wanted::Parameter => b"the name of a parameter expected behind ",
+        Wanted::Equals => b"`=` expected behind ",
+        Wanted::Value => b"an int or a string in `\"` expected",
+        Wanted::CommaOrBracket => b"`,` or `)` expected behind ",
+    };
+    tell(writer, failed, words);
+    if what != Wanted::Value {
+        tell_marked(writer, failed, behind);
+    }
+}
+
+// Writes that a word is no name.
+fn tell_reserved<W: Sink>(writer: &mut W, failed: &mut bool, line: &[u8], at: usize) {
+    if let Some(name) = name_at(line, at) {
+        tell_marked(writer, failed, name.as_bytes());
+        tell(writer, failed, b" is a reserved word, and no name");
+    }
+}
+
+// Writes what is directly behind a session.
+fn tell_long_session<W: Sink>(writer: &mut W, failed: &mut bool, line: &[u8], at: usize) {
+    tell_marked(writer, failed, part(line, at, at.saturating_add(1)));
+    tell(writer, failed, b" stands behind the session ");
+    tell_marked(writer, failed, part(line, at.saturating_sub(2), at));
+    tell(writer, failed, b": sessions are @1 to @8");
+}
+
+// Writes the form of a line that has more.
+fn tell_too_much<W: Sink>(writer: &mut W, failed: &mut bool, verb: Verb) {
+    tell(writer, failed, b"nothing more expected: the line is ");
+    tell_marked(writer, failed, verb.form());
+}
+
+// Writes that a domain does not have a name.
+fn tell_unknown<W: Sink>(
+    writer: &mut W,
+    failed: &mut bool,
+    domain: &Domain,
+    line: &[u8],
+    fault: &Fault,
+) {
+    let Some(name) = name_at(line, fault.at) else {
+        return;
+    };
+    match fault.cause {
+        Cause::UnknownAction => tell_no_action(writer, failed, domain, &name),
+        Cause::UnknownState => tell_no_state(writer, failed, domain, &name),
+        _ => tell_no_object(writer, failed, domain, &name),
+    }
+}

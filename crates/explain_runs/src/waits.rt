@@ -1,0 +1,128 @@
+//! Objects that wait for others, and those that wait for one another.
+
+use crate::awaited::{first_awaited, tell_awaited};
+use crate::reasons::{MOST_TOLD, tell_action, tell_bare, tell_line, tell_more};
+use crate::walk::Walk;
+use smi_audit::{Past, PastError};
+use smi_journal::{Entry, read_journal, tell_object, write_journal};
+use sml_domain::{Domain, ObjId};
+use sml_text::{Sink, tell};
+use std::alloc::{AllocError, Global};
+use std::sync::Arc;
+
+// Behind all entries.
+fn walk_all(alloc: Global, domain: &Domain, entries: &[Entry]) -> Result<Walk, AllocError> {
+    let mut walk = Walk::new(alloc, domain)?;
+    for (place, entry) in entries.iter().enumerate() {
+        walk.enter(entry, place);
+    }
+    Ok(walk)
+}
+
+// Whether an action is open that no device performs.
+fn is_any_open(domain: &Domain, walk: &Walk) -> bool {
+    for o in 0..domain.objects() {
+        let o = ObjId::new(o);
+        if walk.opened(o).is_some() && !domain.associated(o) {
+            return true;
+        }
+    }
+    false
+}
+
+// That an object waits, and for whom.
+fn tell_wait<W: Sink>(writer: &mut W, failed: &mut bool, past: &Past, walk: &Walk, o: ObjId) {
+    let Some(opened) = walk.opened(o) else {
+        return;
+    };
+    let domain = past.books().domain();
+    tell_bare(writer, failed, domain.object_name(o));
+    tell(writer, failed, b" waits in");
+    tell_action(writer, failed, domain, past.entries().get(opened));
+    tell_line(writer, failed, opened);
+    tell_awaited(writer, failed, past, b" for", o);
+    tell(writer, failed, b"\n");
+}
+
+// Whether objects wait for one another in a circle, of which this one is the first by its declaration.
+fn heads_circle(past: &Past, o: ObjId) -> bool {
+    let mut at = o;
+    for _ in 0..past.books().domain().objects() {
+        let Some(next) = first_awaited(past, at) else {
+            return false;
+        };
+        if next.get() <= o.get() {
+            return next.get() == o.get();
+        }
+        at = next;
+    }
+    false
+}
+
+// That the objects of a circle wait for one another.
+fn tell_circle<W: Sink>(writer: &mut W, failed: &mut bool, past: &Past, head: ObjId) {
+    let domain = past.books().domain();
+    tell_bare(writer, failed, domain.object_name(head));
+    let mut at = head;
+    for _ in 0..domain.objects() {
+        let Some(next) = first_awaited(past, at) else {
+            break;
+        };
+        tell(writer, failed, b" waits for");
+        tell_object(writer, failed, domain, next);
+        if next.get() == head.get() {
+            break;
+        }
+        tell(writer, failed, b", which");
+        at = next;
+    }
+    tell(writer, failed, b": they wait for one another\n");
+}
+
+// All objects that wait, and then all circles.
+fn tell_all<W: Sink>(writer: &mut W, failed: &mut bool, past: &Past, walk: &Walk) {
+    let objects = past.books().domain().objects();
+    let mut count: u64 = 0;
+    for o in 0..objects {
+        let o = ObjId::new(o);
+        if first_awaited(past, o).is_some() {
+            if count < MOST_TOLD {
+                tell_wait(writer, failed, past, walk, o);
+            }
+            count = count.saturating_add(1);
+        }
+    }
+    tell_more(writer, failed, count, b"objects wait");
+    for o in 0..objects {
+        if heads_circle(past, ObjId::new(o)) {
+            tell_circle(writer, failed, past, ObjId::new(o));
+        }
+    }
+}
+
+/// Writes which objects wait at the end of a journal, and for whom, and which of them wait for one another.
+pub(crate) fn tell_waits<W: Sink>(
+    alloc: Global,
+    domain: &Arc<Domain>,
+    entries: &[Entry],
+    writer: &mut W,
+    failed: &mut bool,
+) -> Result<(), AllocError> {
+    let walk = walk_all(alloc, domain, entries)?;
+    if !is_any_open(domain, &walk) {
+        return Ok(());
+    }
+    let mut text = Vec::new(alloc);
+    if write_journal(domain, entries, &mut text).is_err() {
+        return Err(AllocError);
+    }
+    let Ok((format, journal)) = read_journal(alloc, domain, text.as_slice()) else {
+        return Err(AllocError);
+    };
+    let shared = Arc::try_clone(domain)?;
+    match Past::of(alloc, format, shared, journal.entries()) {
+        Ok(past) => tell_all(writer, failed, &past, &walk),
+        Err(PastError::Illegal { .. } | PastError::Memory) => return Err(AllocError),
+    }
+    Ok(())
+}

@@ -1,4 +1,0 @@
-use Rattle.run_tests.proofs.late.drops_late_answers.Given as goal
-
-abbrev pub ghosts-drops_over : goal.ghosts-drops_over
-ghosts-drops_over g a = record { names = a.boxes }

@@ -1,4 +1,0 @@
-use Rattle.run_tests.proofs.one_by_one.with_sessions.Given as goal
-
-abbrev pub ghosts-with_runtime : goal.ghosts-with_runtime
-ghosts-with_runtime g a = record { names = a.boxes }

@@ -1,4 +1,0 @@
-use Rattle.run_tests.proofs.openings.refuses.Given as goal
-
-abbrev pub ghosts-is_refused : goal.ghosts-is_refused
-ghosts-is_refused g a = record { names = a.boxes }

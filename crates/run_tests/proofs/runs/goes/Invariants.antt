@@ -1,4 +1,0 @@
-use Rattle.run_tests.proofs.runs.goes.Given as goal
-
-abbrev pub ghosts-goes_over : goal.ghosts-goes_over
-ghosts-goes_over g a = record { names = a.boxes }

@@ -1,5 +1,0 @@
-use Rattle.std.proofs.Common.{◌≤◌}
-use Rattle.smi_commands.proofs.check.tell_files.Given as goal
-
-abbrev pub invariant-loop-file : goal.invariant-loop-file
-invariant-loop-file g l = l.worst ≤ 1

@@ -1,4 +1,0 @@
-//! What a domain declares, one thing a line, for people who search and for editors. Nothing here decides anything.
-#![tactic(auto)]
-
-pub mod listing;

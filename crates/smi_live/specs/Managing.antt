@@ -1,0 +1,128 @@
+-- What a manager does, as a machine of lines.
+use Rattle.std.specs.Prelude.{◌≡◌, ◌≢◌, ◌<◌, ◌≤◌, ◌+◌, ◌++◌, ◌⊎◌, length, min, ℕ, List, Option, Some, None, Result, Ok, Err, codes}
+use Rattle.sml_domain.specs.Domain.{Domain}
+use Rattle.sml_domain.specs.Lookups.{object_named}
+use Rattle.smi_world.specs.declared.step.Step.{Step}
+use Rattle.smi_world.specs.declared.step.Step.TheVariants as step
+use Rattle.smi_world.specs.declared.step.Answer.{Answer}
+use Rattle.smi_world.specs.declared.step.Answer.TheVariants as answer
+use Rattle.smi_world.specs.declared.refusal.StepError.{StepError}
+use Rattle.smi_world.specs.World.{World}
+use Rattle.smi_world.specs.Steps.{StepsTo}
+use Rattle.smi_world_rest.specs.OwnSteps.{IsIdle, IsOwnStep}
+use Rattle.smi_lines.specs.declared.line.LineError.{LineError}
+use Rattle.smi_lines.specs.declared.line.LineError.TheVariants as fault
+use Rattle.smi_lines.specs.Line.{LineReads}
+use Rattle.smi_core.specs.Machines.{CoreView}
+use Rattle.smi_core.specs.Output.{LineWrites}
+
+-- ---- a manager
+
+-- a manager: its core, and the object whose turn is next
+pub record ManagerView : Type 0 where
+  pub core : CoreView
+  pub turn : ℕ
+
+-- what a line writes, and the core after it
+abbrev pub makes_line : ManagerView → List ℕ → List ℕ → ManagerView → Type 0
+makes_line m line out m2 = LineWrites m.core line out m2.core
+
+-- ---- lines from outside
+
+-- the line that is kept of one that is no step
+abbrev pub line_for_bad : List ℕ
+line_for_bad = codes "refused BadLine"
+
+-- what is kept of a line that is read so: the line, or a line that is no step if the line is no step or is one that the
+-- manager makes by itself
+abbrev pub StandsFor : Result (Option Step) LineError → List ℕ → List ℕ → Type 0
+StandsFor (Err fault.BadLine) asked kept = kept ≡ line_for_bad
+StandsFor (Err fault.Memory) asked kept = ⊥
+StandsFor (Ok None) asked kept = kept ≡ asked
+StandsFor (Ok (Some (step.Start x))) asked kept = kept ≡ line_for_bad
+StandsFor (Ok (Some (step.Go x))) asked kept = kept ≡ line_for_bad
+StandsFor (Ok (Some (step.Request k x y args))) asked kept = kept ≡ asked
+StandsFor (Ok (Some (step.Answer x y))) asked kept = kept ≡ asked
+StandsFor (Ok (Some (step.Fault x))) asked kept = kept ≡ asked
+StandsFor (Ok (Some (step.Kill x k))) asked kept = kept ≡ asked
+
+-- a line from outside is read, that is kept of it, and the turn stays
+pub record ManagerTakesLine (m : ManagerView) (asked kept : List ℕ) (m2 : ManagerView) : Type 0 where
+  pub read : Result (Option Step) LineError
+  pub reads : LineReads asked read
+  pub stands : StandsFor read asked kept
+  pub stays : m2.turn ≡ m.turn
+
+-- ---- the manager's own steps
+
+-- the line of a step of the manager's own
+abbrev pub IsOwnLine : Step → List ℕ → Type 0
+IsOwnLine (step.Start x) line = line ≡ codes "start " ++ x
+IsOwnLine (step.Go x) line = line ≡ codes "go " ++ x
+IsOwnLine (step.Request k x y args) line = ⊥
+IsOwnLine (step.Answer x y) line = ⊥
+IsOwnLine (step.Fault x) line = ⊥
+IsOwnLine (step.Kill x k) line = ⊥
+
+-- the step is the start of an object
+abbrev pub IsStartOf : Domain → ℕ → Step → Type 0
+IsStartOf d o (step.Start x) = object_named d x ≡ Some o
+IsStartOf d o s = ⊥
+
+-- the step is the go of an object
+abbrev pub IsGoOf : Domain → ℕ → Step → Type 0
+IsGoOf d o (step.Go x) = object_named d x ≡ Some o
+IsGoOf d o s = ⊥
+
+-- the step is the start or the go of an object
+abbrev pub IsAtObject : Domain → ℕ → Step → Type 0
+IsAtObject d o s = IsStartOf d o s ⊎ IsGoOf d o s
+
+-- a step changes nothing, however it is answered
+abbrev pub IsIdleAt : CoreView → Step → Type 0
+IsIdleAt m s = (r : Result Answer StepError) (w2 : World) → StepsTo m.setup m.world s r w2 → IsIdle r
+
+-- all rests: every start and every go is refused, or waits on
+abbrev pub AllRest : ManagerView → Type 0
+AllRest m = (s : Step) → IsOwnStep s → IsIdleAt m.core s
+
+-- the line is that of this step, a start or a go, which is neither refused nor waits on
+pub record IsMade (m : CoreView) (line : List ℕ) (s : Step) (m2 : CoreView) : Type 0 where
+  pub reads : LineReads line (Ok (Some s))
+  pub own : IsOwnLine s line
+  pub gives : Answer
+  pub steps : StepsTo m.setup m.world s (Ok gives) m2.world
+  pub moves : gives ≢ answer.Still
+
+-- a line is that of the start or of the go of an object, which is neither refused nor waits on
+pub record IsMadeAt (m : CoreView) (line : List ℕ) (o : ℕ) (m2 : CoreView) : Type 0 where
+  pub step : Step
+  pub of : IsAtObject m.setup.domain o step
+  pub made : IsMade m line step m2
+
+-- neither the start nor the go of an object changes anything
+pub record IsIdleObject (m : CoreView) (o : ℕ) : Type 0 where
+  pub start : Step
+  pub go : Step
+  pub starts : IsStartOf m.setup.domain o start
+  pub goes : IsGoOf m.setup.domain o go
+  pub no_start : IsIdleAt m start
+  pub no_go : IsIdleAt m go
+
+-- the object that a round begins with: the one whose turn is next, if there is one
+abbrev pub first_in : ManagerView → ℕ
+first_in m = min m.turn (length m.core.setup.domain.objects)
+
+-- one object comes before another, where the objects are gone round from a first one on
+abbrev pub IsBefore : ℕ → ℕ → ℕ → Type 0
+IsBefore first x o = (first ≤ x × ((x < o) ⊎ (o < first))) ⊎ ((x < o) × (o < first))
+
+-- the line is that of a start or a go that is neither refused nor waits on, at an object before which no other has one;
+-- and the turn of the object behind it is next
+pub record TakesTurn (m : ManagerView) (line : List ℕ) (m2 : ManagerView) : Type 0 where
+  pub object : ℕ
+  pub within : object < length m.core.setup.domain.objects
+  pub made : IsMadeAt m.core line object m2.core
+  pub before :
+      (x : ℕ) → x < length m.core.setup.domain.objects → IsBefore (first_in m) x object → IsIdleObject m.core x
+  pub next : m2.turn ≡ object + 1

@@ -1,0 +1,4 @@
+mod Walks
+mod Senders
+mod Kept
+mod Boxes

@@ -1,0 +1,4 @@
+pub mod Mails
+pub mod Counts
+pub mod Numbers
+pub mod Boxes

@@ -1,6 +1,0 @@
-mod Resting
-mod Stepped
-mod Empty
-mod LogLaws
-mod Reached
-mod OneOwn

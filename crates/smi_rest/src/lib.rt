@@ -1,4 +1,0 @@
-//! A manager that makes all starts and gos by itself comes to rest.
-#![tactic(auto)]
-
-pub mod laws;

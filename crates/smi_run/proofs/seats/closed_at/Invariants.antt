@@ -1,6 +1,0 @@
-use Rattle.std.proofs.Common.{◌≡◌, drop}
-use Rattle.smi_run.specs.Closing.{closed_of}
-use Rattle.smi_run.proofs.seats.closed_at.Given as goal
-
-abbrev pub invariant-loop-one : goal.invariant-loop-one
-invariant-loop-one g l = closed_of l.closed l.session ≡ closed_of (drop l.one-index l.closed) l.session

@@ -1,5 +1,0 @@
-use Rattle.smi_run.proofs.Places.{all_more}
-use Rattle.smi_run.proofs.seats.is_missing.Goals as goal
-
-pub loop-k-preserved : goal.loop-k-preserved
-loop-k-preserved g c = all_more c.loop-k.k c.args.closed.now _ c.loop-k.invariant c.in-Some.ensures

@@ -1,5 +1,0 @@
-use Rattle.smi_run.specs.Closing.{AreAllThere}
-use Rattle.smi_run.proofs.seats.is_missing.Given as goal
-
-abbrev pub invariant-loop-k : goal.invariant-loop-k
-invariant-loop-k g l = AreAllThere l.k l.closed

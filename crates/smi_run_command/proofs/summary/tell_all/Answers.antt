@@ -1,9 +1,0 @@
-use Rattle.smi_run_command.proofs.Lines.{then_told}
-use Rattle.smi_run_command.specs.Summary.{summary_text}
-use Rattle.smi_run_command.proofs.summary.tell_all.Goals as goal
-
-pub returns : goal.returns
-unfolding summary_text
-returns g c =
-    then_told c.tell_end.ensures (then_told c.tell_states.ensures (then_told c.tell_all_stalled.ensures
-    (then_told c.tell_group.ensures (then_told c.tell_group-2.ensures c.tell_all_refused.ensures))))

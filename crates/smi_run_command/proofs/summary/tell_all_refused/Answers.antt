@@ -1,9 +1,0 @@
-use Rattle.smi_run_command.specs.Summary.{refused_line}
-use Rattle.smi_run_command.proofs.Lines.{line_more, said, then_told}
-use Rattle.smi_run_command.proofs.summary.tell_all_refused.Goals as goal
-
--- the line of one session more
-pub loop-place-preserved : goal.loop-place-preserved
-loop-place-preserved g c =
-    said (then_told c.loop-place.invariant c.tell_refused.ensures)
-    (line_more (refused_line c.args.refused.now) c.loop-place.place)

@@ -1,9 +1,0 @@
-use Rattle.smi_run_command.specs.Summary.{sender_lines}
-use Rattle.smi_run_command.proofs.Lines.{all_lines, said, then_told}
-use Rattle.smi_run_command.proofs.summary.tell_group.Goals as goal
-
-pub returns : goal.returns
-returns g c =
-    let d = g.K.MailNames.names.domain in
-    said (then_told c.tell_sessions.ensures c.tell_objects.ensures)
-    (all_lines d (sender_lines d c.args.report.now c.args.group))

@@ -1,0 +1,4 @@
+mod Accepting
+mod Count
+mod Places
+mod Refusing

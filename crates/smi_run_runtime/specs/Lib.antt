@@ -1,0 +1,4 @@
+pub mod Sessions
+pub mod Posts
+pub mod Opening
+pub mod Closing

@@ -1,8 +1,0 @@
--- What comes back of a run.
-use Rattle.std.specs.Prelude.{◌≡◌, ◌⊎◌, List, [], length}
-use Rattle.smi_run.specs.Sessions.{SessionBook}
-
--- of a run without a report the sessions come back as they were, none of which has left, or as many that have left
-abbrev pub ComeBack : List SessionBook → List SessionBook → List SessionBook → Type 0
-ComeBack sessions back closed =
-    ((back ≡ sessions) × (closed ≡ [])) ⊎ ((back ≡ []) × (length closed ≡ length sessions))

@@ -1,0 +1,126 @@
+//! Explains a text that is refused, if that is asked for.
+
+use crate::fault::Fault;
+use crate::requests::explain_requests;
+use explain_files::{explain_check, explain_good, explain_read};
+use explain_lines::{
+    LineKind, SourceLine, explain_bad_entry, explain_bad_header, explain_bad_line,
+};
+use explain_runs::tell_reasons;
+use smi_journal::Entry;
+use sml_domain::Domain;
+use sml_text::{Sink, put};
+use std::alloc::Global;
+use std::sync::Arc;
+
+/// The explanation behind a fault line: where the fault is, what is there and what could be. It is no part of a
+/// format, and what it says is not promised. If memory runs out, a prefix of it is told, or nothing.
+#[derive(Drop)]
+pub struct Advice {
+    is_wanted: bool,
+    text: Vec<u8>,
+}
+
+impl Advice {
+    /// No advice yet. If it is not wanted, there will be no advice at all.
+    pub fn new(alloc: Global, is_wanted: bool) -> Advice {
+        Advice {
+            is_wanted,
+            text: Vec::new(alloc),
+        }
+    }
+
+    /// Advises on the text of a domain file that has this fault. The cost is that of reading and checking the text.
+    pub fn of_domain(&mut self, alloc: Global, file: &str, text: &[u8], fault: &Fault<'_>) {
+        if !self.is_wanted {
+            return;
+        }
+        let mut failed = false;
+        let _ = match fault {
+            Fault::Read(_, error) => {
+                explain_read(alloc, file, text, error, &mut self.text, &mut failed)
+            }
+            Fault::Check(..) => explain_check(alloc, file, text, &mut self.text, &mut failed),
+            _ => Ok(()),
+        };
+    }
+
+    /// Advises on the text of a domain file that has no fault: a word if it declares nothing. The cost is that of
+    /// its first token.
+    pub fn of_good_domain(&mut self, file: &str, text: &[u8]) {
+        if self.is_wanted {
+            let mut failed = false;
+            explain_good(file, text, &mut self.text, &mut failed);
+        }
+    }
+
+    /// Advises on the text of a script of a domain that has this fault. The cost is the length of the text up to its
+    /// bad line.
+    pub fn of_script(&mut self, domain: &Domain, file: &str, text: &[u8], fault: &Fault<'_>) {
+        if !self.is_wanted {
+            return;
+        }
+        if let Fault::BadLine(_, number) = fault {
+            let number = *number as usize;
+            let mut failed = false;
+            let line = SourceLine {
+                file,
+                number,
+                text: line_of(text, number),
+            };
+            explain_bad_line(LineKind::Script, domain, &line, &mut self.text, &mut failed);
+        }
+    }
+
+    /// Advises on the lines of a script whose requests and kills the domain refuses whenever they come: at most twenty,
+    /// and then how many others there are. The cost is the length of the text, and memory is taken for requests.
+    pub fn of_requests(&mut self, alloc: Global, domain: &Arc<Domain>, file: &str, text: &[u8]) {
+        if self.is_wanted {
+            let mut failed = false;
+            let _ = explain_requests(alloc, domain, file, text, &mut self.text, &mut failed);
+        }
+    }
+
+    /// Advises on the text of a journal of a domain that has this fault. The cost is the length of the text up to its
+    /// bad line.
+    pub fn of_journal(&mut self, domain: &Domain, file: &str, text: &[u8], fault: &Fault<'_>) {
+        if !self.is_wanted {
+            return;
+        }
+        let mut failed = false;
+        match fault {
+            Fault::BadHeader(_) => explain_bad_header(file, text, &mut self.text, &mut failed),
+            Fault::BadLine(_, number) => explain_bad_entry(
+                domain,
+                file,
+                text,
+                *number as usize,
+                &mut self.text,
+                &mut failed,
+            ),
+            _ => {}
+        }
+    }
+
+    /// Advises on a run, by its journal: which devices failed, which requests were skipped, and which objects wait, and
+    /// for whom. The cost is that of the entries, and if an object waits, that of judging them.
+    pub fn of_run(&mut self, alloc: Global, domain: &Arc<Domain>, entries: &[Entry]) {
+        if self.is_wanted {
+            let mut failed = false;
+            let _ = tell_reasons(alloc, domain, entries, &mut self.text, &mut failed);
+        }
+    }
+
+    /// Writes the advice. A fault of the writer changes nothing.
+    pub fn tell<E: Sink>(&self, errors: &mut E) {
+        let _ = put(errors, &self.text);
+    }
+}
+
+// The line with a number, counted from 1, without its line feed. Empty if there is no such line.
+fn line_of(text: &[u8], number: usize) -> &[u8] {
+    match text.split(|b| *b == b'\n').nth(number.saturating_sub(1)) {
+        Some(line) => line,
+        None => &[],
+    }
+}

@@ -1,0 +1,38 @@
+//! The commands of the state manager that need no threads: to check domains, to print, list or draw one, to run a
+//! schedule on one, and to judge or draw a journal of one. Each is a function over a runtime, what it is asked and the
+//! streams that it writes.
+#![tactic(auto)]
+
+mod advice;
+mod audit;
+mod check;
+mod fault;
+mod graph;
+mod judgement;
+mod list;
+mod loading;
+mod notes;
+mod print;
+mod requests;
+mod ruling;
+mod same_file;
+mod status;
+mod step;
+mod text;
+mod traced;
+
+pub use advice::Advice;
+pub use audit::{AuditOptions, LONGEST_JOURNAL, judge_bytes, run_audit};
+pub use check::run_check;
+pub use fault::Fault;
+pub use graph::{GraphOptions, run_graph};
+pub use judgement::{FileOutcome, judge};
+pub use list::run_list;
+pub use loading::{domain_of_bytes, load_domain};
+pub use print::{print_text, run_print};
+pub use ruling::Ruling;
+pub use same_file::is_one_read;
+pub use smi_core::{MAX_CAPACITY, MAX_STARTS};
+pub use status::{DONE, ILLEGAL, NO_MEMORY, REFUSED, WRONG_WORDS};
+pub use step::{StepOptions, core_of_bytes, run_step, run_steps, write_run};
+pub use text::{STANDARD_INPUT, load_prefix};

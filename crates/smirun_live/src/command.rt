@@ -1,0 +1,230 @@
+//! The command `live`.
+ghost use Rattle.std.specs.Prelude.{◌≡◌, Err, IfSome};
+ghost use Rattle.smirun_commands.specs.Paths.{IsReadAs};
+
+use crate::arriving::Arriving;
+use crate::host::LiveHost;
+use crate::in_turn::InTurn;
+use crate::inbox::{Inbox, read_all};
+use crate::lines::Lines;
+use crate::log::{LogFile, NoLog};
+use crate::observer::LiveNotes;
+use crate::options::LiveOptions;
+use crate::preparing::{Prepared, prepare};
+use crate::resume::{OpenLog, open_log};
+use crate::running::{run_manager, tell_remains};
+use smi_live::Manager;
+use smirun_commands::{Advice, Fault, is_one_read};
+use sml_text::put;
+use std::alloc::{AllocError, Global};
+use std::io::{LineWriter, Read, Write};
+use std::sync::{Arc, Wait};
+use std::thread;
+use std::thread::Threads;
+
+/// Runs a manager on the domain, whose lines are those of `input`, in turn: a line is taken only if nothing else is
+/// left to do.
+///
+/// A log with the path of the domain is refused before anything is read (`Fault::Overwrites`). The domain is read and
+/// checked before the log is opened. Then the log is locked and begun, or what it holds is made again; how all stands,
+/// and the starts of what devices have in hand, are then the first that is written. What lines write is written before
+/// the next line is taken, and a line is in the log before what it writes is written. Remarks go to `errors`, also what
+/// is left at the end, and the advice on the domain to `advice`. What is made of the domain and the log is passed to
+/// `run_manager`.
+pub fn run_live<'a, R: LiveHost, I: Read, W: Write, E: Write>(
+    rt: &R,
+    options: &LiveOptions<'a>,
+    input: &mut I,
+    output: &mut W,
+    errors: &mut E,
+    advice: &mut Advice,
+) -> Result<(), Fault<'a>>
+    ensures domain_stays { IfSome options.now.log (λ path. IsReadAs options.now.file.now path.now
+        → result ≡ Err (Fault.Overwrites path)) }
+{
+    if let Some(path) = options.log {
+        if is_one_read(rt, options.file, options.file, path) {
+            return Err(Fault::Overwrites(path));
+        }
+    }
+    let Ok(mut writer) = LineWriter::new(rt.alloc(), &mut *output) else {
+        return Err(Fault::Memory);
+    };
+    match begin(rt, options, &mut writer, advice) {
+        Ok(begun) => {
+            let mut feed = InTurn::new(rt.alloc(), &mut *input, &mut *errors);
+            run_begun(rt.alloc(), options, begun, &mut feed, &mut writer)
+        }
+        Err(fault) => Err(fault),
+    }
+}
+
+/// Runs a manager on the domain as [`run_live`] does, whose lines are those of `input`, as they come: another thread
+/// reads them, and a line that has come is taken between two steps.
+pub fn run_live_as_lines_come<
+    'a,
+    R: LiveHost + 'static,
+    I: Read + Send + Drop + 'static,
+    W: Write,
+    E: Write,
+>(
+    rt: &R,
+    options: &LiveOptions<'a>,
+    input: I,
+    output: &mut W,
+    errors: &mut E,
+    advice: &mut Advice,
+) -> Result<(), Fault<'a>>
+    ensures domain_stays { IfSome options.now.log (λ path. IsReadAs options.now.file.now path.now
+        → result ≡ Err (Fault.Overwrites path)) }
+{
+    if let Some(path) = options.log {
+        if is_one_read(rt, options.file, options.file, path) {
+            return Err(Fault::Overwrites(path));
+        }
+    }
+    let Ok(mut writer) = LineWriter::new(rt.alloc(), &mut *output) else {
+        return Err(Fault::Memory);
+    };
+    match begin(rt, options, &mut writer, advice) {
+        Ok(begun) => run_arriving(rt, options, begun, input, &mut writer, errors),
+        Err(fault) => Err(fault),
+    }
+}
+
+// Runs a manager until the input has ended.
+fn run_arriving<'a, R: LiveHost + 'static, I: Read + Send + Drop + 'static, W: Write, E: Write>(
+    rt: &R,
+    options: &LiveOptions<'a>,
+    begun: Begun<'a>,
+    input: I,
+    output: &mut W,
+    errors: &mut E,
+) -> Result<(), Fault<'a>> {
+    match start_reader(*rt, rt.alloc(), input) {
+        Ok(inbox) => {
+            let mut feed = Arriving::new(*rt, inbox, &mut *errors);
+            run_begun(rt.alloc(), options, begun, &mut feed, output)
+        }
+        Err(_) => Err(Fault::Memory),
+    }
+}
+
+// Starts the thread that reads the lines. It is never joined: it may wait for a line for ever, if the manager is
+// stopped by a fault.
+fn start_reader<R: Threads + Wait + Copy + Send + Drop + 'static, I: Read + Send + Drop + 'static>(
+    rt: R,
+    alloc: Global,
+    input: I,
+) -> Result<Arc<Inbox>, AllocError> {
+    let inbox = Arc::new(alloc, Inbox::new(alloc))?;
+    let theirs = Arc::try_clone(&inbox)?;
+    match thread::spawn(&rt, move || read_all(&rt, alloc, input, &theirs)) {
+        Ok(_) => Ok(inbox),
+        Err(_) => Err(AllocError),
+    }
+}
+
+// A manager that can continue, and its log.
+#[derive(Drop)]
+struct Begun<'a> {
+    manager: Manager<LiveNotes<'a>>,
+    log: Option<OpenLog>,
+}
+
+// Makes a manager of the domain, and opens its log. What is to be told about a log that is resumed is written.
+fn begin<'a, R: LiveHost, W: Write>(
+    rt: &R,
+    options: &LiveOptions<'a>,
+    output: &mut W,
+    advice: &mut Advice,
+) -> Result<Begun<'a>, Fault<'a>> {
+    match prepare(rt, options, advice) {
+        Ok(prepared) => begin_log(rt, options, prepared, output),
+        Err(fault) => Err(fault),
+    }
+}
+
+// Opens the log of what was prepared, and writes what is told about one that is resumed.
+fn begin_log<'a, R: LiveHost, W: Write>(
+    rt: &R,
+    options: &LiveOptions<'a>,
+    prepared: Prepared<'a>,
+    output: &mut W,
+) -> Result<Begun<'a>, Fault<'a>> {
+    let mut prepared = prepared;
+    let mut told = Vec::new(rt.alloc());
+    match open_wanted(rt, options, &mut prepared, &mut told) {
+        Ok(log) if put(output, &told).is_ok() => begun_of(rt.alloc(), options, prepared, log),
+        Ok(_) => Err(Fault::Output),
+        Err(fault) => Err(fault),
+    }
+}
+
+// Opens the log, if one is asked for.
+fn open_wanted<'a, R: LiveHost>(
+    rt: &R,
+    options: &LiveOptions<'a>,
+    prepared: &mut Prepared<'a>,
+    told: &mut Vec<u8>,
+) -> Result<Option<OpenLog>, Fault<'a>> {
+    let Some(path) = options.log else {
+        return Ok(None);
+    };
+    match open_log(rt, rt.alloc(), options, path, prepared, told) {
+        Ok(log) => Ok(Some(log)),
+        Err(fault) => Err(fault),
+    }
+}
+
+// A manager of what was prepared.
+fn begun_of<'a>(
+    alloc: Global,
+    options: &LiveOptions<'a>,
+    prepared: Prepared<'a>,
+    log: Option<OpenLog>,
+) -> Result<Begun<'a>, Fault<'a>> {
+    let Prepared {
+        core,
+        mut notes,
+        first: _,
+    } = prepared;
+    notes.explain = options.explain;
+    let lines = match &log {
+        Some(log) => log.lines,
+        None => 0,
+    };
+    match Manager::new(alloc, core, lines, notes) {
+        Ok(manager) => Ok(Begun { manager, log }),
+        Err(_) => Err(Fault::Memory),
+    }
+}
+
+// Runs a manager until no line will come any more, and tells beside the output what is left.
+fn run_begun<'a, F: Lines, W: Write>(
+    alloc: Global,
+    options: &LiveOptions<'a>,
+    begun: Begun<'a>,
+    feed: &mut F,
+    output: &mut W,
+) -> Result<(), Fault<'a>> {
+    let Begun { mut manager, log } = begun;
+    let path = options.log.unwrap_or("");
+    let ran = match log {
+        Some(OpenLog { file, size, .. }) => {
+            let mut kept = LogFile::new(alloc, file, size);
+            run_manager(alloc, path, &mut manager, feed, &mut kept, output)
+        }
+        None => run_manager(alloc, path, &mut manager, feed, &mut NoLog, output),
+    };
+    // After a fault too: what was done before it is told.
+    let flushed = output.flush();
+    match ran {
+        Ok(()) if flushed.is_ok() => {
+            tell_remains(alloc, &mut manager, feed);
+            Ok(())
+        }
+        Ok(()) => Err(Fault::Output),
+        Err(fault) => Err(fault),
+    }
+}

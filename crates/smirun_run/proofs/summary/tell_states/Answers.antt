@@ -1,0 +1,11 @@
+use Rattle.std.proofs.Common.{ℕ, List, ap}
+use Rattle.smirun_run.specs.Summary.{standing_line}
+use Rattle.smirun_run.proofs.Lines.{line_more, said, then_told}
+use Rattle.smirun_run.proofs.summary.tell_states.Goals as goal
+
+-- the line of one object more
+pub loop-o-preserved : goal.loop-o-preserved
+loop-o-preserved g c =
+    let line : ℕ → List ℕ = standing_line g.K.MailNames.names.domain c.args.report.now.journal in
+    said (then_told c.loop-o.invariant (said c.tell_standing.ensures (ap line c.new.ensures)))
+    (line_more line c.loop-o.o)

@@ -1,0 +1,271 @@
+//! From what is asked to an exit status.
+ghost use Rattle.std.specs.Prelude.{◌≡◌, ◌≢◌, ◌≤◌, IfErr, IfOk};
+ghost use Rattle.std.specs.IoError.{error_kind};
+ghost use Rattle.smirun_commands.specs.Status.{fault_status};
+
+use smirun_commands::{
+    Advice, AuditOptions, DONE, Fault, GraphOptions, StepOptions, WRONG_WORDS, run_audit,
+    run_check, run_graph, run_list, run_print, run_step,
+};
+use smirun_live::{LiveHost, LiveOptions, run_live, run_live_as_lines_come};
+use smirun_run::{Host, RunOptions, run_run};
+use std::io;
+use std::io::{ErrorKind, Read, Write};
+
+/// What the program is asked to do.
+#[derive(Drop)]
+pub enum AskedCommand<'a> {
+    /// To check the domain files of these paths, and to say of refused ones why, if that is asked for.
+    Check { files: Vec<&'a str>, explain: bool },
+    /// To run a schedule on a domain.
+    Step(StepOptions<'a>),
+    /// To run a script on a domain, in threads.
+    Run(RunOptions<'a>),
+    /// To run a manager on a domain, which other programs talk to.
+    Live(LiveOptions<'a>),
+    /// To print the canonical text of the domain file of this path, or to say why it is refused, if that is asked for.
+    Print { file: &'a str, explain: bool },
+    /// To list what the domain file of this path declares.
+    List(&'a str),
+    /// To draw a domain, or the run of a journal.
+    Graph(GraphOptions<'a>),
+    /// To judge a journal by a domain.
+    Audit(AuditOptions<'a>),
+}
+
+impl AskedCommand<'_> {
+    // Whether it is asked to say why a text or a line is refused.
+    fn explain(&self) -> bool {
+        match self {
+            AskedCommand::Check { explain, .. } | AskedCommand::Print { explain, .. } => *explain,
+            AskedCommand::Step(options) => options.explain,
+            AskedCommand::Run(options) => options.explain,
+            AskedCommand::Live(options) => options.explain,
+            AskedCommand::Audit(options) => options.explain,
+            AskedCommand::List(_) | AskedCommand::Graph(_) => false,
+        }
+    }
+}
+
+/// Does what is asked, and returns the exit status.
+///
+/// A file that is named `-` is `input`, and so are the lines of a manager, which it takes in turn. The result of the
+/// command goes to `output`. A fault line (docs/FORMATS.md, "Fault lines and exit statuses") goes to `errors`, and
+/// behind it the advice, if that is asked for. A fault of `errors` changes nothing, since there is no place left to
+/// tell it.
+pub fn perform<R: Host + LiveHost, I: Read, W: Write, E: Write>(
+    rt: &R,
+    asked: &AskedCommand<'_>,
+    input: &mut I,
+    output: &mut W,
+    errors: &mut E,
+) -> u8
+    ensures { result ≤ 4 }
+{
+    let mut advice = Advice::new(rt.alloc(), asked.explain());
+    let status = perform_advised(rt, asked, input, output, errors, &mut advice);
+    advice.tell(errors);
+    status
+}
+
+// Does what is asked, and returns the exit status. The advice goes to `advice`. Each command has its own function, so
+// that this one only tells them apart: as one function it was among the slowest to prove.
+fn perform_advised<R: Host + LiveHost, I: Read, W: Write, E: Write>(
+    rt: &R,
+    asked: &AskedCommand<'_>,
+    input: &mut I,
+    output: &mut W,
+    errors: &mut E,
+    advice: &mut Advice,
+) -> u8
+    ensures { result ≤ 4 }
+{
+    match asked {
+        AskedCommand::Check { files, explain } => check(rt, files, *explain, input, output, errors),
+        AskedCommand::Print { file, .. } => print(rt, file, input, output, errors, advice),
+        AskedCommand::List(file) => list(rt, file, input, output, errors, advice),
+        AskedCommand::Graph(options) => graph(rt, options, input, output, errors, advice),
+        AskedCommand::Step(options) => step(rt, options, input, output, errors, advice),
+        AskedCommand::Run(options) => run(rt, options, input, output, errors, advice),
+        AskedCommand::Live(options) => live(rt, options, input, output, errors, advice),
+        AskedCommand::Audit(options) => audit(rt, options, input, output, errors, advice),
+    }
+}
+
+/// Runs a manager whose lines are those of `input`, as they come, and returns the exit status.
+///
+/// What is written goes where `perform` writes it.
+pub fn perform_live<
+    R: Host + LiveHost + 'static,
+    I: Read + Send + Drop + 'static,
+    W: Write,
+    E: Write,
+>(rt: &R, options: &LiveOptions<'_>, input: I, output: &mut W, errors: &mut E) -> u8
+    ensures { result ≤ 4 }
+{
+    let mut advice = Advice::new(rt.alloc(), options.explain);
+    let done = run_live_as_lines_come(rt, options, input, output, errors, &mut advice);
+    let status = ended(&done, errors);
+    advice.tell(errors);
+    status
+}
+
+// Checks domain files.
+fn check<R: Host + LiveHost, I: Read, W: Write, E: Write>(
+    rt: &R,
+    files: &[&str],
+    explain: bool,
+    input: &mut I,
+    output: &mut W,
+    errors: &mut E,
+) -> u8
+    ensures { result ≤ 4 }
+{
+    let outcome = run_check(rt, files, explain, input, output, errors);
+    status_of(&outcome, errors)
+}
+
+// Prints the canonical text of a domain file.
+fn print<R: Host + LiveHost, I: Read, W: Write, E: Write>(
+    rt: &R,
+    file: &str,
+    input: &mut I,
+    output: &mut W,
+    errors: &mut E,
+    advice: &mut Advice,
+) -> u8
+    ensures { result ≤ 4 }
+{
+    let outcome = run_print(rt, file, input, output, advice);
+    ended(&outcome, errors)
+}
+
+// Lists what a domain file declares.
+fn list<R: Host + LiveHost, I: Read, W: Write, E: Write>(
+    rt: &R,
+    file: &str,
+    input: &mut I,
+    output: &mut W,
+    errors: &mut E,
+    advice: &mut Advice,
+) -> u8
+    ensures { result ≤ 4 }
+{
+    let outcome = run_list(rt, file, input, output, advice);
+    ended(&outcome, errors)
+}
+
+// Draws a domain, or the run of a journal.
+fn graph<R: Host + LiveHost, I: Read, W: Write, E: Write>(
+    rt: &R,
+    options: &GraphOptions<'_>,
+    input: &mut I,
+    output: &mut W,
+    errors: &mut E,
+    advice: &mut Advice,
+) -> u8
+    ensures { result ≤ 4 }
+{
+    let outcome = run_graph(rt, options, input, output, advice);
+    ended(&outcome, errors)
+}
+
+// Runs a schedule.
+fn step<R: Host + LiveHost, I: Read, W: Write, E: Write>(
+    rt: &R,
+    options: &StepOptions<'_>,
+    input: &mut I,
+    output: &mut W,
+    errors: &mut E,
+    advice: &mut Advice,
+) -> u8
+    ensures { result ≤ 4 }
+{
+    let outcome = run_step(rt, options, input, output, errors, advice);
+    status_of(&outcome, errors)
+}
+
+// Runs a script in threads.
+fn run<R: Host + LiveHost, I: Read, W: Write, E: Write>(
+    rt: &R,
+    options: &RunOptions<'_>,
+    input: &mut I,
+    output: &mut W,
+    errors: &mut E,
+    advice: &mut Advice,
+) -> u8
+    ensures { result ≤ 4 }
+{
+    let outcome = run_run(rt, options, input, output, errors, advice);
+    ended(&outcome, errors)
+}
+
+// Runs a manager over lines that are all there.
+fn live<R: Host + LiveHost, I: Read, W: Write, E: Write>(
+    rt: &R,
+    options: &LiveOptions<'_>,
+    input: &mut I,
+    output: &mut W,
+    errors: &mut E,
+    advice: &mut Advice,
+) -> u8
+    ensures { result ≤ 4 }
+{
+    let outcome = run_live(rt, options, input, output, errors, advice);
+    ended(&outcome, errors)
+}
+
+// Judges a journal.
+fn audit<R: Host + LiveHost, I: Read, W: Write, E: Write>(
+    rt: &R,
+    options: &AuditOptions<'_>,
+    input: &mut I,
+    output: &mut W,
+    errors: &mut E,
+    advice: &mut Advice,
+) -> u8
+    ensures { result ≤ 4 }
+{
+    let outcome = run_audit(rt, options, input, output, errors, advice);
+    status_of(&outcome, errors)
+}
+
+// The status that a command returns, or that of its fault, which is told.
+fn status_of<E: Write>(outcome: &Result<u8, Fault<'_>>, errors: &mut E) -> u8
+    requires { IfOk outcome.now (λ status. status ≤ 4) }
+    ensures ok { IfOk outcome.now (λ status. result ≡ status) }
+    ensures err { IfErr outcome.now (λ fault. result ≡ fault_status fault) }
+    ensures range { result ≤ 4 }
+{
+    match outcome {
+        Ok(status) => *status,
+        Err(fault) => fault.tell(errors),
+    }
+}
+
+// The status of a command that did what it was asked, or that of its fault, which is told.
+fn ended<E: Write>(outcome: &Result<(), Fault<'_>>, errors: &mut E) -> u8
+    ensures ok { IfOk outcome.now (λ _. result ≡ 0) }
+    ensures err { IfErr outcome.now (λ fault. result ≡ fault_status fault) }
+    ensures range { result ≤ 3 }
+{
+    match outcome {
+        Ok(()) => DONE,
+        Err(fault) => fault.tell(errors),
+    }
+}
+
+/// Ends a program whose words cannot be read: they are not all text, or memory ran out for them.
+pub fn refuse_words<E: Write>(error: &io::Error, errors: &mut E) -> u8
+    ensures memory { error_kind error.now ≡ ErrorKind.OutOfMemory → result ≡ 3 }
+    ensures not_text { error_kind error.now ≢ ErrorKind.OutOfMemory → result ≡ 2 }
+{
+    if error.kind() == ErrorKind::OutOfMemory {
+        return Fault::Memory.tell(errors);
+    }
+    let _ = writeln!(
+        errors,
+        "error: the words of the command line are not all text"
+    );
+    WRONG_WORDS
+}

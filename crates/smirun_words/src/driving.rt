@@ -1,0 +1,78 @@
+//! From the words of a command line to an exit status.
+ghost use Rattle.std.specs.Prelude.{◌≡◌, ◌≢◌, ◌≤◌, ◌⊎◌};
+ghost use Rattle.clap.specs.Values.{kind_of};
+
+use crate::asked::{AskedCommand, perform, perform_live};
+use crate::command_line::parse;
+use clap::error::ErrorKind;
+use smirun_commands::{DONE, Fault, WRONG_WORDS};
+use smirun_live::LiveHost;
+use smirun_run::Host;
+use std::io::{IsTerminal, Read, Write};
+
+/// Does what the words ask for, and returns the exit status.
+///
+/// The first word is the program's name. A file that is named `-` is standard input. The result of a command, and
+/// help or the version if they are asked for, go to `output`; a fault line (docs/FORMATS.md, "Fault lines and
+/// exit statuses") and what is wrong with a command line go to `errors`. A fault of `errors` changes nothing,
+/// since there is no place left to tell it.
+///
+/// Standard input is `input`. If a manager is to take lines as they come, another thread reads it.
+pub fn drive<
+    R: Host + LiveHost + 'static,
+    I: Read + Send + Drop + 'static,
+    W: Write,
+    E: Write + IsTerminal,
+>(rt: &R, words: &[String], mut input: I, output: &mut W, errors: &mut E) -> u8
+    ensures { result ≤ 4 }
+{
+    let is_terminal = errors.is_terminal();
+    match parse(rt.alloc(), words, is_terminal) {
+        Ok(AskedCommand::Live(options)) if !options.in_turn => {
+            perform_live(rt, &options, input, output, errors)
+        }
+        Ok(asked) => perform(rt, &asked, &mut input, output, errors),
+        Err(error) => answer(&error, output, errors),
+    }
+}
+
+/// As [`drive`], with another reader in place of standard input. `is_terminal` says whether `errors` is a terminal:
+/// only then is it told how far a run is. A manager takes the lines of such a reader in turn, whether that is asked for
+/// or not.
+pub fn drive_from<R: Host + LiveHost, I: Read, W: Write, E: Write>(
+    rt: &R,
+    words: &[String],
+    input: &mut I,
+    output: &mut W,
+    errors: &mut E,
+    is_terminal: bool,
+) -> u8
+    ensures { result ≤ 4 }
+{
+    match parse(rt.alloc(), words, is_terminal) {
+        Ok(asked) => perform(rt, &asked, input, output, errors),
+        Err(error) => answer(&error, output, errors),
+    }
+}
+
+// Shows what the parser of command lines has to say: help, the version, or what is wrong with the words.
+fn answer<W: Write, E: Write>(error: &clap::Error, output: &mut W, errors: &mut E) -> u8
+    ensures memory { kind_of error.now ≡ ErrorKind.OutOfMemory → result ≡ 3 }
+    ensures mistake { kind_of error.now ≢ ErrorKind.OutOfMemory → kind_of error.now ≢ ErrorKind.DisplayHelp
+        → kind_of error.now ≢ ErrorKind.DisplayVersion → result ≡ 2 }
+    ensures shown { (kind_of error.now ≡ ErrorKind.DisplayHelp) ⊎ (kind_of error.now ≡ ErrorKind.DisplayVersion)
+        → (result ≡ 0) ⊎ (result ≡ 1) }
+    ensures range { result ≤ 3 }
+{
+    if error.kind() == ErrorKind::OutOfMemory {
+        return Fault::Memory.tell(errors);
+    }
+    if error.use_stderr() {
+        let _ = write!(errors, "{error}");
+        return WRONG_WORDS;
+    }
+    match write!(output, "{error}").and_then(|()| output.flush()) {
+        Ok(()) => DONE,
+        Err(_) => Fault::Output.tell(errors),
+    }
+}

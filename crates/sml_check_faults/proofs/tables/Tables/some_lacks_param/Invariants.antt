@@ -1,0 +1,8 @@
+use Rattle.std.specs.List.{list_any}
+use Rattle.sml_tree.specs.Content.{file_content}
+use Rattle.sml_check_faults.specs.Faults as faults
+use Rattle.sml_check_faults.proofs.Rests.{Rest}
+use Rattle.sml_check_faults.proofs.tables.Tables.some_lacks_param.Given as goal
+
+abbrev pub invariant-loop-object : goal.invariant-loop-object
+invariant-loop-object g l = Rest (λ ys. list_any (faults.lacks_param_there (file_content l.self.file.now) l.action l.param) ys) l.objects l.object-index (let ys = l.objects in list_any (faults.lacks_param_there (file_content l.self.file.now) l.action l.param) ys)

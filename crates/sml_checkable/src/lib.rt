@@ -1,7 +1,0 @@
-//! What is read can be checked: a text has a domain, or a fault.
-#![tactic(auto)]
-
-mod domain_of_text;
-pub mod laws;
-
-pub use domain_of_text::{TextFault, domain_of};

@@ -1,9 +1,0 @@
-use Rattle.std.proofs.Common.{flat_map, map}
-use Rattle.sml_tree.specs.Content.{class_param_content}
-use Rattle.sml_faults.specs.Lookup as look
-use Rattle.sml_faults.specs.Heads as heads
-use Rattle.sml_faults.proofs.Rests.{Rest}
-use Rattle.sml_faults.proofs.heads.class_param_mismatch.Given as goal
-
-abbrev pub invariant-loop-param : goal.invariant-loop-param
-invariant-loop-param g l = Rest (λ ys. look.first (flat_map heads.class_param_mismatch (map class_param_content ys))) l.params l.param-index (let ys = l.params in look.first (flat_map heads.class_param_mismatch (map class_param_content ys)))

@@ -1,4 +1,0 @@
-use Rattle.sml_faults.proofs.heads.two_dead.Goals as goal
-
-pub returns : goal.returns
-returns g c = c.two_marked.ensures

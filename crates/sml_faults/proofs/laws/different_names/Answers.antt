@@ -1,6 +1,0 @@
-use Rattle.sml_faults.proofs.NoPairs.{no_pairs}
-use Rattle.sml_faults.proofs.OnlyPairs.{only_pairs}
-use Rattle.sml_faults.proofs.laws.different_names.Goals as goal
-
-pub returns : goal.returns
-returns c = record { differ = no_pairs; suffices = only_pairs }

@@ -1,5 +1,0 @@
-use Rattle.sml_faults.proofs.Rests.{past_end}
-use Rattle.sml_faults.proofs.repeated.repeated_name.Goals as goal
-
-pub returns : goal.returns
-returns c = past_end c.loop-i.invariant c.loop-i-test.false

@@ -1,8 +1,0 @@
-use Rattle.std.proofs.Common.{[]}
-use Rattle.sml_faults.specs.Lookup as look
-use Rattle.sml_faults.specs.Repeats as repeats
-use Rattle.sml_faults.proofs.Rests.{Past}
-use Rattle.sml_faults.proofs.repeated.repeated_name.Given as goal
-
-abbrev pub invariant-loop-i : goal.invariant-loop-i
-invariant-loop-i l = Past (λ bs ys. look.first (repeats.each_after repeats.repeated_name bs ys)) (λ n. n) l.names l.i (look.first (repeats.each_after repeats.repeated_name [] l.names))

@@ -1,9 +1,0 @@
-use Rattle.std.proofs.Common.{flat_map, map}
-use Rattle.sml_tree.specs.Content.{action_content, class_content, file_content, passed_content}
-use Rattle.sml_faults.specs.Lookup as look
-use Rattle.sml_faults.specs.Faults as faults
-use Rattle.sml_faults.proofs.Rests.{Rest}
-use Rattle.sml_faults.proofs.tables.Tables.mismatched.Given as goal
-
-abbrev pub invariant-loop-passed : goal.invariant-loop-passed
-invariant-loop-passed g l = Rest (λ ys. look.first (flat_map (faults.mismatched (file_content l.self.file.now) l.called l.objects (class_content l.class) (action_content l.action)) (map passed_content ys))) l.args l.passed-index (let ys = l.args in look.first (flat_map (faults.mismatched (file_content l.self.file.now) l.called l.objects (class_content l.class) (action_content l.action)) (map passed_content ys)))

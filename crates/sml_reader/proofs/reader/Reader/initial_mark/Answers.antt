@@ -1,5 +1,0 @@
-use Rattle.sml_reader.proofs.Marks.{initial_mark}
-use Rattle.sml_reader.proofs.reader.Reader.initial_mark.Goals as goal
-
-pub returns : goal.returns
-returns c = initial_mark c.mark.result c.args.self.now c.mark.new.self c.mark.ensures

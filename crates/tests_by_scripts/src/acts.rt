@@ -1,0 +1,174 @@
+//! The lines of a script: their first byte tells what they do.
+
+use crate::calls::{ask, call, call_cut_off, call_in_vain, call_with_no_memory, tell_no_words};
+use crate::explained::compare;
+use crate::limits::tell_untold;
+use crate::outcomes::tell_run;
+use crate::place::Place;
+use smirun_live::LiveHost;
+use smirun_run::Host;
+use std::alloc::AllocError;
+use std::fs::Files;
+use std::io::{ErrorKind, Write};
+use std::os::unix::fs::symlink;
+use std::{fs, io, str};
+
+/// Does what a line says.
+pub fn perform<R: Host + LiveHost>(rt: &R, line: &str, place: &mut Place) -> io::Result<()> {
+    let (mark, rest) = line.split_once(' ').unwrap_or((line, ""));
+    match mark {
+        // adds the rest to the text at hand, as a line
+        "|" => Ok(place.add(rest)?),
+        // adds a text COUNT times, behind what was added last: COUNT TEXT
+        "+" => add_times(rest, place),
+        // adds a line COUNT times: COUNT LINE
+        "*" => add_lines(rest, place),
+        // performs the rest as a command line
+        "$" => call(rt, rest, place),
+        // the same, except that only the status and the errors are told
+        "%" => ask(rt, rest, place),
+        // tells whether the last output has the rest
+        "?" => tell_part(rest, place),
+        // performs a command line with outputs that cannot be written
+        "&" => call_in_vain(rt, rest, place),
+        // performs a command line, and again with outputs that fail at each byte of it
+        "^" => call_cut_off(rt, rest, place),
+        // performs a command line where there is no memory
+        "~" => call_with_no_memory(rt, rest, place),
+        // performs two command lines, and tells it if their results differ: LINE | LINE
+        "=" => compare(rt, rest, place),
+        // does something with a file
+        "@" => handle(rt, rest, place),
+        _ => Ok(()),
+    }
+}
+
+fn tell_part(part: &str, place: &mut Place) -> io::Result<()> {
+    let text = str::from_utf8(place.output.as_slice()).unwrap_or("");
+    let answer = if text.contains(part) { "yes" } else { "no" };
+    place.tell_line("  ", answer)?;
+    Ok(())
+}
+
+// Does something with a file, or with what a command line told of help.
+fn handle<R: Host + LiveHost>(rt: &R, line: &str, place: &mut Place) -> io::Result<()> {
+    let (verb, rest) = line.split_once(' ').unwrap_or((line, ""));
+    match verb {
+        // writes the text at hand as a file
+        "write" => write(rt, rest, place),
+        // makes a file of one byte many times: PATH BYTE COUNT
+        "fill" => fill(rt, rest),
+        // adds a line to the text at hand, filled with blanks: LENGTH LINE
+        "filled" => add_filled(rest, place),
+        "folder" => fs::create_dir(rt, rest),
+        // performs a command line while a file is locked: PATH LINE
+        "held" => call_held(rt, rest, place),
+        // makes a further path of a file: PATH LINK
+        "link" => link(rt, rest),
+        // makes a path that stands for another: PATH LINK
+        "symlink" => point(rt, rest),
+        "remove" => fs::remove_file(rt, rest),
+        "show" => show(rt, rest, place),
+        // tells what the program says if the words of a command line cannot be read
+        "no-words" => tell_no_words(rt.alloc(), ErrorKind::InvalidData, place),
+        "no-memory" => tell_no_words(rt.alloc(), ErrorKind::OutOfMemory, place),
+        // tells what the program says about a run: END UNMET, and the path of a journal
+        "outcome" => tell_run(rt, rest, place),
+        // tells the limits that the last output does not: NAME
+        "limits" => Ok(tell_untold(rt.alloc(), rest, place)?),
+        _ => Err(io::Error::from(ErrorKind::InvalidInput)),
+    }
+}
+
+fn write<R: Files + AllocGlobal>(rt: &R, path: &str, place: &mut Place) -> io::Result<()> {
+    place.is_open = false;
+    fs::write(rt, path, place.text.as_slice())
+}
+
+fn link<R: Files>(rt: &R, words: &str) -> io::Result<()> {
+    let (path, link) = words.split_once(' ').unwrap_or((words, ""));
+    fs::hard_link(rt, path, link)
+}
+
+fn point<R: Files>(rt: &R, words: &str) -> io::Result<()> {
+    let (path, link) = words.split_once(' ').unwrap_or((words, ""));
+    symlink(rt, path, link)
+}
+
+fn call_held<R: Host + LiveHost>(rt: &R, words: &str, place: &mut Place) -> io::Result<()> {
+    let (path, line) = words.split_once(' ').unwrap_or((words, ""));
+    let file = fs::open(rt, path)?;
+    file.lock()?;
+    call(rt, line, place)
+}
+
+/// The number that a word is.
+pub fn number(word: &str) -> io::Result<usize> {
+    match word.parse::<usize>() {
+        Ok(number) => Ok(number),
+        Err(_) => Err(io::Error::from(ErrorKind::InvalidInput)),
+    }
+}
+
+fn byte_of(word: &str) -> io::Result<u8> {
+    match word.parse::<u8>() {
+        Ok(byte) => Ok(byte),
+        Err(_) => Err(io::Error::from(ErrorKind::InvalidInput)),
+    }
+}
+
+fn fill<R: Files + AllocGlobal>(rt: &R, words: &str) -> io::Result<()> {
+    let (path, rest) = words.split_once(' ').unwrap_or((words, ""));
+    let (byte, count) = rest.split_once(' ').unwrap_or((rest, ""));
+    let block = [byte_of(byte)?; 4_096];
+    let count = number(count)?;
+    let mut file = fs::create(rt, path)?;
+    for _ in 0..count / 4_096 {
+        file.write_all(&block)?;
+    }
+    match block.get(..count % 4_096) {
+        Some(rest) => file.write_all(rest),
+        None => Ok(()),
+    }
+}
+
+fn add_times(words: &str, place: &mut Place) -> io::Result<()> {
+    let (count, text) = words.split_once(' ').unwrap_or((words, ""));
+    for _ in 0..number(count)? {
+        place.text.extend_from_slice(text.as_bytes())?;
+    }
+    Ok(())
+}
+
+fn add_lines(words: &str, place: &mut Place) -> io::Result<()> {
+    let (count, line) = words.split_once(' ').unwrap_or((words, ""));
+    for _ in 0..number(count)? {
+        place.add(line)?;
+    }
+    Ok(())
+}
+
+fn add_filled(words: &str, place: &mut Place) -> io::Result<()> {
+    let (length, line) = words.split_once(' ').unwrap_or((words, ""));
+    let length = number(length)?;
+    place.add(line)?;
+    Ok(add_blanks(place, length.saturating_sub(line.len()))?)
+}
+
+fn add_blanks(place: &mut Place, count: usize) -> Result<(), AllocError> {
+    for _ in 0..count {
+        place.text.push(b' ')?;
+    }
+    Ok(())
+}
+
+// Tells the text of a file, or that there is no such file.
+fn show<R: Files + AllocGlobal>(rt: &R, path: &str, place: &mut Place) -> io::Result<()> {
+    if !fs::exists(rt, path)? {
+        place.tell_line("  ", "(no such file)")?;
+        return Ok(());
+    }
+    place.output = fs::read(rt, path)?;
+    place.tell_output()?;
+    Ok(())
+}

@@ -1,0 +1,377 @@
+//! Tokens, and the writing of bytes and numbers.
+
+use crate::texts::repeated;
+use sml_text::{
+    Front, Lexeme, Sign, Source, Token, WriteFault, first_bad, front_at, next_token, put, tell,
+    tell_i64, tell_u64,
+};
+use std::alloc::{AllocError, Global};
+use std::io::{Error, Write};
+use std::test::Fail;
+
+// A text, and what is at its front.
+type Row = (&'static [u8], Front);
+
+// The first of these rows whose text has something else at its front.
+fn other_front(source: Source, rows: &[Row]) -> Option<usize> {
+    for (place, (text, front)) in rows.iter().enumerate() {
+        if front_at(source, text) != *front {
+            return Some(place);
+        }
+    }
+    None
+}
+
+// Whether this is at the front of a string of `length` bytes between its quotes.
+fn is_at_string(alloc: Global, length: usize, front: Front) -> bool {
+    match repeated(alloc, b"\"", b"x", length, b"\"") {
+        Ok(text) => front_at(Source::Domain, &text) == front,
+        Err(_) => false,
+    }
+}
+
+const SKIPS: &[Row] = &[
+    (b"", Front::End),
+    (b"  A", Front::Skip(1)),
+    (b"\t", Front::Skip(1)),
+    (b"\r", Front::Skip(1)),
+    (b"\n", Front::Skip(1)),
+    (b"! a \"comment\"\nA", Front::Skip(13)),
+    (b"! to the end", Front::Skip(12)),
+    (b"!\rA\nB", Front::Skip(3)),
+    (b"!\x00\xff", Front::Skip(3)),
+];
+
+#[test]
+fn skips_blanks_and_comments(rt: HostRuntime) {
+    assert!(rt; other_front(Source::Domain, SKIPS) == None);
+}
+
+const LONGEST: &[u8] = &[b'w'; 64];
+
+const TOO_LONG: &[u8] = &[b'w'; 65];
+
+const WORDS: &[Row] = &[
+    (b"class:", Front::Word(5)),
+    (b"A-5", Front::Word(1)),
+    (b"z_9Z", Front::Word(4)),
+    (b"_A", Front::Bad),
+    (LONGEST, Front::Word(64)),
+    (TOO_LONG, Front::Bad),
+];
+
+#[test]
+fn reads_words(rt: HostRuntime) {
+    assert!(rt; other_front(Source::Domain, WORDS) == None);
+    assert!(rt; first_bad(Source::Domain, TOO_LONG) == Some(0));
+}
+
+const INTS: &[Row] = &[
+    (
+        b"0",
+        Front::Int {
+            value: 0,
+            length: 1,
+        },
+    ),
+    (
+        b"-0",
+        Front::Int {
+            value: 0,
+            length: 2,
+        },
+    ),
+    (
+        b"007 ",
+        Front::Int {
+            value: 7,
+            length: 3,
+        },
+    ),
+    (
+        b"5-3",
+        Front::Int {
+            value: 5,
+            length: 1,
+        },
+    ),
+    (
+        b"-3",
+        Front::Int {
+            value: -3,
+            length: 2,
+        },
+    ),
+    (
+        b"9223372036854775807",
+        Front::Int {
+            value: i64::MAX,
+            length: 19,
+        },
+    ),
+    (
+        b"-9223372036854775808",
+        Front::Int {
+            value: i64::MIN,
+            length: 20,
+        },
+    ),
+    (
+        b"0000000000000000000000000000000000000042",
+        Front::Int {
+            value: 42,
+            length: 40,
+        },
+    ),
+    (b"9223372036854775808", Front::Bad),
+    (b"-9223372036854775809", Front::Bad),
+    (b"18446744073709551616", Front::Bad),
+    (b"99999999999999999999999", Front::Bad),
+    (b"-", Front::Bad),
+    (b"--5", Front::Bad),
+    (b"5a", Front::Bad),
+    (b"5_", Front::Bad),
+    (b"-5a", Front::Bad),
+];
+
+#[test]
+fn reads_ints(rt: HostRuntime) {
+    assert!(rt; other_front(Source::Domain, INTS) == None);
+}
+
+const STRINGS: &[Row] = &[
+    (b"\"\"", Front::Str(0)),
+    (b"\"a\"b", Front::Str(1)),
+    (b"\"! ~\"", Front::Str(3)),
+    (b"\"abc", Front::Bad),
+    (b"\"a\nb\"", Front::Bad),
+    (b"\"\x7f\"", Front::Bad),
+    (b"\"\x80\"", Front::Bad),
+];
+
+const STRING_LENGTHS: &[(usize, Front)] = &[
+    (255, Front::Str(255)),
+    (256, Front::Bad),
+    (300, Front::Bad),
+];
+
+#[test]
+fn reads_strings(rt: HostRuntime) {
+    assert!(rt; other_front(Source::Domain, STRINGS) == None);
+    for (length, front) in STRING_LENGTHS {
+        assert!(rt;
+            is_at_string(rt.alloc(), *length, *front),
+            "of {length} bytes"
+        );
+    }
+}
+
+const SIGNS: &[Row] = &[
+    (b":", Front::Sign(Sign::Colon)),
+    (b",,", Front::Sign(Sign::Comma)),
+    (b"=", Front::Sign(Sign::Equals)),
+    (b"(", Front::Sign(Sign::OpenBracket)),
+    (b")", Front::Sign(Sign::CloseBracket)),
+    (b"{", Front::Sign(Sign::OpenBrace)),
+    (b"}", Front::Sign(Sign::CloseBrace)),
+    (b"/", Front::Sign(Sign::Slash)),
+    (b";", Front::Bad),
+    (b"\x00", Front::Bad),
+];
+
+#[test]
+fn reads_signs(rt: HostRuntime) {
+    assert!(rt; other_front(Source::Domain, SIGNS) == None);
+}
+
+const SESSIONS: &[Row] = &[
+    (b"@1", Front::Session(1)),
+    (b"@8RUN", Front::Session(8)),
+    (b"@12", Front::Session(1)),
+    (b"@0", Front::Bad),
+    (b"@9", Front::Bad),
+    (b"@", Front::Bad),
+];
+
+#[test]
+fn sessions_stand_in_lines_alone(rt: HostRuntime) {
+    assert!(rt; other_front(Source::Line, SESSIONS) == None);
+    assert!(rt; front_at(Source::Domain, b"@1") == Front::Bad);
+}
+
+// The place behind the first token of a line.
+fn behind_token(text: &[u8]) -> Option<usize> {
+    let (_, _, place) = next_token(Source::Line, text, 0)?;
+    Some(place)
+}
+
+// A text, the place behind the first token of it as a line, and that of the first thing that is no token.
+type Place = (&'static [u8], Option<usize>, Option<usize>);
+
+const PLACES: &[Place] = &[
+    (b"", None, None),
+    (b";", None, Some(0)),
+    (b" A", Some(2), None),
+    (b"\"abc\"", Some(5), None),
+    (b"-7", Some(2), None),
+    (b"@1", Some(2), None),
+];
+
+fn stands_so((text, behind, bad): Place) -> bool {
+    behind_token(text) == behind && first_bad(Source::Line, text) == bad
+}
+
+#[test]
+fn knows_what_stands_and_its_size(rt: HostRuntime) {
+    for (i, row) in PLACES.iter().enumerate() {
+        assert!(rt; stands_so(*row), "at {i}");
+    }
+}
+
+#[test]
+fn gives_one_token_after_another(rt: HostRuntime) -> Result<(), Fail> {
+    let wanted = [
+        (Lexeme::Word(b"start"), 100),
+        (Lexeme::Session(1), 106),
+        (Lexeme::Int(2), 108),
+        (Lexeme::Int(-4), 110),
+        (Lexeme::Str(b"a b"), 120),
+        (Lexeme::Sign(Sign::Slash), 125),
+    ];
+    let mut rest = b"start @12 -4 ! rest\n\"a b\"/".as_slice();
+    let mut place = 100;
+    for (lexeme, at) in wanted {
+        let Some((token, after, behind)) = next_token(Source::Line, rest, place) else {
+            panic!(rt; "a token stands at {at}");
+        };
+        assert!(rt; token == Token { lexeme, at }, "at {at}");
+        rest = after;
+        place = behind;
+    }
+    assert!(rt; next_token(Source::Line, rest, place).is_none());
+    assert!(rt; next_token(Source::Domain, b"@1", 0).is_none());
+    Ok(())
+}
+
+const BAD: &[(Source, &[u8], Option<usize>)] = &[
+    (Source::Domain, b"", None),
+    (Source::Domain, b"class:A state:S 0 \"x\" ! \xff", None),
+    (Source::Domain, b"A 9A", Some(2)),
+    (Source::Domain, b"A  \"abc", Some(3)),
+    (Source::Domain, b"5--3", Some(1)),
+    (Source::Domain, b"5-3", None),
+    (Source::Domain, b"5 -5a", Some(2)),
+    (Source::Domain, b"\n@1", Some(1)),
+    (Source::Line, b"\n@1", None),
+    (Source::Line, b"@12@9", Some(3)),
+    (Source::Domain, b"!\r;\n;", Some(4)),
+];
+
+#[test]
+fn finds_the_first_bad_place(rt: HostRuntime) {
+    for (i, (source, text, bad)) in BAD.iter().enumerate() {
+        assert!(rt; first_bad(*source, text) == *bad, "at {i}");
+    }
+}
+
+/// Takes one byte a call, and fails at a call or takes nothing there.
+#[derive(Drop)]
+pub struct Slow {
+    pub taken: Vec<u8>,
+    good_calls: usize,
+    by_error: bool,
+    calls: usize,
+}
+
+impl Write for Slow {
+    fn write(&mut self, buf: &[u8]) -> std::io::Result<usize> {
+        self.calls = self.calls.saturating_add(1);
+        if self.taken.len() >= self.good_calls {
+            return if self.by_error {
+                Err(Error::from(AllocError))
+            } else {
+                Ok(0)
+            };
+        }
+        let [first, ..] = buf else {
+            return Ok(0);
+        };
+        self.taken.push(*first)?;
+        Ok(1)
+    }
+
+    fn flush(&mut self) -> std::io::Result<()> {
+        Ok(())
+    }
+}
+
+/// A writer that is good for `good_calls` calls.
+pub fn one_byte_writer(alloc: Global, good_calls: usize, by_error: bool) -> Slow {
+    Slow {
+        taken: Vec::new(alloc),
+        good_calls,
+        by_error,
+        calls: 0,
+    }
+}
+
+// Whether a writer that is good for `good_calls` calls takes as many bytes, and is not called after it fails.
+fn takes_a_front(alloc: Global, good_calls: usize, by_error: bool) -> bool {
+    let bytes = b"journal".as_slice();
+    let mut writer = one_byte_writer(alloc, good_calls, by_error);
+    let result = put(&mut writer, bytes);
+    let taken = good_calls.min(7);
+    let wanted = if good_calls >= 7 {
+        Ok(())
+    } else {
+        Err(WriteFault)
+    };
+    result == wanted
+        && writer.taken.as_slice() == bytes.split_at(taken).0
+        && writer.calls == (taken + 1).min(7)
+}
+
+#[test]
+fn puts_all_or_a_front(rt: HostRuntime) {
+    for good_calls in 0..9usize {
+        assert!(rt;
+            takes_a_front(rt.alloc(), good_calls, true),
+            "an error after {good_calls}"
+        );
+        assert!(rt;
+            takes_a_front(rt.alloc(), good_calls, false),
+            "no byte after {good_calls}"
+        );
+    }
+}
+
+#[test]
+fn a_fault_stays(rt: HostRuntime) {
+    let mut writer = one_byte_writer(rt.alloc(), 3, true);
+    let mut failed = false;
+    tell(&mut writer, &mut failed, b"ab");
+    assert!(rt; !failed);
+    tell(&mut writer, &mut failed, b"cd");
+    assert!(rt; failed);
+    tell(&mut writer, &mut failed, b"ef");
+    tell_u64(&mut writer, &mut failed, 7);
+    tell_i64(&mut writer, &mut failed, -7);
+    assert!(rt; failed && writer.taken.as_slice() == b"abc".as_slice());
+    assert_eq!(rt; writer.calls, 4);
+}
+
+#[test]
+fn writes_numbers(rt: HostRuntime) {
+    let mut text = Vec::new(rt.alloc());
+    let mut failed = false;
+    for number in [0, 10, u64::MAX] {
+        tell_u64(&mut text, &mut failed, number);
+        tell(&mut text, &mut failed, b" ");
+    }
+    for number in [0, -1, i64::MIN, i64::MAX] {
+        tell_i64(&mut text, &mut failed, number);
+        tell(&mut text, &mut failed, b" ");
+    }
+    let wanted = b"0 10 18446744073709551615 0 -1 -9223372036854775808 9223372036854775807 ";
+    assert!(rt; !failed && text.as_slice() == wanted.as_slice());
+}

@@ -1,0 +1,233 @@
+//! What values passed by name make for the actions of a counter and of its sink.
+
+use smi_journal::{Args, Passed, complete};
+use sml_domain::{ActionId, Domain, ObjId, Text, Value};
+use sml_load::domain_of;
+use sml_text::{Lexeme, Source, next_token};
+use sml_tree::Name;
+use std::alloc::{AllocError, Global};
+use std::test::*;
+use test_domains::COUNTER;
+
+/// The sink.
+pub const OUT: usize = 0;
+
+/// The counter.
+pub const C: usize = 1;
+
+/// The action of the sink.
+pub const TAKE: usize = 0;
+
+/// The action of the counter that has parameters.
+pub const PUT: usize = 1;
+
+/// The action of the counter that has none.
+pub const SHOW: usize = 2;
+
+/// A value, as a row writes it.
+#[derive(Clone, Copy)]
+pub enum Plain {
+    Int(i64),
+    Str(&'static [u8]),
+}
+
+/// The value that a row writes.
+pub fn value_of(alloc: Global, plain: Plain) -> Option<Value> {
+    match plain {
+        Plain::Int(n) => Some(Value::Int(n)),
+        Plain::Str(bytes) => Some(Value::Text(Text::new(alloc, bytes).ok()?)),
+    }
+}
+
+fn is_value(value: &Value, plain: Plain) -> bool {
+    match (value, plain) {
+        (Value::Int(n), Plain::Int(m)) => *n == m,
+        (Value::Text(text), Plain::Str(bytes)) => text.as_bytes() == bytes,
+        _ => false,
+    }
+}
+
+// Values that are passed by name, and what they make for an object's action.
+#[derive(Clone, Copy)]
+struct Row {
+    object: usize,
+    action: usize,
+    passed: &'static [(&'static [u8], Plain)],
+    made: Option<&'static [Plain]>,
+}
+
+const ROWS: &[Row] = &[
+    // A default is used.
+    Row {
+        object: C,
+        action: PUT,
+        passed: &[(b"M", Plain::Str(b"a"))],
+        made: Some(&[Plain::Int(5), Plain::Str(b"a")]),
+    },
+    // What is passed goes before the default.
+    Row {
+        object: C,
+        action: PUT,
+        passed: &[(b"T", Plain::Int(-7)), (b"M", Plain::Str(b""))],
+        made: Some(&[Plain::Int(-7), Plain::Str(b"")]),
+    },
+    // The order is that of the parameters.
+    Row {
+        object: OUT,
+        action: TAKE,
+        passed: &[(b"W", Plain::Str(b"a")), (b"V", Plain::Int(5))],
+        made: Some(&[Plain::Int(5), Plain::Str(b"a")]),
+    },
+    Row {
+        object: OUT,
+        action: TAKE,
+        passed: &[(b"V", Plain::Int(3))],
+        made: Some(&[Plain::Int(3), Plain::Str(b"none")]),
+    },
+    Row {
+        object: C,
+        action: SHOW,
+        passed: &[],
+        made: Some(&[]),
+    },
+    // A value is missing.
+    Row {
+        object: C,
+        action: PUT,
+        passed: &[],
+        made: None,
+    },
+    Row {
+        object: C,
+        action: PUT,
+        passed: &[(b"T", Plain::Int(7))],
+        made: None,
+    },
+    Row {
+        object: OUT,
+        action: TAKE,
+        passed: &[(b"W", Plain::Str(b"a"))],
+        made: None,
+    },
+    // A name is unknown, also where it is that of a parameter of the class.
+    Row {
+        object: C,
+        action: PUT,
+        passed: &[(b"M", Plain::Str(b"a")), (b"X", Plain::Int(1))],
+        made: None,
+    },
+    Row {
+        object: C,
+        action: SHOW,
+        passed: &[(b"N", Plain::Int(1))],
+        made: None,
+    },
+    // A name is repeated.
+    Row {
+        object: C,
+        action: PUT,
+        passed: &[(b"M", Plain::Str(b"a")), (b"M", Plain::Str(b"a"))],
+        made: None,
+    },
+    Row {
+        object: C,
+        action: PUT,
+        passed: &[
+            (b"T", Plain::Int(1)),
+            (b"M", Plain::Str(b"a")),
+            (b"T", Plain::Int(1)),
+        ],
+        made: None,
+    },
+    // A value is of the wrong kind.
+    Row {
+        object: C,
+        action: PUT,
+        passed: &[(b"M", Plain::Int(1))],
+        made: None,
+    },
+    Row {
+        object: C,
+        action: PUT,
+        passed: &[(b"M", Plain::Str(b"a")), (b"T", Plain::Str(b"5"))],
+        made: None,
+    },
+];
+
+fn name_of(word: &[u8]) -> Option<Name> {
+    match next_token(Source::Domain, word, 0)?.0.lexeme {
+        Lexeme::Word(word) => Some(Name::from_word(word)),
+        _ => None,
+    }
+}
+
+// What a row passes.
+fn passed_of(alloc: Global, row: Row) -> Option<Vec<Passed>> {
+    let mut passed = Vec::new(alloc);
+    for (word, plain) in row.passed {
+        let name = name_of(word)?;
+        let value = value_of(alloc, *plain)?;
+        passed.push(Passed { name, value }).ok()?;
+    }
+    Some(passed)
+}
+
+// Whether arguments are these values.
+fn are(args: &Args, values: &[Plain]) -> bool {
+    for (place, plain) in values.iter().enumerate() {
+        match args.values().get(place) {
+            Some(value) if is_value(value, *plain) => {}
+            _ => return false,
+        }
+    }
+    args.values().len() == values.len()
+}
+
+// Whether what was made is this.
+fn is_made(made: &Result<Option<Args>, AllocError>, wanted: Option<&[Plain]>) -> bool {
+    match (made, wanted) {
+        (Ok(Some(args)), Some(values)) => are(args, values),
+        (Ok(None), None) => true,
+        _ => false,
+    }
+}
+
+// Whether what a row passes makes what it says.
+fn makes(alloc: Global, domain: &Domain, row: Row) -> bool {
+    let Some(params) = domain.parameters(ObjId::new(row.object), ActionId::new(row.action)) else {
+        return false;
+    };
+    match passed_of(alloc, row) {
+        Some(passed) => is_made(&complete(alloc, params, &passed), row.made),
+        None => false,
+    }
+}
+
+// What is passed in another order than that of the sink's parameters.
+const TURNED: Row = Row {
+    object: OUT,
+    action: TAKE,
+    passed: &[(b"W", Plain::Str(b"a")), (b"V", Plain::Int(5))],
+    made: Some(&[Plain::Int(5), Plain::Str(b"a")]),
+};
+
+/// Whether the sink's arguments are completed, at the second time at the latest.
+pub fn completes_at_last(alloc: Global, domain: &Domain) -> bool {
+    makes(alloc, domain, TURNED) || makes(alloc, domain, TURNED)
+}
+
+// The place of the first row that makes something else.
+fn wrong_row(alloc: Global, domain: &Domain) -> Option<usize> {
+    for (place, row) in ROWS.iter().enumerate() {
+        if !makes(alloc, domain, *row) {
+            return Some(place);
+        }
+    }
+    None
+}
+
+#[test]
+fn completes_by_name(rt: HostRuntime) {
+    let domain = domain_of(rt.alloc(), COUNTER).ok();
+    assert!(rt; domain.is_some_and(|domain| wrong_row(rt.alloc(), &domain).is_none()));
+}

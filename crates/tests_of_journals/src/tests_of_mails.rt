@@ -1,0 +1,156 @@
+//! The mail of one thread, step by step.
+
+use crate::completing::{C, OUT, PUT, Plain, SHOW, TAKE};
+use crate::mails::{Asked, Move, wrong_step};
+use crate::runs::By;
+use smi_mail_plain::PlainMail;
+use sml_load::domain_of;
+use std::alloc::Global;
+use std::sync::Arc;
+use std::test::*;
+use test_domains::COUNTER;
+
+// Requests to the sink.
+const FIRST: Asked = Asked {
+    by: By::Session(1),
+    action: TAKE,
+    given: &[Plain::Int(1), Plain::Str(b"a")],
+};
+
+const SECOND: Asked = Asked {
+    by: By::Session(1),
+    action: TAKE,
+    given: &[Plain::Int(2), Plain::Str(b"b")],
+};
+
+const OTHERS: Asked = Asked {
+    by: By::Session(2),
+    action: TAKE,
+    given: &[Plain::Int(3), Plain::Str(b"c")],
+};
+
+const SENT: Asked = Asked {
+    by: By::Object(C),
+    action: TAKE,
+    given: &[Plain::Int(4), Plain::Str(b"d")],
+};
+
+// Requests to the counter, one of them its own.
+const SHOWN: Asked = Asked {
+    by: By::Session(8),
+    action: SHOW,
+    given: &[],
+};
+
+const OWN: Asked = Asked {
+    by: By::Object(C),
+    action: PUT,
+    given: &[Plain::Int(5), Plain::Str(b"e")],
+};
+
+// A capacity, and the steps of a mail with it.
+type Row = (usize, &'static [Move]);
+
+const ROWS: &[Row] = &[
+    // Capacity 1: number 0, full, taken, nothing left, then number 1.
+    (
+        1,
+        &[
+            Move::Empty(OUT),
+            Move::Posts(OUT, FIRST, 0),
+            Move::Full(OUT, SECOND),
+            Move::Full(OUT, OTHERS),
+            Move::Takes(OUT, FIRST, 0),
+            Move::Empty(OUT),
+            Move::Posts(OUT, SECOND, 1),
+            Move::Takes(OUT, SECOND, 1),
+            Move::Empty(OUT),
+        ],
+    ),
+    // Three senders, each with its own numbers. What was posted first is taken first.
+    (
+        4,
+        &[
+            Move::Posts(OUT, OTHERS, 0),
+            Move::Posts(OUT, FIRST, 0),
+            Move::Posts(OUT, SENT, 0),
+            Move::Posts(OUT, SECOND, 1),
+            Move::Full(OUT, OTHERS),
+            Move::Takes(OUT, OTHERS, 0),
+            Move::Posts(OUT, OTHERS, 1),
+            Move::Takes(OUT, FIRST, 0),
+            Move::Takes(OUT, SENT, 0),
+            Move::Takes(OUT, SECOND, 1),
+            Move::Takes(OUT, OTHERS, 1),
+            Move::Empty(OUT),
+        ],
+    ),
+    // An object that sends to itself finds its own mailbox full.
+    (
+        2,
+        &[
+            Move::Posts(C, SHOWN, 0),
+            Move::Posts(C, OWN, 0),
+            Move::Full(C, OWN),
+            Move::Takes(C, SHOWN, 0),
+            Move::Posts(C, OWN, 1),
+            Move::Takes(C, OWN, 0),
+            Move::Takes(C, OWN, 1),
+            Move::Empty(C),
+        ],
+    ),
+    // Objects have their own mailboxes, and their own numbers too.
+    (
+        1,
+        &[
+            Move::Posts(OUT, SENT, 0),
+            Move::Empty(C),
+            Move::Posts(C, OWN, 0),
+            Move::Full(OUT, SENT),
+            Move::Takes(C, OWN, 0),
+            Move::Full(OUT, FIRST),
+            Move::Takes(OUT, SENT, 0),
+            Move::Empty(C),
+        ],
+    ),
+    // What was taken may be posted again, however often.
+    (
+        1,
+        &[
+            Move::Posts(OUT, FIRST, 0),
+            Move::GoesRound(OUT, 1),
+            Move::GoesRound(OUT, 2),
+            Move::GoesRound(OUT, 3),
+            Move::GoesRound(OUT, 4),
+            Move::GoesRound(OUT, 5),
+            Move::Takes(OUT, FIRST, 5),
+            Move::Empty(OUT),
+        ],
+    ),
+];
+
+// The place of the first step of a row that goes wrong, in a mail of the counter.
+fn is_answered(alloc: Global, row: Row) -> bool {
+    let (capacity, steps) = row;
+    if capacity < 1 || capacity > 1024 {
+        return false;
+    }
+    let Ok(domain) = domain_of(alloc, COUNTER) else {
+        return false;
+    };
+    let Ok(shared) = Arc::try_clone(&domain) else {
+        return false;
+    };
+    let Ok(mail) = PlainMail::new(alloc, shared, capacity) else {
+        return false;
+    };
+    let mut mail = mail;
+    wrong_step(alloc, &domain, &mut mail, steps).is_none()
+}
+
+#[test]
+fn mailboxes_step_by_step(rt: HostRuntime) {
+    for row in ROWS {
+        assert!(rt; is_answered(rt.alloc(), *row));
+    }
+}

@@ -1,4 +1,0 @@
-use Rattle.thread_tests.proofs.configured.two_mails_one_journal.Given as goal
-
-abbrev pub ghosts-ruled_goes : goal.ghosts-ruled_goes
-ghosts-ruled_goes g a = record { names = a.boxes }

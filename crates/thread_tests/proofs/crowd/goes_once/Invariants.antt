@@ -1,4 +1,0 @@
-use Rattle.thread_tests.proofs.crowd.goes_once.Given as goal
-
-abbrev pub ghosts-goes_round : goal.ghosts-goes_round
-ghosts-goes_round g a = record { names = a.boxes }
