@@ -6,7 +6,7 @@ use explain_files::{explain_check, explain_good, explain_read};
 use explain_lines::{
     LineKind, SourceLine, explain_bad_entry, explain_bad_header, explain_bad_line,
 };
-use explain_runs::tell_reasons;
+use explain_runs::{tell_device_lines, tell_reasons};
 use smi_journal::Entry;
 use sml_domain::Domain;
 use sml_text::{Sink, put};
@@ -78,6 +78,15 @@ impl Advice {
         if self.is_wanted {
             let mut failed = false;
             let _ = explain_requests(alloc, domain, file, text, &mut self.text, &mut failed);
+        }
+    }
+
+    /// Advises on the lines of a script for devices that can do nothing, or make their device fail: at most twenty, and
+    /// then how many others there are. The cost is the length of the text, twice.
+    pub fn of_devices(&mut self, alloc: Global, domain: &Domain, file: &str, text: &[u8]) {
+        if self.is_wanted {
+            let mut failed = false;
+            let _ = tell_device_lines(alloc, domain, file, text, &mut self.text, &mut failed);
         }
     }
 

@@ -123,7 +123,7 @@ fn tell_against<E: Write>(
 }
 
 // Writes the explanation of the illegal line, if there is one. A fault of the writer changes nothing.
-fn explain_ruling<E: Sink>(
+pub(crate) fn explain_ruling<E: Sink>(
     heap: Global,
     domain: &Arc<Domain>,
     bytes: &[u8],
@@ -177,7 +177,7 @@ fn within_limit<'a>(journal: &'a str, bytes: Vec<u8>) -> Result<Vec<u8>, Fault<'
 }
 
 // What the judge says about the bytes of a journal.
-fn judge_text<'a>(
+pub(crate) fn judge_text<'a>(
     heap: Global,
     domain: &Arc<Domain>,
     journal: &'a str,

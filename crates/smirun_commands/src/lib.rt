@@ -1,6 +1,6 @@
 //! The commands of the state manager that need no threads: to check domains, to print, list or draw one, to run a
-//! schedule on one, and to judge or draw a journal of one. Each is a function over a runtime, what it is asked and the
-//! streams that it writes.
+//! schedule on one, and to judge, draw or show a journal of one. Each is a function over a runtime, what it is asked
+//! and the streams that it writes.
 #![tactic(auto)]
 
 mod advice;
@@ -12,6 +12,7 @@ mod judgement;
 mod list;
 mod loading;
 mod notes;
+mod page;
 mod print;
 mod requests;
 mod ruling;
@@ -29,6 +30,7 @@ pub use graph::{GraphOptions, run_graph};
 pub use judgement::{FileOutcome, judge};
 pub use list::run_list;
 pub use loading::{domain_of_bytes, load_domain};
+pub use page::{PageOptions, run_page};
 pub use print::{print_text, run_print};
 pub use ruling::Ruling;
 pub use same_file::is_one_read;

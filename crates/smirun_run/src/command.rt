@@ -1,18 +1,18 @@
 //! The command `run`.
-ghost use Rattle.std.specs.Prelude.{◌≡◌, Err, IfErr, IfSome};
+ghost use Rattle.std.specs.Prelude.{◌≡◌, ◌≤◌, Err, IfErr, IfOk, IfSome};
 ghost use Rattle.std.specs.Arc.{arc_value};
 ghost use Rattle.smirun_commands.specs.Paths.{IsReadAs};
 ghost use Rattle.smirun_run.specs.Running.{IsRunError};
 
 use crate::host::Host;
 use crate::options::RunOptions;
-use crate::outcome::{Outcome, tell_outcome};
+use crate::outcome::{Outcome, is_troubled, tell_outcome};
 use crate::planning::load_plan;
 use crate::progress::Teller;
 use crate::running::{RunError, run_plan};
 use smi_run::Unwatched;
 use smi_run_plan::Plan;
-use smirun_commands::{Advice, Fault, is_one_read, load_domain};
+use smirun_commands::{Advice, DONE, Fault, REFUSED, is_one_read, load_domain};
 use sml_domain::Domain;
 use std::io::{Read, Write};
 use std::sync::Arc;
@@ -25,6 +25,8 @@ use std::sync::Arc;
 /// The domain is read and checked before the script is opened, and the script is read whole before anything runs. The
 /// summary is written to its end before the file of the journal is made, or emptied. What was read is passed to
 /// `plan_of_bytes` and `run_plan`, and what the run came to, to `tell_outcome`.
+///
+/// Returns the exit status: `DONE`, and in a strict run `REFUSED` if something went wrong in it.
 pub fn run_run<'a, R: Host, I: Read, W: Write, E: Write>(
     rt: &R,
     options: &RunOptions<'a>,
@@ -32,7 +34,8 @@ pub fn run_run<'a, R: Host, I: Read, W: Write, E: Write>(
     output: &mut W,
     errors: &mut E,
     advice: &mut Advice,
-) -> Result<(), Fault<'a>>
+) -> Result<u8, Fault<'a>>
+    ensures status { IfOk result (λ status. status ≤ 1) }
     ensures domain_stays { IfSome options.now.journal (λ path. IsReadAs options.now.file.now path.now
         → result ≡ Err (Fault.Overwrites path)) }
     ensures script_stays { IfSome options.now.journal (λ path. IsReadAs options.now.script.now path.now
@@ -54,7 +57,11 @@ pub fn run_run<'a, R: Host, I: Read, W: Write, E: Write>(
     match run_told(rt, &domain, plan, options, errors) {
         Ok(outcome) => {
             advice.of_run(rt.alloc(), &domain, outcome.journal.entries());
-            tell_outcome(rt, &domain, options.journal, &outcome, output)
+            match tell_outcome(rt, &domain, options.journal, &outcome, output) {
+                Ok(()) if options.strict && is_troubled(&outcome) => Ok(REFUSED),
+                Ok(()) => Ok(DONE),
+                Err(fault) => Err(fault),
+            }
         }
         Err(RunError::BadConfig) => Err(Fault::WrongRunNumbers),
         Err(RunError::DeviceCount) => unreachable!(),

@@ -18,4 +18,6 @@ pub struct RunOptions<'a> {
     pub progress: bool,
     /// Whether it is explained why a text or a line was refused.
     pub explain: bool,
+    /// Whether the status says that something went wrong in the run.
+    pub strict: bool,
 }

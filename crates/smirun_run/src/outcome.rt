@@ -5,7 +5,7 @@ ghost use Rattle.smi_journal_entries.specs.declared.journal.Format.TheVariants.{
 ghost use Rattle.smi_journal.specs.JournalText.{journal_text};
 ghost use Rattle.smirun_run.specs.Outcomes.{IsFaultOf};
 
-use smi_journal::{Journal, write_journal};
+use smi_journal::{Cause, Entry, Journal, write_journal};
 use smi_run::{Receipt, ServeEnd};
 use smirun_commands::Fault;
 use sml_domain::Domain;
@@ -26,6 +26,31 @@ pub struct Outcome {
     pub journal: Journal,
     /// The receipts that the journal does not agree with, by sessions and in their order.
     pub unmet: Vec<Receipt>,
+}
+
+// Whether a summary has a line that begins so.
+fn has_line(summary: &[u8], front: &[u8]) -> bool {
+    summary
+        .split(|b| *b == b'\n')
+        .any(|line| line.starts_with(front))
+}
+
+/// Whether something went wrong in a run: its summary has a line `refused`, `stalled` or `left`, or a device failed.
+/// The cost is the length of the summary and of the journal.
+pub(crate) fn is_troubled(outcome: &Outcome) -> bool {
+    let summary = outcome.summary.as_slice();
+    has_line(summary, b"refused ")
+        || has_line(summary, b"stalled ")
+        || has_line(summary, b"left ")
+        || outcome.journal.entries().iter().any(is_device_fault)
+}
+
+// Whether an entry is the kill of an object whose device failed.
+fn is_device_fault(entry: &Entry) -> bool {
+    match entry {
+        Entry::Kill { cause, .. } => matches!(cause, Cause::Fault),
+        _ => false,
+    }
 }
 
 /// Tells what a run came to: its summary goes to `output`, to its end, and then the journal to the file of the path,

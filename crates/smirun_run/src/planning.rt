@@ -43,7 +43,10 @@ fn advised_plan<'a>(
 {
     let plan = plan_of_bytes(heap, domain, script, text);
     match &plan {
-        Ok(_) => advice.of_requests(heap, domain, script, text),
+        Ok(_) => {
+            advice.of_requests(heap, domain, script, text);
+            advice.of_devices(heap, domain, script, text);
+        }
         Err(fault) => advice.of_script(domain, script, text, fault),
     }
     plan

@@ -4,8 +4,8 @@ ghost use Rattle.std.specs.IoError.{error_kind};
 ghost use Rattle.smirun_commands.specs.Status.{fault_status};
 
 use smirun_commands::{
-    Advice, AuditOptions, DONE, Fault, GraphOptions, StepOptions, WRONG_WORDS, run_audit,
-    run_check, run_graph, run_list, run_print, run_step,
+    Advice, AuditOptions, DONE, Fault, GraphOptions, PageOptions, StepOptions, WRONG_WORDS,
+    run_audit, run_check, run_graph, run_list, run_page, run_print, run_step,
 };
 use smirun_live::{LiveHost, LiveOptions, run_live, run_live_as_lines_come};
 use smirun_run::{Host, RunOptions, run_run};
@@ -29,6 +29,8 @@ pub enum AskedCommand<'a> {
     List(&'a str),
     /// To draw a domain, or the run of a journal.
     Graph(GraphOptions<'a>),
+    /// To write a page of the run of a journal.
+    Page(PageOptions<'a>),
     /// To judge a journal by a domain.
     Audit(AuditOptions<'a>),
 }
@@ -42,7 +44,7 @@ impl AskedCommand<'_> {
             AskedCommand::Run(options) => options.explain,
             AskedCommand::Live(options) => options.explain,
             AskedCommand::Audit(options) => options.explain,
-            AskedCommand::List(_) | AskedCommand::Graph(_) => false,
+            AskedCommand::List(_) | AskedCommand::Graph(_) | AskedCommand::Page(_) => false,
         }
     }
 }
@@ -85,6 +87,7 @@ fn perform_advised<R: Host + LiveHost, I: Read, W: Write, E: Write>(
         AskedCommand::Print { file, .. } => print(rt, file, input, output, errors, advice),
         AskedCommand::List(file) => list(rt, file, input, output, errors, advice),
         AskedCommand::Graph(options) => graph(rt, options, input, output, errors, advice),
+        AskedCommand::Page(options) => page(rt, options, input, output, errors, advice),
         AskedCommand::Step(options) => step(rt, options, input, output, errors, advice),
         AskedCommand::Run(options) => run(rt, options, input, output, errors, advice),
         AskedCommand::Live(options) => live(rt, options, input, output, errors, advice),
@@ -170,6 +173,21 @@ fn graph<R: Host + LiveHost, I: Read, W: Write, E: Write>(
     ended(&outcome, errors)
 }
 
+// Writes a page of the run of a journal.
+fn page<R: Host + LiveHost, I: Read, W: Write, E: Write>(
+    rt: &R,
+    options: &PageOptions<'_>,
+    input: &mut I,
+    output: &mut W,
+    errors: &mut E,
+    advice: &mut Advice,
+) -> u8
+    ensures { result ≤ 4 }
+{
+    let outcome = run_page(rt, options, input, output, advice);
+    ended(&outcome, errors)
+}
+
 // Runs a schedule.
 fn step<R: Host + LiveHost, I: Read, W: Write, E: Write>(
     rt: &R,
@@ -197,7 +215,7 @@ fn run<R: Host + LiveHost, I: Read, W: Write, E: Write>(
     ensures { result ≤ 4 }
 {
     let outcome = run_run(rt, options, input, output, errors, advice);
-    ended(&outcome, errors)
+    status_of(&outcome, errors)
 }
 
 // Runs a manager over lines that are all there.

@@ -7,8 +7,9 @@ use crate::help::check::{CHECK, CHECK_MORE, FILES};
 use crate::help::graph::{COUNT, DRAWN_JOURNAL, FROM, GRAPH, GRAPH_MORE, OBJECTS};
 use crate::help::list::{LIST, LIST_MORE};
 use crate::help::live::{IN_TURN, KEPT_LOG, LIVE, LIVE_FILE, LIVE_MORE, RESUME};
+use crate::help::page::{PAGE, PAGE_MORE, SHOWN_JOURNAL};
 use crate::help::print::{PRINT, PRINT_MORE};
-use crate::help::run::{PROGRESS, RUN, RUN_JOURNAL, RUN_MORE, SCRIPT, WORKERS};
+use crate::help::run::{PROGRESS, RUN, RUN_JOURNAL, RUN_MORE, RUN_STRICT, SCRIPT, WORKERS};
 use crate::help::step::{
     CAPACITY, KEPT_JOURNAL, SCHEDULE, STARTS, STATES, STEP, STEP_MORE, STRICT,
 };
@@ -16,7 +17,7 @@ use crate::help::{WHY_LINES, WHY_REFUSED};
 use clap::error::ErrorKind;
 use clap::{Arg, ArgAction, ArgMatches, Command, Error, value_parser};
 use smirun_commands::{
-    AuditOptions, GraphOptions, MAX_CAPACITY, MAX_STARTS, STANDARD_INPUT, StepOptions,
+    AuditOptions, GraphOptions, MAX_CAPACITY, MAX_STARTS, PageOptions, STANDARD_INPUT, StepOptions,
 };
 use smirun_live::LiveOptions;
 use smirun_run::{MAX_WORKERS, RunNumbers, RunOptions};
@@ -89,6 +90,7 @@ fn inputs(asked: &AskedCommand<'_>) -> usize {
         AskedCommand::Check { files, .. } => inputs_in(files.as_slice()),
         AskedCommand::Print { file, .. } | AskedCommand::List(file) => inputs_in(&[file]),
         AskedCommand::Graph(options) => inputs_in(&[options.file, options.journal.unwrap_or("")]),
+        AskedCommand::Page(options) => inputs_in(&[options.file, options.journal]),
         AskedCommand::Step(options) => inputs_in(&[options.file, options.schedule]),
         AskedCommand::Run(options) => inputs_in(&[options.file, options.script]),
         AskedCommand::Live(_) => 1,
@@ -125,6 +127,9 @@ fn asked_of<'a>(
     }
     if let Some(graph) = matches.subcommand_matches("graph") {
         return Ok(what_to_draw(graph));
+    }
+    if let Some(page) = matches.subcommand_matches("page") {
+        return Ok(run_to_show(page));
     }
     match matches.subcommand_matches("print") {
         Some(print) => Ok(file_to_print(print)),
@@ -166,6 +171,13 @@ fn what_to_draw<'a>(graph: &ArgMatches<'a>) -> Option<AskedCommand<'a>> {
     }))
 }
 
+fn run_to_show<'a>(page: &ArgMatches<'a>) -> Option<AskedCommand<'a>> {
+    Some(AskedCommand::Page(PageOptions {
+        file: page.get_str("FILE")?,
+        journal: page.get_str("JOURNAL")?,
+    }))
+}
+
 fn schedule_to_run<'a>(step: &ArgMatches<'a>) -> Option<AskedCommand<'a>> {
     Some(AskedCommand::Step(StepOptions {
         file: step.get_str("FILE")?,
@@ -192,6 +204,7 @@ fn script_to_run<'a>(run: &ArgMatches<'a>, is_terminal: bool) -> Option<AskedCom
         journal: run.get_str("journal"),
         progress: is_terminal && run.get_flag("progress"),
         explain: run.get_flag("explain"),
+        strict: run.get_flag("strict"),
     }))
 }
 
@@ -225,6 +238,7 @@ fn smirun_command<'a>(alloc: Global) -> Result<Command<'a>, AllocError> {
     let command = with_subcommand(command, print_command(alloc))?;
     let command = with_subcommand(command, list_command(alloc))?;
     let command = with_subcommand(command, graph_command(alloc))?;
+    let command = with_subcommand(command, page_command(alloc))?;
     let command = with_subcommand(command, step_command(alloc))?;
     let command = with_subcommand(command, run_command(alloc))?;
     let command = with_subcommand(command, live_command(alloc))?;
@@ -273,6 +287,14 @@ fn graph_command<'a>(alloc: Global) -> Result<Command<'a>, AllocError> {
         .arg(count(alloc)?)
 }
 
+fn page_command<'a>(alloc: Global) -> Result<Command<'a>, AllocError> {
+    Command::new(alloc, "page")
+        .about(PAGE)
+        .after_help(PAGE_MORE)
+        .arg(file(alloc))?
+        .arg(journal(alloc).help(SHOWN_JOURNAL))
+}
+
 fn step_command<'a>(alloc: Global) -> Result<Command<'a>, AllocError> {
     Command::new(alloc, "step")
         .about(STEP)
@@ -283,7 +305,7 @@ fn step_command<'a>(alloc: Global) -> Result<Command<'a>, AllocError> {
         .arg(max_starts(alloc))?
         .arg(kept_journal(alloc))?
         .arg(explain(alloc, WHY_LINES))?
-        .arg(strict(alloc))?
+        .arg(strict(alloc, STRICT))?
         .arg(states(alloc))
 }
 
@@ -298,7 +320,8 @@ fn run_command<'a>(alloc: Global) -> Result<Command<'a>, AllocError> {
         .arg(max_starts(alloc))?
         .arg(run_journal(alloc))?
         .arg(progress(alloc))?
-        .arg(explain(alloc, WHY_LINES))
+        .arg(explain(alloc, WHY_LINES))?
+        .arg(strict(alloc, RUN_STRICT))
 }
 
 fn live_command<'a>(alloc: Global) -> Result<Command<'a>, AllocError> {
@@ -346,11 +369,11 @@ fn explain<'a>(alloc: Global, help: &'static str) -> Arg<'a> {
         .help(help)
 }
 
-fn strict<'a>(alloc: Global) -> Arg<'a> {
+fn strict<'a>(alloc: Global, help: &'static str) -> Arg<'a> {
     Arg::new(alloc, "strict")
         .long("strict")
         .action(ArgAction::SetTrue)
-        .help(STRICT)
+        .help(help)
 }
 
 fn states<'a>(alloc: Global) -> Arg<'a> {

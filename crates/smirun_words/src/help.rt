@@ -5,6 +5,7 @@ pub mod check;
 pub mod graph;
 pub mod list;
 pub mod live;
+pub mod page;
 pub mod print;
 pub mod run;
 pub mod step;

@@ -14,6 +14,9 @@ pub const RUN_JOURNAL: &str =
 pub const PROGRESS: &str =
     "Tell on standard error how far the run is, if that is a terminal and the run takes over two seconds";
 
+pub const RUN_STRICT: &str =
+    "Ends with status 1 where a request was refused, an object waits, requests are left, or a device failed";
+
 pub const RUN_MORE: &str = "\
 FILE is a domain file, as `smirun step --help` has it. SCRIPT has at most 16777216 bytes of ASCII. Each line
 has at most 8192 bytes, and is one of these, or has only blanks and a comment behind `!`:
@@ -97,12 +100,13 @@ says that a session was told of a kill which the journal does not have; it is a 
 
 With `--explain` standard error has why a text or a line of SCRIPT is refused: the place as FILE:LINE:COLUMN, both
 counted from 1, one sentence, the line and a caret under the place; and behind the summary the same for the
-requests and kills that the domain refuses whenever they come. Then it has what went wrong in the run: devices
-that failed, and at what; requests that were skipped, and in which state; objects that wait at its end, and for
-whom; of each up to twenty.
+requests and kills that the domain refuses whenever they come, and for `device` lines that do nothing, or make
+their device fail. Then it has what went wrong in the run: devices that failed, and at what; requests that were
+skipped, and in which state; objects that wait at its end, and for whom; of each up to twenty.
 
 SCRIPT is kept while the run goes on, and so are the journal, some 100 to 150 bytes an entry, and what each
 session was told is accepted.
 
 Exit status: 0 done, also where requests or kills were refused; 1 an input was refused, or a file could not
-be read or the output not be written, or the report differs; 2 a wrong command line; 3 not enough memory.";
+be read or the output not be written, or the report differs, or with `--strict` the summary has a line
+`refused`, `stalled` or `left`, or a device failed; 2 a wrong command line; 3 not enough memory.";

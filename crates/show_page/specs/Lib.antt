@@ -1,0 +1,3 @@
+pub mod Escapes
+pub mod Pages
+pub mod Laws
