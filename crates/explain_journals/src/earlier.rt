@@ -15,14 +15,6 @@ pub(crate) fn owner(entry: &Entry) -> ObjId {
     }
 }
 
-/// The object of the last entry.
-pub(crate) fn last_owner(entries: &[Entry]) -> Option<ObjId> {
-    match entries.last() {
-        Some(entry) => Some(owner(entry)),
-        None => None,
-    }
-}
-
 /// Whether it is the fault of a device at an object that has none.
 pub(crate) fn is_fault_without_device(domain: &Domain, entry: &Entry) -> bool {
     match entry {

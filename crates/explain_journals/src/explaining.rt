@@ -3,7 +3,7 @@ ghost use Rattle.std.specs.Prelude.{◌+◌, ◌<◌, ◌^◌, All, IfSome, leng
 ghost use Rattle.std.specs.Arc.{arc_value};
 ghost use Rattle.smi_journal.specs.HasText.{HasText};
 
-use crate::earlier::{Earlier, is_fault_without_device, last, last_owner, owner, post_of};
+use crate::earlier::{Earlier, is_fault_without_device, last, owner, post_of};
 use crate::next::{Next, next_of};
 use crate::sentence::{first_busy, first_misread, tell_sentence};
 use smi_audit::{Past, PastError, Rule};
@@ -30,21 +30,20 @@ fn tell_numbered<W: Sink>(
 }
 
 // What an object sent to another and has not ended: what is open there, or else the first post not started.
-fn busy_since(past: &Past, o: ObjId, busy: ObjId) -> Option<usize> {
+fn busy_since(past: &Past, entries: &[Entry], o: ObjId, busy: ObjId) -> Option<usize> {
     let books = past.books();
     if !books.domain().has(o) || !books.domain().has(busy) {
         return None;
     }
     if books.is_open(busy) {
-        return last(past.entries(), Earlier::Start(busy));
+        return last(entries, Earlier::Start(busy));
     }
     let started = books.started(&Sender::Object(o), busy);
-    post_of(past.entries(), o, busy, started as u64)
+    post_of(entries, o, busy, started as u64)
 }
 
 // The earlier entry that a number follows.
-fn counted_from(past: &Past, entry: &Entry) -> Option<usize> {
-    let entries = past.entries();
+fn counted_from(entries: &[Entry], entry: &Entry) -> Option<usize> {
     match entry {
         Entry::Start { object, sender, .. } => last(entries, Earlier::StartOf(*sender, *object)),
         Entry::Post { sender, target, .. } => last(entries, Earlier::Post(*sender, *target)),
@@ -53,51 +52,51 @@ fn counted_from(past: &Past, entry: &Entry) -> Option<usize> {
 }
 
 // The earlier entry of a request that was sent under the number of a start.
-fn sent_as(past: &Past, entry: &Entry) -> Option<usize> {
+fn sent_as(entries: &[Entry], entry: &Entry) -> Option<usize> {
     match entry {
         Entry::Start {
             object,
             sender: Sender::Object(a),
             number,
             ..
-        } => post_of(past.entries(), *a, *object, *number),
+        } => post_of(entries, *a, *object, *number),
         _ => None,
     }
 }
 
 // The earlier kill of the target of a post.
-fn target_killed(past: &Past, entry: &Entry) -> Option<usize> {
+fn target_killed(entries: &[Entry], entry: &Entry) -> Option<usize> {
     match entry {
         Entry::Post {
             target,
             verdict: Verdict::Accepted(_) | Verdict::Full,
             ..
-        } => last(past.entries(), Earlier::Kill(*target)),
+        } => last(entries, Earlier::Kill(*target)),
         _ => None,
     }
 }
 
 // The earlier entry for which an object that was read is busy, or which gave it another state.
-fn read_against(past: &Past, entry: &Entry, is_busy: bool) -> Option<usize> {
+fn read_against(past: &Past, entries: &[Entry], entry: &Entry, is_busy: bool) -> Option<usize> {
     let Entry::Seen { object, readings } = entry else {
         return None;
     };
     if is_busy {
         let busy = first_busy(past, *object, readings.list())?;
-        busy_since(past, *object, busy)
+        busy_since(past, entries, *object, busy)
     } else {
         let misread = first_misread(past, readings.list())?;
-        last(past.entries(), Earlier::State(misread))
+        last(entries, Earlier::State(misread))
     }
 }
 
 // The earlier entry behind which nothing is open at the object of an entry.
-fn closed_by(past: &Past, entry: &Entry) -> Option<usize> {
+fn closed_by(past: &Past, entries: &[Entry], entry: &Entry) -> Option<usize> {
     let books = past.books();
     if is_fault_without_device(books.domain(), entry) {
         None
     } else {
-        last(past.entries(), Earlier::Closed(owner(entry)))
+        last(entries, Earlier::Closed(owner(entry)))
     }
 }
 
@@ -110,7 +109,7 @@ fn next_in_place(
 ) -> Result<Option<Next>, AllocError> {
     match rule {
         Rule::Meaning => next_of(alloc, past, owner(entry)),
-        Rule::Split => match last_owner(past.entries()) {
+        Rule::Split => match past.books().last() {
             Some(o) => next_of(alloc, past, o),
             None => Ok(None),
         },
@@ -119,8 +118,7 @@ fn next_in_place(
 }
 
 // The earlier entry that an entry contradicts which breaks a rule.
-fn rests_on(past: &Past, entry: &Entry, rule: Rule) -> Option<usize> {
-    let entries = past.entries();
+fn rests_on(past: &Past, entries: &[Entry], entry: &Entry, rule: Rule) -> Option<usize> {
     let o = owner(entry);
     match rule {
         // The last post of the send is right before.
@@ -129,13 +127,13 @@ fn rests_on(past: &Past, entry: &Entry, rule: Rule) -> Option<usize> {
         Rule::Open | Rule::Meaning | Rule::Clear | Rule::NotAState => {
             last(entries, Earlier::Start(o))
         }
-        Rule::Number => counted_from(past, entry),
-        Rule::NotSent => sent_as(past, entry),
+        Rule::Number => counted_from(entries, entry),
+        Rule::NotSent => sent_as(entries, entry),
         Rule::BadRequest => None,
-        Rule::NotOpen => closed_by(past, entry),
-        Rule::Dead => target_killed(past, entry),
-        Rule::Busy => read_against(past, entry, true),
-        Rule::Reading => read_against(past, entry, false),
+        Rule::NotOpen => closed_by(past, entries, entry),
+        Rule::Dead => target_killed(entries, entry),
+        Rule::Busy => read_against(past, entries, entry, true),
+        Rule::Reading => read_against(past, entries, entry, false),
     }
 }
 
@@ -184,7 +182,7 @@ pub fn explain<W: Sink>(
     tell_numbered(writer, failed, past.books().domain(), entries, place);
     tell_sentence(writer, failed, &past, entry, rule, &next);
     tell(writer, failed, b".\n");
-    if let Some(earlier) = rests_on(&past, entry, rule) {
+    if let Some(earlier) = rests_on(&past, before, entry, rule) {
         tell_numbered(writer, failed, past.books().domain(), entries, earlier);
     }
     Ok(())

@@ -1,5 +1,5 @@
-//! Explains an illegal line of a journal in one sentence, with its text and the earlier line that it contradicts.
-//! Nothing here decides anything: the judge does.
+//! Explains an illegal line of a journal in one sentence, with its text and the earlier line that it contradicts,
+//! and says what an open action does next. Nothing here decides anything: the judge does.
 #![tactic(auto)]
 
 mod bad_request;
@@ -9,3 +9,4 @@ mod next;
 mod sentence;
 
 pub use explaining::explain;
+pub use next::{Next, next_of};

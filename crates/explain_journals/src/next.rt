@@ -8,7 +8,7 @@ use std::alloc::{AllocError, Global};
 
 /// What an action does next, where sets have the members that they have now.
 #[derive(Drop)]
-pub(crate) enum Next {
+pub enum Next {
     /// It posts this.
     Post(Post),
     /// It sends to a set that has no member.
@@ -50,8 +50,9 @@ fn first_of(
     }
 }
 
-/// What the action that runs at an object does next, or None if none runs there.
-pub(crate) fn next_of(alloc: Global, past: &Past, o: ObjId) -> Result<Option<Next>, AllocError> {
+/// What the action that runs at an object does next, or None if none runs there. The cost is that of the members of a
+/// set to which it sends, and of the objects that it reads. The error is out of memory.
+pub fn next_of(alloc: Global, past: &Past, o: ObjId) -> Result<Option<Next>, AllocError> {
     let books = past.books();
     let domain = books.domain();
     if !domain.has(o) {

@@ -3,7 +3,7 @@ ghost use Rattle.std.specs.Prelude.{IsTrue, length};
 ghost use Rattle.smi_ledger.specs.Tables.{IsKnown};
 
 use crate::bad_request::tell_bad_request;
-use crate::earlier::{is_fault_without_device, last_owner, owner};
+use crate::earlier::{is_fault_without_device, owner};
 use crate::next::Next;
 use smi_audit::{Past, Rule};
 use smi_interp::Post;
@@ -148,7 +148,7 @@ fn tell_next<W: Sink>(
 // Whose posts an entry splits, and which is the next of them.
 fn tell_split<W: Sink>(writer: &mut W, failed: &mut bool, past: &Past, next: &Option<Next>) {
     tell(writer, failed, UNSPLIT);
-    if let Some(o) = last_owner(past.entries()) {
+    if let Some(o) = past.books().last() {
         tell_next(writer, failed, past, o, next);
     }
 }

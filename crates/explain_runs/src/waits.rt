@@ -3,8 +3,8 @@
 use crate::awaited::{first_awaited, tell_awaited};
 use crate::reasons::{MOST_TOLD, tell_action, tell_bare, tell_line, tell_more};
 use crate::walk::Walk;
-use smi_audit::{Past, PastError};
-use smi_journal::{Entry, read_journal, tell_object, write_journal};
+use smi_audit::Past;
+use smi_journal::{Entry, tell_object, write_journal};
 use sml_domain::{Domain, ObjId};
 use sml_text::{Sink, tell};
 use std::alloc::{AllocError, Global};
@@ -31,14 +31,21 @@ fn is_any_open(domain: &Domain, walk: &Walk) -> bool {
 }
 
 // That an object waits, and for whom.
-fn tell_wait<W: Sink>(writer: &mut W, failed: &mut bool, past: &Past, walk: &Walk, o: ObjId) {
+fn tell_wait<W: Sink>(
+    writer: &mut W,
+    failed: &mut bool,
+    past: &Past,
+    entries: &[Entry],
+    walk: &Walk,
+    o: ObjId,
+) {
     let Some(opened) = walk.opened(o) else {
         return;
     };
     let domain = past.books().domain();
     tell_bare(writer, failed, domain.object_name(o));
     tell(writer, failed, b" waits in");
-    tell_action(writer, failed, domain, past.entries().get(opened));
+    tell_action(writer, failed, domain, entries.get(opened));
     tell_line(writer, failed, opened);
     tell_awaited(writer, failed, past, b" for", o);
     tell(writer, failed, b"\n");
@@ -80,14 +87,20 @@ fn tell_circle<W: Sink>(writer: &mut W, failed: &mut bool, past: &Past, head: Ob
 }
 
 // All objects that wait, and then all circles.
-fn tell_all<W: Sink>(writer: &mut W, failed: &mut bool, past: &Past, walk: &Walk) {
+fn tell_all<W: Sink>(
+    writer: &mut W,
+    failed: &mut bool,
+    past: &Past,
+    entries: &[Entry],
+    walk: &Walk,
+) {
     let objects = past.books().domain().objects();
     let mut count: u64 = 0;
     for o in 0..objects {
         let o = ObjId::new(o);
         if first_awaited(past, o).is_some() {
             if count < MOST_TOLD {
-                tell_wait(writer, failed, past, walk, o);
+                tell_wait(writer, failed, past, entries, walk, o);
             }
             count = count.saturating_add(1);
         }
@@ -116,13 +129,9 @@ pub(crate) fn tell_waits<W: Sink>(
     if write_journal(domain, entries, &mut text).is_err() {
         return Err(AllocError);
     }
-    let Ok((format, journal)) = read_journal(alloc, domain, text.as_slice()) else {
-        return Err(AllocError);
-    };
-    let shared = Arc::try_clone(domain)?;
-    match Past::of(alloc, format, shared, journal.entries()) {
-        Ok(past) => tell_all(writer, failed, &past, &walk),
-        Err(PastError::Illegal { .. } | PastError::Memory) => return Err(AllocError),
+    match Past::of_text(alloc, domain, text.as_slice()) {
+        Some(past) => tell_all(writer, failed, &past, entries, &walk),
+        None => return Err(AllocError),
     }
     Ok(())
 }

@@ -1,33 +1,53 @@
 //! The graph of a domain, as a text of Graphviz.
 
+use crate::devices::tell_devices;
+use crate::dot::{end_tip, tell_known, tell_quoted, tell_tip};
 use crate::ends::{Ends, ends_of_blocks, leads};
 use crate::objects::tell_objects;
 use sml_domain::{Class, Domain, State, StateId};
 use sml_text::{Sink, tell};
-use sml_tree::Name;
 use std::alloc::{AllocError, Global};
 
-// What the text begins with.
+/// What a graph shows beside classes and their states.
+#[derive(Clone, Copy)]
+pub struct GraphParts {
+    /// Objects and sets.
+    pub objects: bool,
+    /// The members of large sets too.
+    pub members: bool,
+}
+
+// What the text begins with, up to its title.
 const HEAD: &[u8] = b"digraph domain {
   rankdir=LR;
   nodesep=0.4;
   ranksep=0.7;
   graph [fontname=\"Helvetica\"];
-  node [fontname=\"Helvetica\", fontsize=12, shape=box, style=rounded];
+  node [fontname=\"Helvetica\", fontsize=12, shape=box, style=\"rounded,filled\", fillcolor=white];
   edge [fontname=\"Helvetica\", fontsize=10];
-";
+  labelloc=t;
+  label=\"";
 
-/// Writes the graph of a domain: a cluster for each class, a box for each state, and an arrow from one state to
-/// another with the actions of the first that may end in the second, one a line. Nothing is written behind a write
-/// that failed.
+// What is what among classes, behind the name of the file.
+const LEGEND: &[u8] = b": thick = initial, broken = killed";
+
+// What is what among objects.
+const LEGEND_OF_OBJECTS: &[u8] = b"\\narrow = sends, dotted = reads, broken line = member";
+
+/// Writes the graph of a domain: a table of each class of devices, and for each other class a cluster, with a box for
+/// each state, and an arrow from one state to another with the actions of the first that may end in the second, one a
+/// line. Its title has the name of the file, and says what is what. Nothing is written behind a write that failed.
 ///
 /// A state in which objects begin has a thick frame, and the one of killed objects a grey, broken one. An action may
 /// end at each `move_to` and `terminate_action` with none before it, and at the end of its block, which leaves
 /// the state as it is; that a condition never holds is not seen. Actions of a device, which may end in any state of
-/// their class, are in the boxes of the states that declare them.
+/// their class, stand beside the states that declare them. A browser shows the parameters of actions where one points
+/// at an arrow or a table.
 ///
-/// With `objects`, these and the sets are drawn too. From an object an arrow goes to each object and set that an
-/// action of its class sends to, with those actions; from a set a broken line goes to each member.
+/// If they are asked for, objects and sets are drawn too. From an object an arrow goes to each object and set that an
+/// action of its class sends to, with those actions, and a dotted line to each that it reads; from a set a broken line
+/// goes to each member. A set with more than eight members is one box, in which those members stand that nothing names,
+/// unless members are asked for.
 ///
 /// The text is the same whenever the domain is. The time grows with the length of the domain and of what is written,
 /// and with the count of a class's states for each end of an action; the memory with the length of the domain. An
@@ -37,19 +57,34 @@ pub fn tell_graph<W: Sink>(
     writer: &mut W,
     failed: &mut bool,
     domain: &Domain,
-    objects: bool,
+    file: &[u8],
+    parts: GraphParts,
 ) -> Result<(), AllocError> {
     let ends = ends_of_blocks(alloc, domain)?;
     tell(writer, failed, HEAD);
-    for class in domain.classes() {
-        tell_class(writer, failed, domain, &ends, class);
+    tell_quoted(writer, failed, file);
+    tell(writer, failed, LEGEND);
+    if parts.objects {
+        tell(writer, failed, LEGEND_OF_OBJECTS);
     }
+    tell(writer, failed, b"\";\n");
+    tell_devices(writer, failed, domain);
+    tell_classes(writer, failed, domain, &ends);
     drop(ends);
-    if objects {
-        tell_objects(alloc, writer, failed, domain)?;
+    if parts.objects {
+        tell_objects(alloc, writer, failed, domain, parts.members)?;
     }
     tell(writer, failed, b"}\n");
     Ok(())
+}
+
+// The clusters of all classes but those of devices.
+fn tell_classes<W: Sink>(writer: &mut W, failed: &mut bool, domain: &Domain, ends: &[Ends]) {
+    for class in domain.classes() {
+        if !class.associated {
+            tell_class(writer, failed, domain, ends, class);
+        }
+    }
 }
 
 // The cluster of a class.
@@ -64,24 +99,12 @@ fn tell_class<W: Sink>(
     tell(writer, failed, class.name.as_bytes());
     tell(writer, failed, b"\" {\n    label=\"");
     tell(writer, failed, class.name.as_bytes());
-    if class.associated {
-        tell(writer, failed, b"\\ndevice: an action ends in any state");
-    }
     tell(writer, failed, b"\";\n");
     for state in class.states.rows() {
         tell_state(writer, failed, domain, class, state);
     }
-    if !class.associated {
-        tell_edges(writer, failed, domain, ends, class);
-    }
+    tell_edges(writer, failed, domain, ends, class);
     tell(writer, failed, b"  }\n");
-}
-
-// A name that a number may have.
-pub(crate) fn tell_known<W: Sink>(writer: &mut W, failed: &mut bool, name: Option<Name>) {
-    if let Some(name) = name {
-        tell(writer, failed, name.as_bytes());
-    }
 }
 
 // The node of a state, in quotes.
@@ -109,28 +132,11 @@ fn tell_state<W: Sink>(
 ) {
     tell(writer, failed, b"    ");
     tell_node(writer, failed, domain, class, state.number);
-    tell(writer, failed, b" [");
-    if class.associated && !state.actions.rows().is_empty() {
-        tell_device_label(writer, failed, domain, state);
-    } else {
-        tell(writer, failed, b"label=\"");
-        tell_known(writer, failed, domain.state_name(state.number));
-        tell(writer, failed, b"\"");
-    }
+    tell(writer, failed, b" [label=\"");
+    tell_known(writer, failed, domain.state_name(state.number));
+    tell(writer, failed, b"\"");
     tell_marks(writer, failed, class, state);
     tell(writer, failed, b"];\n");
-}
-
-// The label of a state with the actions of a device, a line each.
-fn tell_device_label<W: Sink>(writer: &mut W, failed: &mut bool, domain: &Domain, state: &State) {
-    tell(writer, failed, b"shape=Mrecord, label=\"{");
-    tell_known(writer, failed, domain.state_name(state.number));
-    tell(writer, failed, b"|");
-    for action in state.actions.rows() {
-        tell_known(writer, failed, domain.action_name(action.number));
-        tell(writer, failed, b"\\l");
-    }
-    tell(writer, failed, b"}\"");
 }
 
 // How the box of a state shows that objects begin in it, or are in it once they are killed.
@@ -142,7 +148,7 @@ fn tell_marks<W: Sink>(writer: &mut W, failed: &mut bool, class: &Class, state: 
         tell(
             writer,
             failed,
-            b", style=\"rounded,dashed\", color=gray40, fontcolor=gray40",
+            b", style=\"rounded,filled,dashed\", color=gray40, fontcolor=gray40",
         );
     }
 }
@@ -197,8 +203,29 @@ fn tell_edge<W: Sink>(
         }
     }
     if is_open {
-        tell(writer, failed, b"\"];\n");
+        tell(writer, failed, b"\"");
+        tell_tips(writer, failed, domain, ends, class, from, to);
+        tell(writer, failed, b"];\n");
     }
+}
+
+// The parameters of the actions of an arrow.
+fn tell_tips<W: Sink>(
+    writer: &mut W,
+    failed: &mut bool,
+    domain: &Domain,
+    ends: &[Ends],
+    class: &Class,
+    from: &State,
+    to: StateId,
+) {
+    let mut is_there = false;
+    for action in from.actions.rows() {
+        if leads(ends, action, from.number, to) {
+            is_there = tell_tip(writer, failed, domain, class, action.number, is_there);
+        }
+    }
+    end_tip(writer, failed, is_there);
 }
 
 // An arrow up to its label.

@@ -67,12 +67,24 @@ fn tell_change<W: Sink>(
     tell_set(writer, failed, domain, set);
 }
 
-/// Writes what is beside an entry, with a blank before it.
+// For whom an action waits, if that is known.
+fn tell_wait<W: Sink>(writer: &mut W, failed: &mut bool, domain: &Domain, whom: &[ObjId]) {
+    tell(writer, failed, b" waits");
+    let mut before: &[u8] = b" for";
+    for o in whom {
+        tell(writer, failed, before);
+        tell_object(writer, failed, domain, *o);
+        before = b",";
+    }
+}
+
+/// Writes what is beside an entry, with a blank before it. The action of a `wait` waits for those of `whom`.
 pub(crate) fn tell_label<W: Sink>(
     writer: &mut W,
     failed: &mut bool,
     domain: &Domain,
     entry: &Entry,
+    whom: &[ObjId],
 ) {
     match entry {
         Entry::Start {
@@ -95,7 +107,7 @@ pub(crate) fn tell_label<W: Sink>(
             tell_verdict(writer, failed, *verdict);
             tell_call(writer, failed, domain, *target, *action, args.values());
         }
-        Entry::Wait { .. } => tell(writer, failed, b" waits"),
+        Entry::Wait { .. } => tell_wait(writer, failed, domain, whom),
         Entry::Seen { .. } => tell(writer, failed, b" reads"),
         Entry::End { result: end, .. } => tell_end(writer, failed, domain, *end),
         Entry::Kill { cause, .. } => tell_cause(writer, failed, *cause),

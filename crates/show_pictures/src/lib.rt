@@ -2,8 +2,13 @@
 #![tactic(auto)]
 
 mod bars;
+mod boxes;
+mod columns;
+mod devices;
+mod dot;
 mod ends;
 mod graph;
+mod hues;
 mod labels;
 mod life;
 mod marks;
@@ -11,7 +16,10 @@ mod names;
 mod objects;
 mod page;
 mod sends;
+mod style;
 mod svg;
+mod tables;
+mod waits;
 
-pub use graph::tell_graph;
-pub use life::{Window, tell_life};
+pub use graph::{GraphParts, tell_graph};
+pub use life::{RunFiles, Window, tell_life};

@@ -5,11 +5,23 @@ use crate::labels::tell_label;
 use crate::marks::{class_of_label, label_x, tell_mark};
 use crate::names::{tell_lives, tell_names};
 use crate::page::{LABEL, NAMES, Page};
+use crate::style::STYLE;
 use crate::svg::{Point, TEXT_END, tell_escaped, tell_number, tell_text, tell_text_front};
+use crate::waits::{Waits, find_whom, follow, waits_of};
 use smi_journal::{Entry, tell_lines};
-use sml_domain::Domain;
+use sml_domain::{Domain, ObjId};
 use sml_text::{Sink, tell, tell_u64};
 use std::alloc::{AllocError, Global};
+use std::slice;
+
+/// The names of the files of a run, as its picture shows them.
+#[derive(Clone, Copy)]
+pub struct RunFiles<'a> {
+    /// The file of the domain.
+    pub domain: &'a [u8],
+    /// The file of the journal.
+    pub journal: &'a [u8],
+}
 
 /// Which entries of a journal are shown.
 #[derive(Clone, Copy)]
@@ -20,105 +32,115 @@ pub struct Window {
     pub count: usize,
 }
 
-// How the elements of a picture look.
-const STYLE: &[u8] = b"<style>
-text{font:11px monospace;fill:#222;stroke:#fff;stroke-width:3px;stroke-linejoin:round;paint-order:stroke}
-.name{font-weight:bold;text-anchor:middle;stroke:none}
-.place{fill:#888;text-anchor:end}
-.end{font-weight:bold;fill:#1b5e20}
-.note{fill:#666}
-.fault{fill:#b00020}
-.page{fill:#fff}
-.box{fill:#eef2f7;stroke:#889}
-.life{stroke:#bbb}
-.dead{stroke:#fff;stroke-width:2;stroke-dasharray:4 4}
-.bar{fill:#cfe2ff;stroke:#3a6ea5}
-.sent{stroke:#222;marker-end:url(#sent)}
-.bad{stroke:#b00020;stroke-dasharray:5 3;marker-end:url(#bad)}
-.loop{stroke:#222}
-.read{stroke:#666;stroke-dasharray:2 3}
-.dot{fill:#666}
-.wait{fill:#fff;stroke:#666;stroke-width:2}
-.cross{stroke:#b00020;stroke-width:2}
-</style>
-<defs>
-<marker id=\"sent\" markerWidth=\"8\" markerHeight=\"8\" refX=\"7\" refY=\"4\" orient=\"auto\">\
-<path d=\"M0,0L8,4L0,8z\" fill=\"#222\"/></marker>
-<marker id=\"bad\" markerWidth=\"8\" markerHeight=\"8\" refX=\"7\" refY=\"4\" orient=\"auto\">\
-<path d=\"M0,0L8,4L0,8z\" fill=\"#b00020\"/></marker>
-</defs>
-";
+// What is what in a picture.
+const LEGEND: &[u8] =
+    b"bar: action; line: state by colour, broken: dead; ring: waits; dots: reads; red: refused, killed";
 
-/// Writes the picture of a run as an SVG. Above it says how many of how many entries are shown. Below is a column for
-/// each session that they name and for each object of the domain, and a row for each entry. Nothing is written behind a
-/// write that failed.
+/// Writes the picture of a run as an SVG. Above it are the names of its files, which of how many entries are shown, and
+/// what is what. Below is a column for each session that they name and for each object of the domain, and a row for
+/// each entry. Nothing is written behind a write that failed.
+///
+/// Objects that nobody commands come first, then those to which they send, and so on; devices come last, and all of one
+/// kind in the order of the text.
 ///
 /// A post and a session's request or kill is an arrow. An action is a bar from its start to its end, with its call at
-/// the start and its state at the end. A wait is a ring, what is read a dotted line with dots, a kill a cross, behind
-/// which the line of life is broken. What was refused is red. A bar that begins before the entries that are shown, or
-/// does not end in them, goes to the edge. A row shows the line of its journal where a browser points at it. The
-/// journal need not be legal.
+/// the start and its state at the end; between actions an object has a band in the colour of its state, which is grey
+/// and broken in the state of killed objects. A wait is a ring, with those for whom it is; what is read is a dotted
+/// line with dots, a kill a cross. What was refused is red. What began before the entries that are shown, or does not
+/// end in them, goes to the edge. A row shows the line of its journal where a browser points at it. The journal need
+/// not be legal.
 ///
-/// The time grows with the count of entries up to the last that is shown, and with the length of what is written:
-/// some 200 to 400 bytes an entry. A line of the journal is held in memory, and a word for each object. An error
-/// means out of memory.
+/// The time grows with the count of entries, with the length of what is written, which is some 200 to 500 bytes an
+/// entry, and for each wait to the end of the journal with the length of its action. A line of the journal is held in
+/// memory, two words for each entry that is shown, and some for each object and each class. An error means out of
+/// memory.
 pub fn tell_life<W: Sink>(
     alloc: Global,
     writer: &mut W,
     failed: &mut bool,
     domain: &Domain,
+    files: &RunFiles<'_>,
     entries: &[Entry],
     window: Window,
 ) -> Result<(), AllocError> {
     let first = window.from.saturating_sub(1).min(entries.len());
     let end = first.saturating_add(window.count).min(entries.len());
-    let shown = &entries[first..end];
-    let page = Page::of(domain, first, shown);
-    tell_head(writer, failed, domain, &page, entries.len());
+    let letters = files.domain.len().saturating_add(files.journal.len());
+    let page = Page::of(alloc, domain, first, &entries[first..end], letters)?;
+    tell_head(writer, failed, domain, &page, files, entries.len());
     tell_bars(alloc, writer, failed, domain, &page, &entries[..end])?;
-    tell_rows(alloc, writer, failed, domain, &page, shown)?;
+    tell_rows(alloc, writer, failed, domain, &page, entries)?;
     tell_names(writer, failed, domain, &page, page.bottom());
     tell(writer, failed, b"</svg>\n");
     Ok(())
 }
 
-// The beginning of a picture, with its names and lines of life.
+// The beginning of a picture, with its names and the lines of life of sessions.
 fn tell_head<W: Sink>(
     writer: &mut W,
     failed: &mut bool,
     domain: &Domain,
     page: &Page,
+    files: &RunFiles<'_>,
     entries: usize,
 ) {
-    tell(writer, failed, b"<svg xmlns=\"http://www.w3.org/2000/svg\"");
-    tell_number(writer, failed, b"width", page.full_width());
-    tell_number(writer, failed, b"height", page.full_height());
-    tell(writer, failed, b">\n");
+    tell_front(writer, failed, page);
+    tell(writer, failed, b"<title>");
+    tell_files(writer, failed, files);
+    tell(writer, failed, b"</title>\n");
     tell(writer, failed, STYLE);
     tell(
         writer,
         failed,
         b"<rect class=\"page\" width=\"100%\" height=\"100%\"/>\n",
     );
+    tell_text_front(writer, failed, b"heading", Point { x: 12, y: 18 });
+    tell_files(writer, failed, files);
     tell_counts(writer, failed, page, entries);
-    tell_lives(writer, failed, domain, page);
+    tell(writer, failed, TEXT_END);
+    tell_text_front(writer, failed, b"note", Point { x: 12, y: 36 });
+    tell(writer, failed, LEGEND);
+    tell(writer, failed, TEXT_END);
+    tell_lives(writer, failed, page);
     tell_names(writer, failed, domain, page, NAMES);
+}
+
+// The first line of a picture.
+fn tell_front<W: Sink>(writer: &mut W, failed: &mut bool, page: &Page) {
+    let (width, height) = (page.full_width(), page.full_height());
+    tell(
+        writer,
+        failed,
+        b"<svg xmlns=\"http://www.w3.org/2000/svg\" viewBox=\"0 0 ",
+    );
+    tell_u64(writer, failed, width);
+    tell(writer, failed, b" ");
+    tell_u64(writer, failed, height);
+    tell(writer, failed, b"\"");
+    tell_number(writer, failed, b"width", width);
+    tell_number(writer, failed, b"height", height);
+    tell(writer, failed, b">\n");
+}
+
+// The names of the files of a run.
+fn tell_files<W: Sink>(writer: &mut W, failed: &mut bool, files: &RunFiles<'_>) {
+    tell_escaped(writer, failed, files.domain);
+    tell(writer, failed, b", ");
+    tell_escaped(writer, failed, files.journal);
 }
 
 // Which of how many entries are shown.
 fn tell_counts<W: Sink>(writer: &mut W, failed: &mut bool, page: &Page, entries: usize) {
-    tell_text_front(writer, failed, b"count", Point { x: 12, y: 20 });
     if page.first < page.end {
-        tell(writer, failed, b"entries ");
+        tell(writer, failed, b": entries ");
         tell_u64(writer, failed, (page.first as u64).saturating_add(1));
         tell(writer, failed, b" to ");
         tell_u64(writer, failed, page.end as u64);
         tell(writer, failed, b" of ");
     } else {
-        tell(writer, failed, b"no entry of ");
+        tell(writer, failed, b": no entry of ");
     }
     tell_u64(writer, failed, entries as u64);
-    tell(writer, failed, TEXT_END);
 }
 
 // The rows of entries.
@@ -128,19 +150,53 @@ fn tell_rows<W: Sink>(
     failed: &mut bool,
     domain: &Domain,
     page: &Page,
-    shown: &[Entry],
+    entries: &[Entry],
 ) -> Result<(), AllocError> {
+    let mut waits = waits_of(alloc, domain, entries, page.first, page.end)?;
     let mut text = Vec::new(alloc);
-    for (row, entry) in shown.iter().enumerate() {
-        let place = page.first.saturating_add(row);
-        tell(writer, failed, b"<g><title>");
-        spell_line(&mut text, domain, &shown[row..row + 1])?;
-        tell_escaped(writer, failed, &text);
-        tell(writer, failed, b"</title>\n");
-        spell_label(&mut text, domain, entry)?;
-        tell_row(writer, failed, domain, page, place, entry, &text);
-        tell(writer, failed, b"</g>\n");
+    let mut whom = Vec::new(alloc);
+    for (place, entry) in entries.iter().enumerate().take(page.end) {
+        if place >= page.first {
+            find_waited(&waits, entries, entry, place, &mut whom)?;
+            tell_entry(writer, failed, domain, page, place, entry, &whom, &mut text)?;
+        }
+        follow(&mut waits, entry, place);
     }
+    Ok(())
+}
+
+// Finds for whom an entry waits, if it is a wait.
+fn find_waited(
+    waits: &Waits,
+    entries: &[Entry],
+    entry: &Entry,
+    place: usize,
+    whom: &mut Vec<ObjId>,
+) -> Result<(), AllocError> {
+    match entry {
+        Entry::Wait { object } => find_whom(waits, entries, *object, place, whom),
+        _ => Ok(()),
+    }
+}
+
+// An entry: its line, and its row.
+fn tell_entry<W: Sink>(
+    writer: &mut W,
+    failed: &mut bool,
+    domain: &Domain,
+    page: &Page,
+    place: usize,
+    entry: &Entry,
+    whom: &[ObjId],
+    text: &mut Vec<u8>,
+) -> Result<(), AllocError> {
+    tell(writer, failed, b"<g><title>");
+    spell_line(text, domain, slice::from_ref(entry))?;
+    tell_escaped(writer, failed, text);
+    tell(writer, failed, b"</title>\n");
+    spell_label(text, domain, entry, whom)?;
+    tell_row(writer, failed, domain, page, place, entry, text);
+    tell(writer, failed, b"</g>\n");
     Ok(())
 }
 
@@ -154,10 +210,15 @@ fn spell_line(text: &mut Vec<u8>, domain: &Domain, entry: &[Entry]) -> Result<()
 }
 
 // Writes what is beside an entry into a buffer, in place of what it holds.
-fn spell_label(text: &mut Vec<u8>, domain: &Domain, entry: &Entry) -> Result<(), AllocError> {
+fn spell_label(
+    text: &mut Vec<u8>,
+    domain: &Domain,
+    entry: &Entry,
+    whom: &[ObjId],
+) -> Result<(), AllocError> {
     text.clear();
     let mut failed = false;
-    tell_label(text, &mut failed, domain, entry);
+    tell_label(text, &mut failed, domain, entry, whom);
     if failed { Err(AllocError) } else { Ok(()) }
 }
 
@@ -185,5 +246,12 @@ fn tell_row<W: Sink>(
         y: y.saturating_sub(6),
     };
     let words = label.strip_prefix(b" ").unwrap_or(label);
-    tell_text(writer, failed, class_of_label(entry), at, words, LABEL);
+    tell_text(
+        writer,
+        failed,
+        class_of_label(domain, entry),
+        at,
+        words,
+        LABEL,
+    );
 }

@@ -1,5 +1,6 @@
 //! What is drawn of an entry beside its bar.
 
+use crate::hues::class_of_state;
 use crate::page::Page;
 use crate::svg::{Point, tell_circle, tell_line, tell_text};
 use smi_journal::{ActionEnd, Cause, Entry, Reading, Sender, SessionId, Verdict};
@@ -172,7 +173,8 @@ fn tell_reading<W: Sink>(
             x: x.saturating_add(9),
             y: y.saturating_sub(6),
         };
-        tell_text(writer, failed, b"note", at, name.as_bytes(), page.letters());
+        let class = class_of_state(domain, reading.object, reading.state);
+        tell_text(writer, failed, class, at, name.as_bytes(), page.letters());
     }
 }
 
@@ -210,7 +212,7 @@ fn tell_kill<W: Sink>(
 }
 
 /// The class of what is written beside an entry.
-pub(crate) fn class_of_label(entry: &Entry) -> &'static [u8] {
+pub(crate) fn class_of_label(domain: &Domain, entry: &Entry) -> &'static [u8] {
     match entry {
         Entry::Start { .. } => b"begun",
         Entry::Post {
@@ -218,9 +220,9 @@ pub(crate) fn class_of_label(entry: &Entry) -> &'static [u8] {
             ..
         } => b"post",
         Entry::End {
-            result: ActionEnd::State(_),
-            ..
-        } => b"end",
+            object,
+            result: ActionEnd::State(state),
+        } => class_of_state(domain, *object, *state),
         Entry::Post { .. } | Entry::Kill { .. } => b"fault",
         Entry::Wait { .. }
         | Entry::Seen { .. }

@@ -1,16 +1,10 @@
-//! The columns of a picture: the names of sessions and objects, and their lines of life.
+//! The columns of a picture: the names of sessions and objects, and the lines of life of sessions.
 
 use crate::page::{NAME_HEIGHT, Page, SESSIONS};
 use crate::svg::{Point, TEXT_END, tell_box, tell_line, tell_text_front};
 use smi_journal::SessionId;
 use sml_domain::{Domain, ObjId};
 use sml_text::{Sink, tell};
-
-/// Writes the lines of life.
-pub(crate) fn tell_lives<W: Sink>(writer: &mut W, failed: &mut bool, domain: &Domain, page: &Page) {
-    tell_lives_of_sessions(writer, failed, page);
-    tell_lives_of_objects(writer, failed, domain, page);
-}
 
 /// Writes the names of sessions and objects in boxes, `y` below the upper edge.
 pub(crate) fn tell_names<W: Sink>(
@@ -24,19 +18,12 @@ pub(crate) fn tell_names<W: Sink>(
     tell_objects(writer, failed, domain, page, y);
 }
 
-// The lines of life of sessions.
-fn tell_lives_of_sessions<W: Sink>(writer: &mut W, failed: &mut bool, page: &Page) {
+/// Writes the lines of life of sessions.
+pub(crate) fn tell_lives<W: Sink>(writer: &mut W, failed: &mut bool, page: &Page) {
     for number in 1..=SESSIONS as u8 {
         if let Some(session) = shown_session(page, number) {
             tell_life_line(writer, failed, page, page.session_x(session));
         }
-    }
-}
-
-// The lines of life of objects.
-fn tell_lives_of_objects<W: Sink>(writer: &mut W, failed: &mut bool, domain: &Domain, page: &Page) {
-    for number in 0..domain.objects() {
-        tell_life_line(writer, failed, page, page.object_x(ObjId::new(number)));
     }
 }
 

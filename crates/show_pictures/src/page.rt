@@ -1,8 +1,10 @@
 //! Where the columns and rows of a picture lie.
 
+use crate::columns::columns_of;
 use crate::svg::Point;
 use smi_journal::{Cause, Entry, Sender, SessionId};
 use sml_domain::{Domain, ObjId};
+use std::alloc::{AllocError, Global};
 
 /// How many sessions there may be.
 pub(crate) const SESSIONS: usize = 8;
@@ -25,8 +27,14 @@ const RIGHT: u64 = 330;
 // How high a row is.
 const ROW: u64 = 28;
 
+// The narrowest picture: the line that says what is what has room.
+const NARROWEST_PICTURE: u64 = 720;
+
+// How many letters the line of the title has at most beside the names of files.
+const TITLE: usize = 60;
+
 /// Where the boxes of names begin.
-pub(crate) const NAMES: u64 = 32;
+pub(crate) const NAMES: u64 = 48;
 
 /// How high a box of a name is.
 pub(crate) const NAME_HEIGHT: u64 = 22;
@@ -38,7 +46,7 @@ const TOP: u64 = NAMES + NAME_HEIGHT;
 const FIRST: u64 = TOP + 48;
 
 /// The columns and rows of a picture.
-#[derive(Clone, Copy)]
+#[derive(Drop)]
 pub(crate) struct Page {
     /// The place of the first entry that is shown.
     pub(crate) first: usize,
@@ -46,10 +54,12 @@ pub(crate) struct Page {
     pub(crate) end: usize,
     // Which sessions have a column.
     sessions: [bool; SESSIONS],
-    // How many objects there are.
-    objects: usize,
+    // The places of the columns of objects, by their numbers.
+    columns: Vec<usize>,
     // How wide a column is.
     width: u64,
+    // How wide the picture is at least.
+    least: u64,
 }
 
 // The session that an entry names.
@@ -95,16 +105,23 @@ fn steps(count: usize, step: u64) -> u64 {
 }
 
 impl Page {
-    /// The page of the entries of a journal from one place to another.
-    pub(crate) fn of(domain: &Domain, first: usize, shown: &[Entry]) -> Page {
+    /// The page of the entries of a journal from one place to another. The names of the files have so many letters.
+    pub(crate) fn of(
+        alloc: Global,
+        domain: &Domain,
+        first: usize,
+        shown: &[Entry],
+        letters: usize,
+    ) -> Result<Page, AllocError> {
         let width = steps(longest_name(domain), LETTER).saturating_add(24);
-        Page {
+        Ok(Page {
             first,
             end: first.saturating_add(shown.len()),
             sessions: sessions_in(shown),
-            objects: domain.objects(),
+            columns: columns_of(alloc, domain)?,
             width: width.max(NARROWEST),
-        }
+            least: steps(letters.saturating_add(TITLE), LETTER).max(NARROWEST_PICTURE),
+        })
     }
 
     // How many sessions with a lower number than this place have a column.
@@ -139,7 +156,8 @@ impl Page {
 
     /// The middle of the column of an object.
     pub(crate) fn object_x(&self, o: ObjId) -> u64 {
-        self.middle(self.sessions_before(SESSIONS).saturating_add(o.get()))
+        let column = self.columns.get(o.get()).copied().unwrap_or(o.get());
+        self.middle(self.sessions_before(SESSIONS).saturating_add(column))
     }
 
     /// The line in which an entry is drawn: the upper edge for one before those that are shown, and the lower edge for
@@ -188,9 +206,12 @@ impl Page {
 
     /// How wide the picture is.
     pub(crate) fn full_width(&self) -> u64 {
-        let columns = self.sessions_before(SESSIONS).saturating_add(self.objects);
+        let columns = self
+            .sessions_before(SESSIONS)
+            .saturating_add(self.columns.len());
         LEFT.saturating_add(steps(columns, self.width))
             .saturating_add(RIGHT)
+            .max(self.least)
     }
 
     /// How high the picture is.

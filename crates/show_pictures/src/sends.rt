@@ -1,6 +1,6 @@
-//! What the actions of a class send, and to whom.
+//! What the actions of a class send and read, and of whom.
 
-use sml_domain::{ActionId, BlockId, Class, Domain, Instr, State, Target};
+use sml_domain::{ActionId, BlockId, Class, Cond, Domain, Instr, ObjId, State, Subject, Target};
 use std::alloc::{AllocError, Global};
 
 /// A request that some action sends.
@@ -19,72 +19,160 @@ pub(crate) fn sends_of(
     domain: &Domain,
     class: &Class,
 ) -> Result<Vec<Sent>, AllocError> {
+    let blocks = blocks_of(alloc, domain, class)?;
     let mut sends = Vec::new(alloc);
-    for state in class.states.rows() {
-        add_state(alloc, domain, state, &mut sends)?;
+    for block in &blocks {
+        add_sends(domain, *block, &mut sends)?;
     }
     sends.sort()?;
     Ok(sends)
 }
 
-// Adds what the actions of a state send.
-fn add_state(
+/// Whom the actions of a class read by `if` and `wait`, in order and by numbers as those of targets; if several read
+/// the same, it is listed several times.
+pub(crate) fn reads_of(
     alloc: Global,
     domain: &Domain,
-    state: &State,
-    sends: &mut Vec<Sent>,
-) -> Result<(), AllocError> {
-    for action in state.actions.rows() {
-        add_blocks(alloc, domain, action.block, sends)?;
+    class: &Class,
+) -> Result<Vec<usize>, AllocError> {
+    let blocks = blocks_of(alloc, domain, class)?;
+    let mut reads = Vec::new(alloc);
+    for block in &blocks {
+        add_reads(domain, *block, &mut reads)?;
     }
-    Ok(())
+    reads.sort()?;
+    Ok(reads)
 }
 
-// Adds what a block and those inside it send.
-fn add_blocks(
+/// Whom the actions of a class send to, with all objects that a set may come to have for the set. Some may be listed
+/// several times.
+pub(crate) fn targets_of(
     alloc: Global,
     domain: &Domain,
-    block: BlockId,
-    sends: &mut Vec<Sent>,
-) -> Result<(), AllocError> {
-    let mut left = Vec::new(alloc);
-    left.push(block)?;
-    // Each block has one place, so that no more than all are met.
-    for _ in 0..domain.blocks().len() {
-        let Some(next) = left.pop() else {
-            break;
-        };
-        add_block(domain, next, sends, &mut left)?;
+    class: &Class,
+) -> Result<Vec<ObjId>, AllocError> {
+    let sends = sends_of(alloc, domain, class)?;
+    let mut targets = Vec::new(alloc);
+    let mut last = None;
+    for sent in &sends {
+        if last != Some(sent.target) {
+            add_targets(domain, sent.target, &mut targets)?;
+        }
+        last = Some(sent.target);
     }
-    Ok(())
+    Ok(targets)
 }
 
-// Adds what the instructions of a block send, and the blocks inside it to those that are left.
-fn add_block(
-    domain: &Domain,
-    block: BlockId,
-    sends: &mut Vec<Sent>,
-    left: &mut Vec<BlockId>,
-) -> Result<(), AllocError> {
-    for instr in domain.instructions(block) {
-        match instr {
-            Instr::Send { target, action, .. } => {
-                sends.push(sent_to(domain, *target, *action))?;
-            }
-            Instr::If { yes, no, .. } => {
-                left.push(*yes)?;
-                left.push(*no)?;
-            }
-            Instr::Set { .. }
-            | Instr::SendNone { .. }
-            | Instr::MoveTo(_)
-            | Instr::Terminate(_)
-            | Instr::Wait(_)
-            | Instr::Insert { .. }
-            | Instr::Remove { .. } => {}
+// Adds an object, or the objects of a set.
+fn add_targets(domain: &Domain, target: usize, targets: &mut Vec<ObjId>) -> Result<(), AllocError> {
+    let Some(place) = target.checked_sub(domain.objects()) else {
+        targets.push(ObjId::new(target))?;
+        return Ok(());
+    };
+    if let Some(group) = domain.groups().get(place) {
+        for member in &group.may {
+            targets.push(*member)?;
         }
     }
     Ok(())
+}
+
+// The blocks of the actions of a class, with those inside them.
+fn blocks_of(alloc: Global, domain: &Domain, class: &Class) -> Result<Vec<BlockId>, AllocError> {
+    let mut blocks = outer_blocks(alloc, class)?;
+    // Each block has one place, so that no more than all are met.
+    for place in 0..domain.blocks().len() {
+        let Some(block) = blocks.get(place).copied() else {
+            break;
+        };
+        add_inner(domain, block, &mut blocks)?;
+    }
+    Ok(blocks)
+}
+
+// The blocks of the actions of a class.
+fn outer_blocks(alloc: Global, class: &Class) -> Result<Vec<BlockId>, AllocError> {
+    let mut blocks = Vec::new(alloc);
+    for state in class.states.rows() {
+        add_actions(state, &mut blocks)?;
+    }
+    Ok(blocks)
+}
+
+// Adds the blocks of the actions of a state.
+fn add_actions(state: &State, blocks: &mut Vec<BlockId>) -> Result<(), AllocError> {
+    for action in state.actions.rows() {
+        blocks.push(action.block)?;
+    }
+    Ok(())
+}
+
+// Adds the blocks that stand in a block.
+fn add_inner(domain: &Domain, block: BlockId, blocks: &mut Vec<BlockId>) -> Result<(), AllocError> {
+    for instr in domain.instructions(block) {
+        if let Instr::If { yes, no, .. } = instr {
+            blocks.push(*yes)?;
+            blocks.push(*no)?;
+        }
+    }
+    Ok(())
+}
+
+// Adds what the instructions of a block send.
+fn add_sends(domain: &Domain, block: BlockId, sends: &mut Vec<Sent>) -> Result<(), AllocError> {
+    for instr in domain.instructions(block) {
+        if let Instr::Send { target, action, .. } = instr {
+            sends.push(sent_to(domain, *target, *action))?;
+        }
+    }
+    Ok(())
+}
+
+// Adds whom the instructions of a block read.
+fn add_reads(domain: &Domain, block: BlockId, reads: &mut Vec<usize>) -> Result<(), AllocError> {
+    for instr in domain.instructions(block) {
+        match instr {
+            Instr::If { cond, .. } => add_asked(domain, cond, reads)?,
+            Instr::Wait(subjects) => add_waited(domain, subjects, reads)?,
+            _ => {}
+        }
+    }
+    Ok(())
+}
+
+// Adds whom a condition asks.
+fn add_asked(domain: &Domain, cond: &Cond, reads: &mut Vec<usize>) -> Result<(), AllocError> {
+    match cond {
+        Cond::And(left, right) | Cond::Or(left, right) => {
+            add_asked(domain, left, reads)?;
+            add_asked(domain, right, reads)
+        }
+        Cond::Not(other) => add_asked(domain, other, reads),
+        Cond::Test { asked, .. } => {
+            reads.push(number_of(domain, *asked))?;
+            Ok(())
+        }
+    }
+}
+
+// Adds for whom a `wait` waits.
+fn add_waited(
+    domain: &Domain,
+    subjects: &[Subject],
+    reads: &mut Vec<usize>,
+) -> Result<(), AllocError> {
+    for subject in subjects {
+        reads.push(number_of(domain, *subject))?;
+    }
+    Ok(())
+}
+
+// The number of whom a test asks.
+fn number_of(domain: &Domain, subject: Subject) -> usize {
+    match subject {
+        Subject::One(o) => o.get(),
+        Subject::Each(set) | Subject::Any(set) => domain.objects().saturating_add(set.get()),
+    }
 }
 
 // A request of an action to a target.

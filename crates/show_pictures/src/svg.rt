@@ -36,11 +36,34 @@ pub(crate) fn tell_line<W: Sink>(
     to: Point,
 ) {
     tell_front(writer, failed, b"line", class);
+    tell_ends(writer, failed, from, to);
+    tell(writer, failed, b"/>\n");
+}
+
+// The ends of a line.
+fn tell_ends<W: Sink>(writer: &mut W, failed: &mut bool, from: Point, to: Point) {
     tell_number(writer, failed, b"x1", from.x);
     tell_number(writer, failed, b"y1", from.y);
     tell_number(writer, failed, b"x2", to.x);
     tell_number(writer, failed, b"y2", to.y);
-    tell(writer, failed, b"/>\n");
+}
+
+/// A band, which is a thick line, with some words that a browser shows where one points at it.
+pub(crate) fn tell_band<W: Sink>(
+    writer: &mut W,
+    failed: &mut bool,
+    class: &[u8],
+    from: Point,
+    to: Point,
+    words: &[u8],
+) {
+    tell(writer, failed, b"<line class=\"band ");
+    tell(writer, failed, class);
+    tell(writer, failed, b"\"");
+    tell_ends(writer, failed, from, to);
+    tell(writer, failed, b"><title>");
+    tell_escaped(writer, failed, words);
+    tell(writer, failed, b"</title></line>\n");
 }
 
 /// A box from its upper left corner.
@@ -106,7 +129,8 @@ pub(crate) fn tell_text<W: Sink>(
     tell(writer, failed, TEXT_END);
 }
 
-/// Writes bytes, and escapes those that have a meaning in a picture's text.
+/// Writes bytes, and escapes those that have a meaning in a picture's text. A control character, which may not stand in
+/// one, is written as `?`.
 pub(crate) fn tell_escaped<W: Sink>(writer: &mut W, failed: &mut bool, bytes: &[u8]) {
     for byte in bytes {
         match *byte {
@@ -114,6 +138,7 @@ pub(crate) fn tell_escaped<W: Sink>(writer: &mut W, failed: &mut bool, bytes: &[
             b'>' => tell(writer, failed, b"&gt;"),
             b'&' => tell(writer, failed, b"&amp;"),
             b'"' => tell(writer, failed, b"&quot;"),
+            0..=31 => tell(writer, failed, b"?"),
             other => tell(writer, failed, &[other]),
         }
     }

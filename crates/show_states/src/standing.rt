@@ -1,82 +1,21 @@
-//! The lines of how all stands.
+//! How all stands behind the steps of a core, and how all stood behind a journal.
+ghost use Rattle.std.specs.Prelude.{ℕ, IfOk, List, OnOk};
+ghost use Rattle.sml_text.specs.Written.{Told};
+ghost use Rattle.show_states.specs.StandingText.{TellsStanding};
 
+use crate::lines::{tell_params, tell_states};
+use crate::opens::tell_opens;
+use crate::others::{tell_members, tell_waiting};
+use crate::pieces::other_lines;
+use crate::stands::Standing;
 use explain_lines::History;
-use explain_runs::tell_awaited;
-use smi_audit::{Past, PastError};
+use smi_audit::Past;
 use smi_core::Core;
-use smi_journal::{read_journal, tell_object, tell_value, write_journal};
-use sml_domain::{ActionId, Domain, Group, ObjId, SetId};
-use sml_text::{Sink, tell, tell_u64};
-use sml_tree::Name;
+use smi_journal::{Entry, write_journal};
+use sml_domain::{Domain, ObjId, SetId};
+use sml_text::{Sink, tell};
 use std::alloc::{AllocError, Global};
 use std::sync::Arc;
-
-// A name, with a blank in front.
-fn tell_name<W: Sink>(writer: &mut W, failed: &mut bool, name: Option<Name>) {
-    if let Some(name) = name {
-        tell(writer, failed, b" ");
-        tell(writer, failed, name.as_bytes());
-    }
-}
-
-// The states of all objects.
-fn tell_states<W: Sink>(writer: &mut W, failed: &mut bool, core: &Core) {
-    let domain = core.domain();
-    for o in 0..domain.objects() {
-        let o = ObjId::new(o);
-        tell(writer, failed, b"state");
-        tell_object(writer, failed, domain, o);
-        tell_name(writer, failed, domain.state_name(core.state(o)));
-        tell(writer, failed, b"\n");
-    }
-}
-
-// The parameters of an object.
-fn tell_params_of<W: Sink>(writer: &mut W, failed: &mut bool, core: &Core, o: ObjId) {
-    let domain = core.domain();
-    if !domain.has(o) {
-        return;
-    }
-    for (param, value) in domain.class_parameters(o).iter().zip(core.params(o)) {
-        tell(writer, failed, b"param");
-        tell_object(writer, failed, domain, o);
-        tell_name(writer, failed, Some(param.name));
-        tell(writer, failed, b"=");
-        tell_value(writer, failed, value);
-        tell(writer, failed, b"\n");
-    }
-}
-
-// The parameters of all objects.
-fn tell_params<W: Sink>(writer: &mut W, failed: &mut bool, core: &Core) {
-    for o in 0..core.domain().objects() {
-        tell_params_of(writer, failed, core, ObjId::new(o));
-    }
-}
-
-// The action that is open at an object, and what it waits for.
-fn tell_open_at<W: Sink>(
-    writer: &mut W,
-    failed: &mut bool,
-    core: &Core,
-    open: Option<ActionId>,
-    past: Option<&Past>,
-    o: ObjId,
-) {
-    let Some(action) = open else {
-        return;
-    };
-    let domain = core.domain();
-    tell(writer, failed, b"open");
-    tell_object(writer, failed, domain, o);
-    tell_name(writer, failed, domain.action_name(action));
-    if domain.associated(o) {
-        tell(writer, failed, b" waits device");
-    } else if let Some(past) = past {
-        tell_awaited(writer, failed, past, b" waits", o);
-    }
-    tell(writer, failed, b"\n");
-}
 
 // Whether an action is open that no device performs: what it waits for is read off the journal.
 fn has_open(domain: &Domain, history: &History) -> bool {
@@ -89,70 +28,32 @@ fn has_open(domain: &Domain, history: &History) -> bool {
     false
 }
 
-// How many requests wait at an object, where any do.
-fn tell_waiting_at<W: Sink>(
-    writer: &mut W,
-    failed: &mut bool,
-    domain: &Domain,
-    history: &History,
-    o: ObjId,
-) {
-    let count = history.waiting(o);
-    if count > 0 {
-        tell(writer, failed, b"waiting");
-        tell_object(writer, failed, domain, o);
-        tell(writer, failed, b" ");
-        tell_u64(writer, failed, count as u64);
-        tell(writer, failed, b"\n");
-    }
-}
-
-// The members of a set, where they are not the declared ones in their order.
-fn tell_members_of<W: Sink>(
-    writer: &mut W,
-    failed: &mut bool,
-    core: &Core,
-    set: SetId,
-    group: &Group,
-) {
-    let members = core.members(set);
-    if members == group.members.as_slice() {
-        return;
-    }
-    tell(writer, failed, b"member");
-    tell_name(writer, failed, Some(group.name));
-    for member in members {
-        tell_object(writer, failed, core.domain(), *member);
-    }
-    tell(writer, failed, b"\n");
-}
-
 // The members of all sets that have others than the declared ones.
-fn tell_members<W: Sink>(writer: &mut W, failed: &mut bool, core: &Core) {
-    for (place, group) in core.domain().groups().iter().enumerate() {
-        tell_members_of(writer, failed, core, SetId::new(place), group);
+fn tell_all_members<S: Standing, W: Sink>(writer: &mut W, failed: &mut bool, standing: &S) {
+    for (place, group) in standing.domain().groups().iter().enumerate() {
+        tell_members(writer, failed, standing, SetId::new(place), group);
     }
 }
 
 // All lines, with what the entries left behind where an action is open that asks other objects.
 fn tell_all<W: Sink>(
-    writer: &mut W,
-    failed: &mut bool,
+    alloc: Global,
     core: &Core,
     history: &History,
     past: Option<&Past>,
-) {
-    let domain = core.domain();
+    writer: &mut W,
+    failed: &mut bool,
+) -> Result<(), AllocError> {
     tell_states(writer, failed, core);
     tell_params(writer, failed, core);
+    tell_opens(alloc, core, past, writer, failed)?;
+    let domain = core.domain();
     for o in 0..domain.objects() {
         let o = ObjId::new(o);
-        tell_open_at(writer, failed, core, history.opened(o), past, o);
+        tell_waiting(writer, failed, core, o, history.waiting(o));
     }
-    for o in 0..domain.objects() {
-        tell_waiting_at(writer, failed, domain, history, ObjId::new(o));
-    }
-    tell_members(writer, failed, core);
+    tell_all_members(writer, failed, core);
+    Ok(())
 }
 
 /// Writes how all stands behind the steps of a core: a line for each state, each parameter, each open action with
@@ -160,8 +61,8 @@ fn tell_all<W: Sink>(
 /// (docs/FORMATS.md, "How all stands".)
 ///
 /// The domain is that of the core, and the history that of its steps. Where an action is open that no device performs,
-/// the time and the memory are those of writing the journal, reading it and judging it; else the time is that of the
-/// lines, and no memory is taken. The error is out of memory; then nothing is written.
+/// the time and the memory are those of writing the journal and judging it; else the time is that of the lines, and
+/// memory is taken for one line. The error is out of memory; then a part is written.
 pub fn tell_standing<W: Sink>(
     alloc: Global,
     domain: &Arc<Domain>,
@@ -171,20 +72,74 @@ pub fn tell_standing<W: Sink>(
     failed: &mut bool,
 ) -> Result<(), AllocError> {
     if !has_open(domain, history) {
-        tell_all(writer, failed, core, history, None);
-        return Ok(());
+        return tell_all(alloc, core, history, None, writer, failed);
     }
     let mut text = Vec::new(alloc);
     if write_journal(core.domain(), core.journal(), &mut text).is_err() {
         return Err(AllocError);
     }
-    let Ok((format, journal)) = read_journal(alloc, domain, text.as_slice()) else {
+    match Past::of_text(alloc, domain, text.as_slice()) {
+        Some(past) => tell_all(alloc, core, history, Some(&past), writer, failed),
+        None => Err(AllocError),
+    }
+}
+
+// Writes how all stood behind the entries of a past. The error is out of memory; then a part is written.
+fn tell_past<W: Sink>(
+    alloc: Global,
+    past: &Past,
+    writer: &mut W,
+    failed: &mut bool,
+) -> Result<(), AllocError>
+    ensures { OnOk result ((text : List ℕ)
+        × TellsStanding past.now.format past.now.books.domain past.now.books.journal text
+        × Told (W.contents writer.old) failed.old (W.contents writer.new) failed.new text) }
+{
+    let more = other_lines(alloc, past)?;
+    tell_states(writer, failed, past);
+    tell_params(writer, failed, past);
+    tell_opens(alloc, past, Some(past), writer, failed)?;
+    tell(writer, failed, more.as_slice());
+    Ok(())
+}
+
+/// How all stands behind the entries of a journal, as a text of those lines that a summary of a run has not: the
+/// parameters, what is open, and sets that have other members than the declared ones. (docs/FORMATS.md, "How all
+/// stands".)
+///
+/// The time and the memory are those of writing the journal and judging it. The error is out of memory.
+pub fn rest_text(
+    alloc: Global,
+    domain: &Arc<Domain>,
+    entries: &[Entry],
+) -> Result<Vec<u8>, AllocError> {
+    let mut journal = Vec::new(alloc);
+    if write_journal(domain, entries, &mut journal).is_err() {
+        return Err(AllocError);
+    }
+    let Some(past) = Past::of_text(alloc, domain, journal.as_slice()) else {
         return Err(AllocError);
     };
-    let shared = Arc::try_clone(domain)?;
-    match Past::of(alloc, format, shared, journal.entries()) {
-        Ok(past) => tell_all(writer, failed, core, history, Some(&past)),
-        Err(PastError::Illegal { .. } | PastError::Memory) => return Err(AllocError),
-    }
-    Ok(())
+    let mut text = Vec::new(alloc);
+    let mut failed = false;
+    tell_params(&mut text, &mut failed, &past);
+    tell_opens(alloc, &past, Some(&past), &mut text, &mut failed)?;
+    tell_all_members(&mut text, &mut failed, &past);
+    if failed { Err(AllocError) } else { Ok(text) }
+}
+
+/// How all stood behind the entries of a past, as a text: the lines of `tell_standing`, where only requests of objects
+/// are counted as waiting, since no journal holds those of sessions, and a line for what each open action does next.
+/// (docs/FORMATS.md, "How all stood".)
+///
+/// The cost is that of the lines, and for the requests that wait the square of the count of objects. The error is out
+/// of memory.
+pub fn past_text(alloc: Global, past: &Past) -> Result<Vec<u8>, AllocError>
+    ensures { IfOk result (λ text.
+        TellsStanding past.now.format past.now.books.domain past.now.books.journal text.items) }
+{
+    let mut text = Vec::new(alloc);
+    let mut failed = false;
+    tell_past(alloc, past, &mut text, &mut failed)?;
+    if failed { Err(AllocError) } else { Ok(text) }
 }

@@ -5,3 +5,4 @@ pub mod Splitting
 pub mod Lines
 pub mod Audit
 pub mod Pasts
+pub mod JudgementText

@@ -1,8 +1,11 @@
 -- What a past says.
-use Rattle.std.specs.Prelude.{ℕ, List, None, Some, Option}
+use Rattle.std.specs.Prelude.{◌≡◌, ℕ, List, All, None, Some, Option}
 use Rattle.sml_domain.specs.Domain.{Domain}
 use Rattle.smi_journal_entries.specs.declared.entry.Entry.{Entry}
 use Rattle.smi_journal_entries.specs.declared.journal.Format.{Format}
+use Rattle.smi_journal.specs.HasText.{HasTextIn}
+use Rattle.smi_journal.specs.JournalText.{journal_text}
+use Rattle.smi_meaning.specs.Legal.{IsLegal}
 use Rattle.smi_audit_rules.specs.Judged.{IsBrokenAt}
 use Rattle.smi_audit_follower.specs.declared.follower.Expected.{Expected}
 use Rattle.smi_audit_follower.specs.Following.{FollowerView}
@@ -10,11 +13,19 @@ use Rattle.smi_audit_follower.specs.Expecting.{IsExpected}
 use Rattle.smi_audit_follower.specs.Laws.{IsFollowed}
 use Rattle.smi_audit.specs.declared.past.PastError.{PastError}
 use Rattle.smi_audit.specs.declared.past.PastError.TheVariants.{Illegal, Memory}
+use Rattle.smi_audit.specs.Views.{PastView}
 
 -- why entries cannot be replayed: this line is the first that breaks a rule, and this rule is the first that it breaks
 abbrev pub IsNone : Format → Domain → List Entry → PastError → Type 0
 IsNone format d J (Illegal line rule) = IsBrokenAt format d J line rule
 IsNone format d J Memory = Unit {0}
+
+-- bytes are the text of a legal journal of a domain, in the format that their first line names, and this is its past
+pub record IsPastOf (d : Domain) (bytes : List ℕ) (p : PastView) : Type 0 where
+  pub domain : p.books.domain ≡ d
+  pub texts : All (HasTextIn p.format d) p.books.journal
+  pub whole : bytes ≡ journal_text p.format d p.books.journal
+  pub legal : IsLegal p.format d p.books.journal
 
 -- what runs at an object shows this next
 pub record PastShows (format : Format) (d : Domain) (J : List Entry) (o : ℕ) (e : Expected) : Type 0 where

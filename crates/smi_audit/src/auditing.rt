@@ -7,9 +7,8 @@ ghost use Rattle.smi_audit.specs.Audit.{IsJudged, Judges};
 ghost use Rattle.smi_audit.specs.declared.judgement.Judgement.TheVariants.{Legal};
 
 use crate::judgement::Judgement;
-use crate::lines::are_legal;
 use crate::past::{Past, PastError};
-use smi_journal::{Entry, Format, JournalError, behind_header, laws_of_names, read_journal};
+use smi_journal::{Entry, Format, JournalError, read_journal};
 use sml_domain::Domain;
 use std::alloc::{AllocError, Global};
 use std::sync::Arc;
@@ -70,11 +69,10 @@ pub fn audit(alloc: Global, domain: Arc<Domain>, bytes: &[u8]) -> Result<Judgeme
 fn is_legal(alloc: Global, domain: &Arc<Domain>, bytes: &[u8]) -> bool
     ensures { IsTrue result → Judges (arc_value domain.now) bytes.now Legal }
 {
-    let Some((format, rest)) = behind_header(bytes) else {
+    let Some(_past) = Past::of_text(alloc, domain, bytes) else {
         return false;
     };
-    laws_of_names(domain);
-    are_legal(alloc, format, domain, rest)
+    true
 }
 
 // Judges the text of a journal, with all its entries held at once: a line that is not an entry is reported first, even

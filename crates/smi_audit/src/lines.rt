@@ -4,7 +4,7 @@ ghost use Rattle.std.specs.Arc.{arc_value};
 ghost use Rattle.smi_journal.specs.HasText.{HasNames};
 ghost use Rattle.smi_meaning.specs.Legal.{IsLegal};
 ghost use Rattle.smi_audit.specs.Judges.{JudgeIsKept};
-ghost use Rattle.smi_audit.specs.Lines.{AreLegal, FollowsLine};
+ghost use Rattle.smi_audit.specs.Lines.{FollowsLine, HasJudgedLines};
 
 use crate::judge::Judge;
 use smi_journal::{Format, LineReader};
@@ -50,7 +50,7 @@ fn take_lines(
     requires format { judge.old.format ≡ format }
     requires of { judge.old.books.domain ≡ domain.now }
     requires first { judge.old.books.journal ≡ [] }
-    ensures { IsTrue result → AreLegal format domain.now bytes.now }
+    ensures { IsTrue result → HasJudgedLines format domain.now bytes.now judge.new }
 {
     let mut rest = bytes;
     while rest.len() > 0 {
@@ -62,17 +62,26 @@ fn take_lines(
     true
 }
 
-// Whether bytes are the lines of a legal journal of a format. Returns false also if memory runs out.
-pub(crate) fn are_legal(alloc: Global, format: Format, domain: &Arc<Domain>, bytes: &[u8]) -> bool
+// The judge of bytes that are the lines of a legal journal of a format. None if they are not, or memory runs out.
+pub(crate) fn judge_of(
+    alloc: Global,
+    format: Format,
+    domain: &Arc<Domain>,
+    bytes: &[u8],
+) -> Option<Judge>
     requires { HasNames (arc_value domain.now) }
-    ensures { IsTrue result → AreLegal format (arc_value domain.now) bytes.now }
+    ensures { IfSome result (HasJudgedLines format (arc_value domain.now) bytes.now) }
 {
     let Ok(shared) = Arc::try_clone(domain) else {
-        return false;
+        return None;
     };
     let Ok(mut judge) = Judge::new(alloc, format, shared) else {
-        return false;
+        return None;
     };
     let mut reader = LineReader::new(alloc);
-    take_lines(&mut judge, &mut reader, format, domain, bytes)
+    if take_lines(&mut judge, &mut reader, format, domain, bytes) {
+        Some(judge)
+    } else {
+        None
+    }
 }

@@ -1,17 +1,18 @@
-//! What legal entries leave behind: their books, and what each open action shows next.
+//! What legal entries leave behind: their books, the parameters of objects, and what each open action shows next.
 ghost use Rattle.std.specs.Prelude.{◌≡◌, ◌<◌, ◌+◌, ◌^◌, All, IfErr, IfNone, IfOk, IfSome, None, length};
 ghost use Rattle.std.specs.Arc.{arc_value};
 ghost use Rattle.smi_journal.specs.HasText.{HasText};
 ghost use Rattle.smi_meaning.specs.Legal.{IsLegal};
-ghost use Rattle.smi_meaning.specs.Params.{running_at};
-ghost use Rattle.smi_audit.specs.Pasts.{IsNone, PastShows};
+ghost use Rattle.smi_meaning.specs.Params.{ParamsAfter, running_at};
+ghost use Rattle.smi_audit.specs.Pasts.{IsNone, IsPastOf, PastShows};
 
 use crate::judge::Judge;
+use crate::lines::judge_of;
 use smi_audit_follower::Expected;
 use smi_audit_rules::Rule;
-use smi_journal::{Entry, Format};
+use smi_journal::{Entry, Format, behind_header, laws_of_names};
 use smi_ledger::Books;
-use sml_domain::{Domain, ObjId};
+use sml_domain::{Domain, ObjId, Value};
 use std::alloc::Global;
 use std::marker::Model;
 use std::sync::Arc;
@@ -25,16 +26,15 @@ pub enum PastError {
     Memory,
 }
 
-/// The entries of a legal journal with their books, and what each open action shows next. So an explanation can
-/// say what would have been legal in the place of an illegal line.
+/// The books of a legal journal, the parameters of its objects, and what each open action shows next. So it can be told
+/// how all stood behind a line, and what would have been legal in the place of an illegal one. The entries themselves
+/// are not kept.
 #[derive(Drop)]
-pub struct Past<'a> {
+pub struct Past {
     judge: Judge,
-    entries: &'a [Entry],
 }
 
-impl<'a> Model for Past<'a> {
-    ghost use Rattle.std.specs.Prelude.{◌≡◌};
+impl Model for Past {
     ghost use Rattle.std.specs.Coded.{codes};
     ghost use Rattle.sml_domain.specs.Codes.{formula_code};
     ghost use Rattle.smi_audit.specs.Judges.{JudgeIsKept};
@@ -46,10 +46,10 @@ impl<'a> Model for Past<'a> {
 
     ghost view = { λ p. record { format = p.judge.format; books = p.judge.books } };
 
-    ghost invariant = { λ p. JudgeIsKept p.judge × (p.entries.now ≡ p.judge.books.journal) };
+    ghost invariant = { λ p. JudgeIsKept p.judge };
 }
 
-impl<'a> Past<'a> {
+impl Past {
     /// Enters entries, one after another, as a journal of a format has them. The time grows with their count and
     /// with what their actions do, and the memory with their count. The square of the count of objects is spent
     /// once.
@@ -57,8 +57,8 @@ impl<'a> Past<'a> {
         alloc: Global,
         format: Format,
         domain: Arc<Domain>,
-        entries: &'a [Entry],
-    ) -> Result<Past<'a>, PastError>
+        entries: &[Entry],
+    ) -> Result<Past, PastError>
         requires texts { All (HasText (arc_value domain)) entries.now }
         requires few { length entries.now + 2 < 2 ^ 64 }
         ensures legal { IfOk result (λ p. IsLegal format (arc_value domain) entries.now) }
@@ -84,14 +84,21 @@ impl<'a> Past<'a> {
                 None => {}
             }
         }
-        Ok(Past { judge, entries })
+        Ok(Past { judge })
     }
 
-    /// The entries. The cost is constant.
-    pub fn entries(&self) -> &[Entry]
-        ensures { result.now ≡ self.now.books.journal }
+    /// Enters the entries of the text of a legal journal, line by line, so that none of them is held. None if the bytes
+    /// are not the text of a legal journal of the domain, or memory runs out: `audit` says which.
+    ///
+    /// The time grows with the length of the text and with what the journal's actions do. Memory is taken for the books
+    /// and for what open actions do. The square of the count of objects is spent once.
+    pub fn of_text(alloc: Global, domain: &Arc<Domain>, bytes: &[u8]) -> Option<Past>
+        ensures { IfSome result (IsPastOf (arc_value domain.now) bytes.now) }
     {
-        self.entries
+        let (format, rest) = behind_header(bytes)?;
+        laws_of_names(domain);
+        let judge = judge_of(alloc, format, domain, rest)?;
+        Some(Past { judge })
     }
 
     /// The books of the entries. The cost is constant.
@@ -99,6 +106,14 @@ impl<'a> Past<'a> {
         ensures { result.now ≡ self.now.books }
     {
         &self.judge.books
+    }
+
+    /// The parameters of an object, in the order of its class's list. The cost is constant.
+    pub fn params(&self, o: ObjId) -> &[Value]
+        requires { o < length self.now.books.domain.objects }
+        ensures { ParamsAfter self.now.format self.now.books.domain o self.now.books.journal result.now }
+    {
+        self.judge.tracks[o.get()].params()
     }
 
     /// What the action that runs at an object shows next, or None if no action runs there. The cost is constant.

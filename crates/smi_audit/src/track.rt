@@ -118,6 +118,13 @@ impl Track {
         self.calls[target.get()].get(number)
     }
 
+    // The parameters of the object.
+    pub(crate) fn params(&self) -> &[Value]
+        ensures { result.now ≡ self.now.params }
+    {
+        &self.params
+    }
+
     // The objects that what runs reads next, by their names.
     pub(crate) fn reads(&self) -> Option<&ContactNames>
         ensures some { IfSome result (λ names. says.TrackReadsNext self.now.follower names.now) }

@@ -1,11 +1,13 @@
 -- Why a step is refused, from what a board answers.
 use Rattle.std.proofs.Common.{◌≡◌, ◌≤◌, ◌==◌, ℕ, Bool, true, false, cond, List, length, Option, Some, None, refl, ap, ◌∙◌, arith}
-use Rattle.std.specs.Prelude.{nat_le, not, is_some, is_none, ◌&&◌}
+use Rattle.std.specs.Prelude.{nat_le, not, is_some, is_none, ◌&&◌, MatchBool}
 use Rattle.std.proofs.lemmas.Bool.Decides.{nat_tests}
 use Rattle.std.specs.Option.{option_map, option_map_or, option_and_then}
-use Rattle.sml_domain.specs.Domain.{Param}
-use Rattle.sml_domain.specs.Lookups.{object_named, action_named, associated_at, params_at}
+use Rattle.sml_domain.specs.Lookups.{object_named, associated_at}
 use Rattle.sml_domain.specs.Completing.{Passed}
+use Rattle.smi_journal_entries.specs.declared.addressing.AddressError.{AddressError}
+use Rattle.smi_journal_entries.specs.declared.addressing.AddressError.TheVariants as address
+use Rattle.smi_journal_entries.specs.Addressing.{IsAddressError, address_refusal, params_named}
 use Rattle.smi_journal_entries.specs.BadArguments.{are_bad}
 use Rattle.smi_journal_entries.specs.Words.{all_starts, is_killed, killed_at, is_open}
 use Rattle.smi_board.specs.Refusals.{start_refusal, IsStartError, fault_refusal, kill_refusal, IsKillError, request_refusal, IsRequestError}
@@ -22,7 +24,7 @@ use Rattle.smi_world.specs.declared.step.Step.TheVariants as step
 use Rattle.smi_world.specs.declared.refusal.StepError.{StepError}
 use Rattle.smi_world.specs.declared.refusal.StepError.TheVariants as error
 use Rattle.smi_world.specs.World.{Setup, World, waiting}
-use Rattle.smi_world.specs.Steps.{IsRefusal, object_in, names_state, refusal, refusal_stands}
+use Rattle.smi_world.specs.Steps.{IsRefusal, is_memory, object_in, names_state, refusal, refusal_stands, step_error_of}
 use Rattle.smi_core.specs.Errors.{start_error, device_error, kill_error, request_error}
 
 -- the second choice, where there is no first
@@ -168,54 +170,61 @@ module _ (m : Setup) (w : World) (x : List ℕ) (o : ℕ) (named : object_named 
 
 -- ---- requests
 
-module _ (m : Setup) (w : World) (k : ℕ) (x y : List ℕ) (passed : List Passed) (o : ℕ) (named : object_named m.domain x ≡ Some o) where
-  -- the parameters that are asked for
-  abbrev asked : Option (List Param)
-  asked = option_and_then (params_at m.domain o) (action_named m.domain y)
+-- the causes of the request itself come first, and `Memory` behind them
+first_found : (a b c : Bool) (rest : Option StepError) (e : AddressError) → IsAddressError (cond a (Some address.UnknownObject) (cond b (Some address.UnknownAction) (cond c (Some address.BadArgs) None))) e
+    → MatchBool (is_memory (step_error_of e)) ((not a && (not b && (not c && true))) ≡ true) (cond a (Some error.UnknownObject) (cond b (Some error.UnknownAction) (cond c (Some error.BadArgs) rest)) ≡ Some (step_error_of e))
+first_found true b c rest address.UnknownObject h = refl
+first_found true b c rest address.UnknownAction h = absurd (cc h)
+first_found true b c rest address.BadArgs h = absurd (cc h)
+first_found true b c rest address.Memory h = absurd (cc h)
+first_found false true c rest address.UnknownObject h = absurd (cc h)
+first_found false true c rest address.UnknownAction h = refl
+first_found false true c rest address.BadArgs h = absurd (cc h)
+first_found false true c rest address.Memory h = absurd (cc h)
+first_found false false true rest address.UnknownObject h = absurd (cc h)
+first_found false false true rest address.UnknownAction h = absurd (cc h)
+first_found false false true rest address.BadArgs h = refl
+first_found false false true rest address.Memory h = absurd (cc h)
+first_found false false false rest address.UnknownObject h = absurd (cc h)
+first_found false false false rest address.UnknownAction h = absurd (cc h)
+first_found false false false rest address.BadArgs h = absurd (cc h)
+first_found false false false rest address.Memory h = refl
 
-  abbrev request_chain : Option ℕ → Option StepError
-  request_chain z = cond (is_none z) (Some error.UnknownObject) (cond (is_none (option_and_then (λ v. option_and_then (params_at m.domain v) (action_named m.domain y)) z)) (Some error.UnknownAction)
-      (cond (option_map_or (λ params. are_bad params passed) (option_and_then (λ v. option_and_then (params_at m.domain v) (action_named m.domain y)) z) false) (Some error.BadArgs)
-      (cond (option_map_or (λ v. is_killed v w.journal) z false) (Some error.Dead) (cond (option_map_or (λ v. nat_le m.capacity (waiting v w)) z false) (Some error.Full) None))))
+-- where none of them stands, those behind them are left
+rest_found : (a b c : Bool) (rest : Option StepError) → cond a (Some address.UnknownObject) (cond b (Some address.UnknownAction) (cond c (Some address.BadArgs) None)) ≡ None → cond a (Some error.UnknownObject) (cond b (Some error.UnknownAction) (cond c (Some error.BadArgs) rest)) ≡ rest
+rest_found true b c rest h = absurd (cc h)
+rest_found false true c rest h = absurd (cc h)
+rest_found false false true rest h = absurd (cc h)
+rest_found false false false rest h = refl
 
-  abbrev asked_chain : Option (List Param) → Option StepError
-  asked_chain z = cond (is_none z) (Some error.UnknownAction) (cond (option_map_or (λ params. are_bad params passed) z false) (Some error.BadArgs)
-      (cond (is_killed o w.journal) (Some error.Dead) (cond (nat_le m.capacity (waiting o w)) (Some error.Full) None)))
+module _ (m : Setup) (w : World) (k : ℕ) (x y : List ℕ) (passed : List Passed) where
+  -- the request was not made
+  pub address_refused : (e : AddressError) → IsAddressError (address_refusal m.domain x y passed) e → IsRefusal m w (step.Request k x y passed) (step_error_of e)
+  address_refused e h = first_found (is_none (object_named m.domain x)) (is_none (params_named m.domain x y)) (option_map_or (λ params. are_bad params passed) (params_named m.domain x y) false) _ e h
 
-  request_is : refusal m w (step.Request k x y passed) ≡ asked_chain asked
-  request_is = ap request_chain named
+  module _ (o : ℕ) (made : address_refusal m.domain x y passed ≡ None) (named : object_named m.domain x ≡ Some o) where
+    abbrev board_chain : Option ℕ → Option StepError
+    board_chain z = cond (option_map_or (λ v. is_killed v w.journal) z false) (Some error.Dead) (cond (option_map_or (λ v. nat_le m.capacity (waiting v w)) z false) (Some error.Full) None)
 
-  pub unknown_action : asked ≡ None → IsRefusal m w (step.Request k x y passed) error.UnknownAction
-  unknown_action none = request_is ∙ ap asked_chain none
+    made_is : refusal m w (step.Request k x y passed) ≡ cond (is_killed o w.journal) (Some error.Dead) (cond (nat_le m.capacity (waiting o w)) (Some error.Full) None)
+    made_is = rest_found (is_none (object_named m.domain x)) (is_none (params_named m.domain x y)) (option_map_or (λ params. are_bad params passed) (params_named m.domain x y) false) (board_chain (object_named m.domain x)) made ∙ ap board_chain named
 
-  pub bad_args : (params : List Param) → asked ≡ Some params → are_bad params passed ≡ true → IsRefusal m w (step.Request k x y passed) error.BadArgs
-  bad_args params is bad = request_is ∙ ap asked_chain is ∙ ap (λ c. cond c (Some error.BadArgs) (cond (is_killed o w.journal) (Some error.Dead) (cond (nat_le m.capacity (waiting o w)) (Some error.Full) None))) bad
+    full_is : (n c : ℕ) → n ≤ c → nat_le c n ≡ (n == c)
+    full_is n c le = grind (arith, nat_tests)
 
-  good_request : (params : List Param) → asked ≡ Some params → are_bad params passed ≡ false → refusal m w (step.Request k x y passed) ≡ cond (is_killed o w.journal) (Some error.Dead) (cond (nat_le m.capacity (waiting o w)) (Some error.Full) None)
-  good_request params is good = request_is ∙ ap asked_chain is ∙ ap (λ c. cond c (Some error.BadArgs) (cond (is_killed o w.journal) (Some error.Dead) (cond (nat_le m.capacity (waiting o w)) (Some error.Full) None))) good
+    request_found : (n : ℕ) → waiting o w ≡ n → n ≤ m.capacity → cond (is_killed o w.journal) (Some error.Dead) (cond (nat_le m.capacity (waiting o w)) (Some error.Full) None) ≡ option_map request_error (request_refusal w.journal o n m.capacity)
+    request_found n is few =
+        ap (λ c. cond (is_killed o w.journal) (Some error.Dead) (cond c (Some error.Full) None)) (ap (nat_le m.capacity) is ∙ full_is n m.capacity few) ∙ found (is_killed o w.journal) (n == m.capacity)
+      where
+        found : (d f : Bool) → cond d (Some error.Dead) (cond f (Some error.Full) None) ≡ option_map request_error (cond d (Some request.Dead) (cond f (Some request.Full) None))
+        found true f = refl
+        found false true = refl
+        found false false = refl
 
-  -- `Memory` comes only after a request that is good
-  pub request_memory : (params : List Param) → asked ≡ Some params → are_bad params passed ≡ false → IsRefusal m w (step.Request k x y passed) error.Memory
-  request_memory params is good =
-      ap (λ z. not (is_none z) && (not (is_none (option_and_then (λ v. option_and_then (params_at m.domain v) (action_named m.domain y)) z)) && (not (option_map_or (λ ps. are_bad ps passed) (option_and_then (λ v. option_and_then (params_at m.domain v) (action_named m.domain y)) z) false) && true))) named
-      ∙ ap (λ z. not (is_none z) && (not (option_map_or (λ ps. are_bad ps passed) z false) && true)) is ∙ ap (λ c. not c && true) good
+    pub request_free : (n : ℕ) → waiting o w ≡ n → n ≤ m.capacity → request_refusal w.journal o n m.capacity ≡ None → refusal m w (step.Request k x y passed) ≡ None
+    request_free n waits few free = made_is ∙ request_found n waits few ∙ ap (option_map request_error) free
 
-  full_is : (n c : ℕ) → n ≤ c → nat_le c n ≡ (n == c)
-  full_is n c le = grind (arith, nat_tests)
-
-  request_found : (n : ℕ) → waiting o w ≡ n → n ≤ m.capacity → cond (is_killed o w.journal) (Some error.Dead) (cond (nat_le m.capacity (waiting o w)) (Some error.Full) None) ≡ option_map request_error (request_refusal w.journal o n m.capacity)
-  request_found n is few =
-      ap (λ c. cond (is_killed o w.journal) (Some error.Dead) (cond c (Some error.Full) None)) (ap (nat_le m.capacity) is ∙ full_is n m.capacity few) ∙ found (is_killed o w.journal) (n == m.capacity)
-    where
-      found : (d f : Bool) → cond d (Some error.Dead) (cond f (Some error.Full) None) ≡ option_map request_error (cond d (Some request.Dead) (cond f (Some request.Full) None))
-      found true f = refl
-      found false true = refl
-      found false false = refl
-
-  pub request_free : (params : List Param) (n : ℕ) → asked ≡ Some params → are_bad params passed ≡ false → waiting o w ≡ n → n ≤ m.capacity → request_refusal w.journal o n m.capacity ≡ None → refusal m w (step.Request k x y passed) ≡ None
-  request_free params n is good waits few free = good_request params is good ∙ request_found n waits few ∙ ap (option_map request_error) free
-
-  pub request_refused : (params : List Param) (n : ℕ) (e : RequestRefusal) → asked ≡ Some params → are_bad params passed ≡ false → waiting o w ≡ n → n ≤ m.capacity → IsRequestError (is_killed o w.journal) (request_refusal w.journal o n m.capacity) e → IsRefusal m w (step.Request k x y passed) (request_error e)
-  request_refused params n request.Memory is good waits few h = request_memory params is good
-  request_refused params n request.Dead is good waits few h = good_request params is good ∙ request_found n waits few ∙ ap (option_map request_error) h
-  request_refused params n request.Full is good waits few h = good_request params is good ∙ request_found n waits few ∙ ap (option_map request_error) h
+    pub request_refused : (n : ℕ) (e : RequestRefusal) → waiting o w ≡ n → n ≤ m.capacity → IsRequestError (is_killed o w.journal) (request_refusal w.journal o n m.capacity) e → IsRefusal m w (step.Request k x y passed) (request_error e)
+    request_refused n request.Memory waits few h = address_refused address.Memory made
+    request_refused n request.Dead waits few h = made_is ∙ request_found n waits few ∙ ap (option_map request_error) h
+    request_refused n request.Full waits few h = made_is ∙ request_found n waits few ∙ ap (option_map request_error) h

@@ -1,5 +1,4 @@
 -- The refusals of a board, as those of steps.
-use Rattle.std.specs.Prelude.{◌≡◌, ◌⊎◌, Bool, true, false}
 use Rattle.smi_board.specs.declared.errors.StartError.{StartError}
 use Rattle.smi_board.specs.declared.errors.StartError.TheVariants as start
 use Rattle.smi_board.specs.declared.errors.AnswerError.{AnswerError}
@@ -35,7 +34,3 @@ abbrev pub request_error : RequestRefusal → StepError
 request_error request.Memory = error.Memory
 request_error request.Dead = error.Dead
 request_error request.Full = error.Full
-
--- why arguments were not made: what was passed does not make any, or else memory ran out
-abbrev pub IsArgsError : Bool → StepError → Type 0
-IsArgsError bad e = ((bad ≡ true) × (e ≡ error.BadArgs)) ⊎ ((bad ≡ false) × (e ≡ error.Memory))

@@ -1,5 +1,5 @@
 //! The core: a domain under way, one step after another.
-ghost use Rattle.std.specs.Prelude.{◌≡◌, ◌++◌, ◌↔◌, ◌<◌, ◌≤◌, ℕ, Err, IfOk, List, Some, length};
+ghost use Rattle.std.specs.Prelude.{◌≡◌, ◌++◌, ◌↔◌, ◌<◌, ◌≤◌, ℕ, Err, IfOk, List, Some, length, option_map};
 ghost use Rattle.std.specs.Arc.{arc_value};
 ghost use Rattle.smi_journal_entries.specs.Sets.{members_after};
 ghost use Rattle.smi_journal_entries.specs.Words as says;
@@ -16,7 +16,7 @@ ghost use Rattle.smi_core.specs.Stepping.{IsCalled};
 
 use crate::machine::Machine;
 use smi_board::{Board, no_tasks};
-use smi_journal_entries::Entry;
+use smi_journal_entries::{Entry, Letter};
 pub use smi_mail_plain::MAX_CAPACITY;
 use smi_mail_plain::PlainMail;
 use smi_world::{Answer, Step, StepError};
@@ -191,6 +191,14 @@ impl Core {
         ensures { result ≡ says.state_of self.now.setup.domain o self.now.world.journal }
     {
         self.machine.board.state(o)
+    }
+
+    /// The letter whose action is open at an object, or None if no action is open. The cost is constant.
+    pub fn opened(&self, o: ObjId) -> Option<&Letter>
+        requires { o < length self.now.setup.domain.objects }
+        ensures { option_map (λ l. l.now) result ≡ says.open_at o self.now.world.journal }
+    {
+        self.machine.board.opened(o)
     }
 
     /// The members of a set, in order: the declared ones, as the inserts and removes of the journal changed them, one

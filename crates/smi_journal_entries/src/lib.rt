@@ -1,6 +1,7 @@
 //! Requests and their arguments, the entries of a journal, and what is read off a journal.
 #![tactic(auto)]
 
+mod addressing;
 mod args;
 mod completing;
 mod entry;
@@ -12,6 +13,7 @@ mod letter;
 mod members;
 mod session;
 
+pub use addressing::{AddressError, Addressed, address};
 pub use args::{Args, Reading, Readings};
 pub use completing::{Passed, complete};
 pub use entry::{ActionEnd, Cause, Entry, MoveReply, Sender, Verdict};

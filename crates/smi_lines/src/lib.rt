@@ -6,4 +6,5 @@ mod arguments;
 mod line;
 
 pub use answer::{tell_answer, tell_refused};
-pub use line::{LONGEST_LINE, LineError, read_step};
+pub use arguments::name_in;
+pub use line::{LONGEST_LINE, LineError, is_line, read_step};

@@ -56,9 +56,9 @@ fn has_line_bytes(line: &[u8]) -> bool
     line.iter().all(|b| *b <= 127 && *b != b'\n')
 }
 
-// Whether bytes are a line: not too many, all of them ASCII, and without a line feed.
+/// Whether bytes are a line: at most `LONGEST_LINE`, all of them ASCII, and none a line feed.
 #[tactic(auto, using(crate::proofs::Wholes::bytes_say))]
-fn is_line(line: &[u8]) -> bool
+pub fn is_line(line: &[u8]) -> bool
     ensures { result ≡ spec.is_line line.now }
 {
     line.len() <= LONGEST_LINE && has_line_bytes(line)

@@ -8,6 +8,7 @@ mod script;
 mod watch;
 mod workers;
 
+pub use player::Refusals;
 pub use running::{run_scripts, run_watched};
 pub use script::{Line, Script};
 pub use smi_journal_entries::Args;

@@ -6,7 +6,7 @@ ghost use Rattle.smi_run_runtime.specs.Closing.{IsRoomFor};
 ghost use Rattle.smi_run.specs.Rooms.{ComeBack};
 ghost use Rattle.smi_run_shared.specs.declared.ending.ServeEnd.TheVariants.{Limit, Quiet};
 
-use crate::player::Player;
+use crate::player::{Player, Refusals};
 use crate::script::Script;
 use crate::watch::{Unwatched, Watch, watch_all};
 use crate::workers::Workers;
@@ -91,7 +91,7 @@ fn run_all<
 struct RunRoom<K: MailNames> {
     seats: Vec<Seat<K>>,
     closed: Vec<Closed<K>>,
-    refused: Vec<u64>,
+    refused: Vec<Refusals>,
 }
 
 fn grow<K: MailNames>(alloc: Global, sessions: usize) -> Result<RunRoom<K>, AllocError>
@@ -130,14 +130,14 @@ fn seat_all<K: MailNames>(
 }
 
 // Returns the sessions, all of which have left now, how many lines of each were refused, and whether memory ran out at
-// one of them.
+// a line.
 fn clear_all<R: Wait + Copy + Send, K: MailNames, D>(
     rt: &R,
     runtime: &Runtime<R, K, D>,
     seats: Vec<Seat<K>>,
     mut closed: Vec<Closed<K>>,
-    mut refused: Vec<u64>,
-) -> (Vec<Closed<K>>, Vec<u64>, bool)
+    mut refused: Vec<Refusals>,
+) -> (Vec<Closed<K>>, Vec<Refusals>, bool)
     requires closed { vec_len closed + vec_len seats ≤ vec_capacity closed }
     requires refused { vec_len refused + vec_len seats ≤ vec_capacity refused }
     ensures closed { vec_len result.0 ≡ vec_len closed + vec_len seats }
@@ -150,10 +150,10 @@ fn clear_all<R: Wait + Copy + Send, K: MailNames, D>(
             place: _,
             alloc: _,
         } = seat;
-        let (one, count, is_one_short) = player.into_inner().close(rt, runtime);
+        let (one, refusals) = player.into_inner().close(rt, runtime);
         closed.push_reserved(one);
-        refused.push_reserved(count);
-        is_short |= is_one_short;
+        refused.push_reserved(refusals);
+        is_short |= refusals.memory > 0;
     }
     (closed, refused, is_short)
 }
@@ -214,11 +214,29 @@ pub fn run_scripts<
     ensures runtime { IfErr result (λ r. r.1 ≡ runtime) }
     ensures back { IfErr result (λ r. ComeBack sessions.items r.2.items r.3.items) }
 {
-    run_watched(rt, alloc, runtime, sessions, scripts, &mut Unwatched)
+    let Ok(counts) = Vec::with_capacity(alloc, sessions.len()) else {
+        return Err((FinishError::Memory, runtime, sessions, Vec::new(alloc)));
+    };
+    match run_watched(rt, alloc, runtime, sessions, scripts, &mut Unwatched) {
+        Ok((end, refused, report)) => Ok((end, all_of(&refused, counts), report)),
+        Err(back) => Err(back),
+    }
 }
 
-/// Runs scripts as `run_scripts` does, watched in this thread. Once the others were started, `watch` is asked what it
-/// wants and hears how far the run is, over and over, until the workers have ended or it looks away.
+// How many lines of each session were refused, for whatever cause.
+fn all_of(refused: &[Refusals], mut counts: Vec<u64>) -> Vec<u64>
+    requires { vec_len counts + length refused.now ≤ vec_capacity counts }
+    ensures { vec_len result ≡ vec_len counts + length refused.now }
+{
+    for refusals in refused {
+        counts.push_reserved(refusals.all);
+    }
+    counts
+}
+
+/// Runs scripts as `run_scripts` does, watched in this thread, and returns the refused lines by their causes. Once the
+/// others were started, `watch` is asked what it wants and hears how far the run is, over and over, until the workers
+/// have ended or it looks away.
 pub fn run_watched<
     R: Threads + Wait + Copy + Send + Sync,
     K: MailNames + Send + Sync,
@@ -232,7 +250,7 @@ pub fn run_watched<
     scripts: &[Script],
     watch: &mut W,
 ) -> Result<
-    (ServeEnd, Vec<u64>, Report<D, K>),
+    (ServeEnd, Vec<Refusals>, Report<D, K>),
     (
         FinishError,
         Runtime<R, K, D>,

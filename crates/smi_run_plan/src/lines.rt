@@ -1,8 +1,6 @@
 //! What a line of a script says.
 ghost use Rattle.std.specs.Prelude.{◌≡◌, ◌≤◌, ◌<◌, ◌^◌, ◌+◌, IfOk, IfSome, length};
-ghost use Rattle.std.specs.List.{list_all as all_of};
 ghost use Rattle.std.specs.Option.{option_and_then};
-ghost use Rattle.sml_text.specs.Bytes.{is_ascii as ascii, no_line_feed};
 ghost use Rattle.sml_text.specs.Stream.{tokens_from};
 ghost use Rattle.sml_text.specs.Views.{lexeme_of, IsLexeme};
 ghost use Rattle.sml_text.specs.declared.source.Source.TheVariants as source;
@@ -13,11 +11,11 @@ ghost use Rattle.smi_run_plan.specs.Says as spec;
 ghost use Rattle.smi_run_plan.specs.Says.{LineSays, DeviceLineSays, IsSaidOf};
 
 use smi_journal_entries::SessionId;
-use smi_lines::{LONGEST_LINE, LineError, read_step};
+use smi_lines::{LineError, is_line, name_in, read_step};
 use smi_world::{Arguments, Step};
 use sml_domain::{ActionId, Domain, ObjId, StateId};
 use sml_text::{Lexeme, Source, first_bad, laws_of_tokens, next_token};
-use sml_tree::{Name, is_reserved};
+use sml_tree::Name;
 use std::alloc::{AllocError, Global};
 
 /// What a session does, as a line of a script says it: each name at its full length.
@@ -49,45 +47,6 @@ pub enum Said {
         action: ActionId,
         state: StateId,
     },
-}
-
-// Whether all bytes are ASCII.
-fn is_all_ascii(line: &[u8]) -> bool
-    ensures { result ≡ all_of ascii line.now }
-{
-    line.iter().all(|b| *b <= 127)
-}
-
-// Whether no byte is a line feed.
-fn is_one_line(line: &[u8]) -> bool
-    ensures { result ≡ all_of no_line_feed line.now }
-{
-    line.iter().all(|b| !(*b == b'\n'))
-}
-
-// Whether bytes are a line: not too many, all of them ASCII, and none a line feed.
-fn is_line(line: &[u8]) -> bool
-    ensures { result ≡ lines.is_line line.now }
-{
-    line.len() <= LONGEST_LINE && is_all_ascii(line) && is_one_line(line)
-}
-
-// The name that a token is: a word that is not reserved.
-fn name_in(lexeme: &Lexeme) -> Option<Name>
-    requires { IsLexeme lexeme.now }
-    ensures { result ≡ lines.name_in (lexeme_of lexeme.now) }
-{
-    match lexeme {
-        Lexeme::Word(word) => {
-            let name = Name::from_word(word);
-            if is_reserved(name.as_bytes()) {
-                None
-            } else {
-                Some(name)
-            }
-        }
-        Lexeme::Int(_) | Lexeme::Str(_) | Lexeme::Sign(_) | Lexeme::Session(_) => None,
-    }
 }
 
 // Whether a token is the word `device`.

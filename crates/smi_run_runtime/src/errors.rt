@@ -1,4 +1,8 @@
 //! Why calls of a runtime are refused.
+ghost use Rattle.std.specs.Prelude.{◌≡◌};
+ghost use Rattle.smi_run_runtime.specs.Posts.{post_error_of};
+
+use smi_journal_entries::AddressError;
 
 /// Why a runtime was not opened.
 #[derive(Clone, Copy, Debug, Eq, PartialEq)]
@@ -26,6 +30,19 @@ pub enum PostError {
     Dead(u64),
     /// The mailbox of the object is full.
     Full,
+}
+
+impl From<AddressError> for PostError {
+    ghost from_gives = { λ error e. e ≡ post_error_of error };
+
+    fn from(error: AddressError) -> Self {
+        match error {
+            AddressError::UnknownObject => PostError::UnknownObject,
+            AddressError::UnknownAction => PostError::UnknownAction,
+            AddressError::BadArgs => PostError::BadArgs,
+            AddressError::Memory => PostError::Memory,
+        }
+    }
 }
 
 /// Why an object was not killed.

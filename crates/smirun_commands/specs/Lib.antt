@@ -4,3 +4,4 @@ pub mod Ruling
 pub mod Paths
 pub mod Refused
 pub mod Performed
+pub mod States

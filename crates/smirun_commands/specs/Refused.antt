@@ -29,6 +29,7 @@ IsTextFault path text (fault.LogNotEmpty _) = ⊥
 IsTextFault path text (fault.LogOfAnother _) = ⊥
 IsTextFault path text (fault.LogInUse _) = ⊥
 IsTextFault path text (fault.LogFull _) = ⊥
+IsTextFault path text (fault.NoLine _ _) = ⊥
 IsTextFault path text fault.ReportDiffers = ⊥
 
 -- why the text of a path has no domain: it is no file, or this is the first fault of its file
@@ -51,4 +52,5 @@ IsDomainFault path text (fault.LogNotEmpty _) = ⊥
 IsDomainFault path text (fault.LogOfAnother _) = ⊥
 IsDomainFault path text (fault.LogInUse _) = ⊥
 IsDomainFault path text (fault.LogFull _) = ⊥
+IsDomainFault path text (fault.NoLine _ _) = ⊥
 IsDomainFault path text fault.ReportDiffers = ⊥

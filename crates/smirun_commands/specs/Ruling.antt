@@ -1,18 +1,11 @@
--- What is reported about a journal.
-use Rattle.std.specs.Prelude.{◌≡◌, ℕ, List, ◌++◌, codes}
-use Rattle.std.specs.Fmt.{decimal}
+-- The exit status of a judgement, and why a journal is not judged.
+use Rattle.std.specs.Prelude.{◌≡◌, ℕ, List}
 use Rattle.sml_domain.specs.Domain.{Domain}
 use Rattle.smi_journal.specs.ReadJournal.{FirstBad, NoHeader}
-use Rattle.smi_audit_rules.specs.RuleText.{rule_text}
 use Rattle.smi_audit.specs.declared.judgement.Judgement.{Judgement}
 use Rattle.smi_audit.specs.declared.judgement.Judgement.TheVariants.{Legal, Illegal}
 use Rattle.smirun_commands.specs.declared.fault.Fault.{Fault}
 use Rattle.smirun_commands.specs.declared.fault.Fault.TheVariants as fault
-
--- the line
-abbrev pub ruling_text : Judgement → List ℕ
-ruling_text Legal = codes "Legal"
-ruling_text (Illegal line rule) = codes "Illegal " ++ decimal line ++ codes " " ++ rule_text rule
 
 -- the exit status
 abbrev pub ruling_status : Judgement → ℕ
@@ -38,3 +31,4 @@ IsNotJudged d path bytes (fault.LogNotEmpty _) = ⊥
 IsNotJudged d path bytes (fault.LogOfAnother _) = ⊥
 IsNotJudged d path bytes (fault.LogInUse _) = ⊥
 IsNotJudged d path bytes (fault.LogFull _) = ⊥
+IsNotJudged d path bytes (fault.NoLine _ _) = ⊥

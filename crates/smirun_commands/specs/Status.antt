@@ -7,7 +7,7 @@ use Rattle.smirun_commands.specs.declared.fault.Fault.{Fault}
 use Rattle.smirun_commands.specs.declared.fault.Fault.TheVariants.{Read, Check, WrongNumbers, WrongRunNumbers, Unreadable}
 use Rattle.smirun_commands.specs.declared.fault.Fault.TheVariants.{TooLong, BadHeader, BadLine, Overwrites, Output}
 use Rattle.smirun_commands.specs.declared.fault.Fault.TheVariants.{JournalUnwritten, ReportDiffers, Memory}
-use Rattle.smirun_commands.specs.declared.fault.Fault.TheVariants.{LogNotEmpty, LogOfAnother, LogInUse, LogFull}
+use Rattle.smirun_commands.specs.declared.fault.Fault.TheVariants.{LogNotEmpty, LogOfAnother, LogInUse, LogFull, NoLine}
 
 -- the exit status of a fault
 abbrev pub fault_status : Fault → ℕ
@@ -19,6 +19,7 @@ fault_status (Unreadable _ _) = 1
 fault_status (TooLong _) = 1
 fault_status (BadHeader _) = 1
 fault_status (BadLine _ _) = 1
+fault_status (NoLine _ _) = 1
 fault_status (Overwrites _) = 2
 fault_status Output = 1
 fault_status (JournalUnwritten _ _) = 1
@@ -42,6 +43,7 @@ fault_line (Unreadable file _) = Some (file.now ++ codes " unreadable")
 fault_line (TooLong file) = Some (file.now ++ codes " too long")
 fault_line (BadHeader file) = Some (file.now ++ codes " bad header")
 fault_line (BadLine file n) = Some (file.now ++ codes " bad line " ++ decimal n)
+fault_line (NoLine file n) = Some (file.now ++ codes " has no line " ++ decimal n)
 fault_line (Overwrites file) = Some (file.now ++ codes " is read, so that no journal is written to it")
 fault_line Output = Some (codes "output fault")
 fault_line (JournalUnwritten _ _) = Some (codes "output fault")

@@ -1,12 +1,13 @@
 //! Explains a text that is refused, if that is asked for.
 
+use crate::audit::LONGEST_JOURNAL;
 use crate::fault::Fault;
-use crate::requests::explain_requests;
+use crate::requests::{explain_bad_lines, explain_requests};
 use explain_files::{explain_check, explain_good, explain_read};
 use explain_lines::{
     LineKind, SourceLine, explain_bad_entry, explain_bad_header, explain_bad_line,
 };
-use explain_runs::{tell_device_lines, tell_reasons};
+use explain_runs::{tell_dead, tell_device_lines, tell_full, tell_length, tell_reasons};
 use smi_journal::Entry;
 use sml_domain::Domain;
 use sml_text::{Sink, put};
@@ -72,8 +73,25 @@ impl Advice {
         }
     }
 
-    /// Advises on the lines of a script whose requests and kills the domain refuses whenever they come: at most twenty,
-    /// and then how many others there are. The cost is the length of the text, and memory is taken for requests.
+    /// Advises on all lines of a script or a schedule that are none: at most twenty, and then how many others there
+    /// are. The cost is the length of the text, and memory is taken for what is said of one line.
+    pub fn of_bad_lines(
+        &mut self,
+        alloc: Global,
+        kind: LineKind,
+        domain: &Domain,
+        file: &str,
+        text: &[u8],
+    ) {
+        if self.is_wanted {
+            let mut failed = false;
+            explain_bad_lines(alloc, kind, domain, file, text, &mut self.text, &mut failed);
+        }
+    }
+
+    /// Advises on the lines of a script or a schedule whose steps the domain refuses whenever they come: at most
+    /// twenty, and then how many others there are. The cost is the length of the text, and memory is taken for
+    /// requests.
     pub fn of_requests(&mut self, alloc: Global, domain: &Arc<Domain>, file: &str, text: &[u8]) {
         if self.is_wanted {
             let mut failed = false;
@@ -117,6 +135,48 @@ impl Advice {
         if self.is_wanted {
             let mut failed = false;
             let _ = tell_reasons(alloc, domain, entries, &mut self.text, &mut failed);
+        }
+    }
+
+    /// Advises on the journal that was written to a path, if it is longer than other commands read. The cost is the
+    /// length of the journal.
+    pub fn of_kept_journal(
+        &mut self,
+        alloc: Global,
+        domain: &Domain,
+        path: &str,
+        entries: &[Entry],
+    ) {
+        if self.is_wanted {
+            let most = LONGEST_JOURNAL as u64;
+            let mut failed = false;
+            let _ = tell_length(
+                alloc,
+                domain,
+                path,
+                entries,
+                most,
+                &mut self.text,
+                &mut failed,
+            );
+        }
+    }
+
+    /// Advises on how many requests of a session, counted from 1, found the mailbox of their object full, which has
+    /// this capacity; nothing if none did.
+    pub fn of_full(&mut self, session: usize, count: u64, capacity: usize) {
+        if self.is_wanted {
+            let mut failed = false;
+            tell_full(&mut self.text, &mut failed, session, count, capacity);
+        }
+    }
+
+    /// Advises on how many requests and kills of a session, counted from 1, came to an object that was killed; nothing
+    /// if none did.
+    pub fn of_dead(&mut self, session: usize, count: u64) {
+        if self.is_wanted {
+            let mut failed = false;
+            tell_dead(&mut self.text, &mut failed, session, count);
         }
     }
 

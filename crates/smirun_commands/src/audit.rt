@@ -3,13 +3,14 @@ ghost use Rattle.std.specs.Prelude.{◌≡◌, ◌≢◌, ◌⊎◌, ◌<◌, �
 ghost use Rattle.std.specs.Arc.{arc_value};
 ghost use Rattle.sml_text.specs.Written.{Wrote};
 ghost use Rattle.smi_audit.specs.Audit.{Judges};
-ghost use Rattle.smirun_commands.specs.Ruling.{IsNotJudged, ruling_status, ruling_text};
+ghost use Rattle.smi_audit.specs.JudgementText.{ruling_text};
+ghost use Rattle.smirun_commands.specs.Ruling.{IsNotJudged, ruling_status};
 ghost use Rattle.smirun_commands.specs.declared.audit.TheConstants.{LONGEST_JOURNAL};
 
 use crate::advice::Advice;
 use crate::fault::Fault;
 use crate::loading::load_domain;
-use crate::ruling::Ruling;
+use crate::status::{DONE, ILLEGAL};
 use crate::text::load_prefix;
 use explain_journals::explain;
 use smi_audit::{Judgement, audit};
@@ -96,17 +97,28 @@ pub fn judge_bytes<'a, W: Write, E: Write>(
         → IsNotJudged (arc_value domain.now) options.now.journal.now bytes.now fault) }
     ensures range { IfOk result (λ status. status ≤ 4) }
 {
-    let ruling = match judge_text(heap, domain, options.journal, bytes) {
-        Ok(ruling) => ruling,
+    let judgement = match judge_text(heap, domain, options.journal, bytes) {
+        Ok(judgement) => judgement,
         Err(fault) => return Err(fault),
     };
-    if let Err(fault) = tell_all(heap, &ruling, output) {
+    if let Err(fault) = tell_judgement(heap, judgement, output) {
         return Err(fault);
     }
     if options.explain {
-        tell_against(heap, domain, bytes, &ruling, errors);
+        tell_against(heap, domain, bytes, judgement, errors);
     }
-    Ok(ruling.status())
+    Ok(status_of(judgement))
+}
+
+// The exit status of a judgement.
+pub(crate) fn status_of(judgement: Judgement) -> u8
+    ensures status { result ≡ ruling_status judgement }
+    ensures range { result ≤ 4 }
+{
+    match judgement {
+        Judgement::Legal => DONE,
+        Judgement::Illegal { .. } => ILLEGAL,
+    }
 }
 
 // Writes the explanation of the illegal line, if there is one, or that there is no memory for it.
@@ -114,23 +126,23 @@ fn tell_against<E: Write>(
     heap: Global,
     domain: &Arc<Domain>,
     bytes: &[u8],
-    ruling: &Ruling,
+    judgement: Judgement,
     errors: &mut E,
 ) {
-    if explain_ruling(heap, domain, bytes, ruling, errors).is_err() {
+    if explain_judgement(heap, domain, bytes, judgement, errors).is_err() {
         let _ = Fault::Memory.tell(errors);
     }
 }
 
 // Writes the explanation of the illegal line, if there is one. A fault of the writer changes nothing.
-pub(crate) fn explain_ruling<E: Sink>(
+pub(crate) fn explain_judgement<E: Sink>(
     heap: Global,
     domain: &Arc<Domain>,
     bytes: &[u8],
-    ruling: &Ruling,
+    judgement: Judgement,
     errors: &mut E,
 ) -> Result<(), AllocError> {
-    let Judgement::Illegal { line, rule } = ruling.judgement else {
+    let Judgement::Illegal { line, rule } = judgement else {
         return Ok(());
     };
     let Ok((format, journal)) = read_journal(heap, domain, bytes) else {
@@ -182,44 +194,44 @@ pub(crate) fn judge_text<'a>(
     domain: &Arc<Domain>,
     journal: &'a str,
     bytes: &[u8],
-) -> Result<Ruling, Fault<'a>>
-    ensures judged { IfOk result (λ ruling. Judges (arc_value domain.now) bytes.now ruling.judgement) }
+) -> Result<Judgement, Fault<'a>>
+    ensures judged { IfOk result (Judges (arc_value domain.now) bytes.now) }
     ensures err { IfErr result (IsNotJudged (arc_value domain.now) journal.now bytes.now) }
 {
     let Ok(shared) = Arc::try_clone(domain) else {
         return Err(Fault::Memory);
     };
     match audit(heap, shared, bytes) {
-        Ok(judgement) => Ok(Ruling { judgement }),
+        Ok(judgement) => Ok(judgement),
         Err(error) => Err(Fault::of_journal(journal, error)),
     }
 }
 
-// Writes the line of a ruling to its end.
-fn tell_all<W: Write>(heap: Global, ruling: &Ruling, output: &mut W) -> Result<(), Fault<'static>>
+// Writes the line of a judgement to its end.
+pub(crate) fn tell_judgement<W: Write>(
+    heap: Global,
+    judgement: Judgement,
+    output: &mut W,
+) -> Result<(), Fault<'static>>
     ensures err { IfErr result (λ fault. (fault ≡ Fault.Output) ⊎ (fault ≡ Fault.Memory)) }
     ensures told { OnOk result (Wrote (W.contents output.old) (W.contents output.new)
-        (ruling_text ruling.now.judgement ++ codes "\n")) }
+        (ruling_text judgement ++ codes "\n")) }
 {
-    if let Err(fault) = tell_ruling(heap, ruling, output) {
-        return Err(fault);
-    }
-    match output.flush() {
-        Ok(()) => Ok(()),
-        Err(_) => Err(Fault::Output),
-    }
-}
-
-// Writes the line of a ruling.
-fn tell_ruling<W: Sink>(heap: Global, ruling: &Ruling, writer: &mut W) -> Result<(), Fault<'static>>
-    ensures err { IfErr result (λ fault. (fault ≡ Fault.Output) ⊎ (fault ≡ Fault.Memory)) }
-    ensures told { OnOk result (Wrote (W.contents writer.old) (W.contents writer.new)
-        (ruling_text ruling.now.judgement ++ codes "\n")) }
-{
-    let Ok(line) = format!(in heap; "{ruling}\n") else {
+    let Ok(line) = format!(in heap; "{judgement}\n") else {
         return Err(Fault::Memory);
     };
-    match put(writer, line.as_bytes()) {
+    tell_text(line.as_bytes(), output)
+}
+
+// Writes a text to its end.
+pub(crate) fn tell_text<W: Write>(text: &[u8], output: &mut W) -> Result<(), Fault<'static>>
+    ensures err { IfErr result (λ fault. fault ≡ Fault.Output) }
+    ensures told { OnOk result (Wrote (W.contents output.old) (W.contents output.new) text.now) }
+{
+    if put(output, text).is_err() {
+        return Err(Fault::Output);
+    }
+    match output.flush() {
         Ok(()) => Ok(()),
         Err(_) => Err(Fault::Output),
     }

@@ -7,12 +7,16 @@ ghost use Rattle.smirun_commands.specs.Judgement.{PathIsTold, judgement_text};
 use crate::advice::Advice;
 use crate::fault::{Fault, tell_cause};
 use crate::judgement::{FileOutcome, judge};
+use crate::loading::domain_of_bytes;
+use crate::status::DONE;
 use crate::text::load_text;
 use bumpalo::Bump;
+use sml_domain::Domain;
 use sml_text::{Sink, put};
 use std::alloc::{AllocError, Allocator, Global};
 use std::fs::Files;
 use std::io::{BufWriter, Read, Write};
+use std::sync::Arc;
 
 /// Tells of each file whether it is well-formed, or why not, and returns the exit status. A refused or
 /// unreadable file is reported, and the next follows; a fault of the output, or being out of memory, ends it.
@@ -39,6 +43,35 @@ pub fn run_check<R: Files + AllocGlobal, I: Read, W: Write, E: Write>(
         Ok(status) if flushed.is_ok() => Ok(status),
         Ok(_) => Err(Fault::Output),
         Err(fault) => Err(fault),
+    }
+}
+
+/// Tells of one file whether it is well-formed, or why not, as `run_check` does, and returns its domain if it is.
+pub fn check_domain<R: Files + AllocGlobal, I: Read, W: Write, E: Write>(
+    rt: &R,
+    file: &str,
+    explain: bool,
+    input: &mut I,
+    output: &mut W,
+    errors: &mut E,
+) -> Result<Option<Arc<Domain>>, Fault<'static>> {
+    let heap = rt.alloc();
+    let mut text = Vec::new(heap);
+    let Ok(judgement) = judge_file(rt, heap, file, &mut text, input, errors) else {
+        return Err(Fault::Memory);
+    };
+    if let Err(fault) = tell_judgement(heap, file, judgement, output) {
+        return Err(fault);
+    }
+    if explain && output.flush().is_ok() {
+        advise(heap, file, text.as_slice(), judgement, errors);
+    }
+    if judgement.status() != DONE {
+        return Ok(None);
+    }
+    match domain_of_bytes(heap, file, text.as_slice()) {
+        Ok(domain) => Ok(Some(domain)),
+        Err(_) => Err(Fault::Memory),
     }
 }
 

@@ -34,6 +34,8 @@ pub enum Fault<'a> {
     BadHeader(&'a str),
     /// A line of the journal is not an entry, or a line of the script is not one of a script. Lines count from 1.
     BadLine(&'a str, u64),
+    /// The journal has fewer lines than this.
+    NoLine(&'a str, u64),
     /// The journal or the log would be written over this file, which is read.
     Overwrites(&'a str),
     /// Standard output cannot be written.
@@ -64,7 +66,7 @@ impl<'a> Fault<'a> {
         match *self {
             Fault::Read(..) | Fault::Check(..) | Fault::BadHeader(_) | Fault::BadLine(..) =>
                 REFUSED,
-            Fault::Unreadable(..) | Fault::TooLong(_) => REFUSED,
+            Fault::Unreadable(..) | Fault::TooLong(_) | Fault::NoLine(..) => REFUSED,
             Fault::LogNotEmpty(_) | Fault::LogOfAnother(_) => REFUSED,
             Fault::LogInUse(_) | Fault::LogFull(_) => REFUSED,
             Fault::Output | Fault::JournalUnwritten(..) | Fault::ReportDiffers => REFUSED,
@@ -181,6 +183,7 @@ impl fmt::Display for Fault<'_> {
             Fault::TooLong(file) => write!(f, "{file} too long"),
             Fault::BadHeader(file) => write!(f, "{file} bad header"),
             Fault::BadLine(file, number) => write!(f, "{file} bad line {number}"),
+            Fault::NoLine(file, number) => write!(f, "{file} has no line {number}"),
             Fault::Overwrites(file) => {
                 write!(f, "{file} is read, so that no journal is written to it")
             }

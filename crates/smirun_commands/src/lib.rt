@@ -1,5 +1,6 @@
 //! The commands of the state manager that need no threads: to check domains, to print, list or draw one, to run a
-//! schedule on one, and to judge, draw or show a journal of one. Each is a function over a runtime, what it is asked
+//! schedule on one, and to judge, draw or show a journal of one, or to tell
+//! how all stood behind its lines. Each is a function over a runtime, what it is asked
 //! and the streams that it writes.
 #![tactic(auto)]
 
@@ -15,8 +16,9 @@ mod notes;
 mod page;
 mod print;
 mod requests;
-mod ruling;
 mod same_file;
+mod schedules;
+mod states;
 mod status;
 mod step;
 mod text;
@@ -24,17 +26,19 @@ mod traced;
 
 pub use advice::Advice;
 pub use audit::{AuditOptions, LONGEST_JOURNAL, judge_bytes, run_audit};
-pub use check::run_check;
-pub use fault::Fault;
+pub use check::{check_domain, run_check};
+pub use explain_lines::LineKind;
+pub use fault::{Fault, tell_cause};
 pub use graph::{GraphOptions, run_graph};
 pub use judgement::{FileOutcome, judge};
 pub use list::run_list;
 pub use loading::{domain_of_bytes, load_domain};
 pub use page::{PageOptions, run_page};
 pub use print::{print_text, run_print};
-pub use ruling::Ruling;
 pub use same_file::is_one_read;
-pub use smi_core::{MAX_CAPACITY, MAX_STARTS};
+pub use schedules::look_at_schedule;
+pub use smi_core::{LONGEST_SCHEDULE, MAX_CAPACITY, MAX_STARTS};
+pub use states::{StatesOptions, first_lines, run_states, states_of_bytes};
 pub use status::{DONE, ILLEGAL, NO_MEMORY, REFUSED, WRONG_WORDS};
 pub use step::{StepOptions, core_of_bytes, run_step, run_steps, write_run};
 pub use text::{STANDARD_INPUT, load_prefix};

@@ -1,12 +1,12 @@
 //! The command `page`: a domain and a journal go in, and a page of that run comes out, which a browser shows.
 
 use crate::advice::Advice;
-use crate::audit::{explain_ruling, judge_text, load_journal};
+use crate::audit::{explain_judgement, judge_text, load_journal};
 use crate::fault::Fault;
 use crate::loading::load_domain;
-use crate::ruling::Ruling;
 use show_lists::tell_list;
 use show_page::{Page, tell_page};
+use smi_audit::Judgement;
 use sml_domain::Domain;
 use std::alloc::{AllocError, Global};
 use std::fs::Files;
@@ -25,8 +25,8 @@ pub struct PageOptions<'a> {
 /// Writes the page of a run. The domain is read and checked before the journal is opened, and the journal is read
 /// whole and judged before anything is written. At a fault of the output a prefix is written.
 ///
-/// A journal that is not legal has its page too, which says so. The error is the fault of the domain, by its path, or of
-/// the journal as of `run_audit`, `Output` or `Memory`.
+/// A journal that is not legal has its page too, which says so. The error is the fault of the domain, by its path, or
+/// of the journal as of `run_audit`, `Output` or `Memory`.
 pub fn run_page<'a, R: Files + AllocGlobal, I: Read, W: Write>(
     rt: &R,
     options: &PageOptions<'a>,
@@ -56,11 +56,11 @@ fn show_run<'a, W: Write>(
     bytes: &[u8],
     output: &mut W,
 ) -> Result<(), Fault<'a>> {
-    let ruling = match judge_text(heap, domain, options.journal, bytes) {
-        Ok(ruling) => ruling,
+    let judgement = match judge_text(heap, domain, options.journal, bytes) {
+        Ok(judgement) => judgement,
         Err(fault) => return Err(fault),
     };
-    let Ok(texts) = texts_of(heap, domain, bytes, &ruling) else {
+    let Ok(texts) = texts_of(heap, domain, bytes, judgement) else {
         return Err(Fault::Memory);
     };
     let page = Page {
@@ -87,17 +87,17 @@ fn texts_of(
     heap: Global,
     domain: &Arc<Domain>,
     bytes: &[u8],
-    ruling: &Ruling,
+    judgement: Judgement,
 ) -> Result<Texts, AllocError> {
     let mut reason = Vec::new(heap);
-    explain_ruling(heap, domain, bytes, ruling, &mut reason)?;
+    explain_judgement(heap, domain, bytes, judgement, &mut reason)?;
     let mut list = Vec::new(heap);
     let mut failed = false;
     tell_list(&mut list, &mut failed, domain);
     if failed {
         return Err(AllocError);
     }
-    let ruling = format!(in heap; "{ruling}")?;
+    let ruling = format!(in heap; "{judgement}")?;
     Ok(Texts {
         ruling,
         reason,

@@ -1,4 +1,10 @@
 //! The command `step`: a domain and a schedule go in, and what was done comes out.
+//!
+//! From the file of a domain to what is written it goes through these functions, in this order: `run_step` loads the
+//! core, `run_in` opens the schedule, `run_traced` keeps why it cannot be read, `run_by_lines` or `run_file` lay a
+//! buffer before the output, `run_opened` makes the file of the journal, `run_kept` writes the journal to it in the
+//! end, `run_all` writes out the output, and `run_and_tell` runs the steps and tells how all stands. They are as many
+//! as things are opened: what is opened in one is closed when it returns.
 ghost use Rattle.std.specs.Prelude.{◌≡◌, ◌≢◌, ◌≤◌, ◌⊎◌, ℕ, List, Option, Err, None, IfErr, IfOk, IfSome, OnErr, OnOk};
 ghost use Rattle.std.specs.Arc.{arc_value};
 ghost use Rattle.std.specs.Io.KnownBytes.{Appends};
@@ -87,11 +93,34 @@ pub fn run_step<'a, R: Files + AllocGlobal, I: Read, W: Write, E: Write>(
         Ok(made) => made,
         Err(fault) => return Err(fault),
     };
-    let notes = Notes::new(rt.alloc(), options, &domain, errors);
-    let done = run_noted(rt, &mut core, input, output, notes);
+    let done = run_core(rt, options, &mut core, &domain, input, output, errors);
+    advise_on_journal(rt.alloc(), options, &core, advice);
     drop(core);
     drop(domain);
     done
+}
+
+// Runs the schedule in the core of the domain, with notes on its lines, and returns the exit status.
+fn run_core<'a, R: Files + AllocGlobal, I: Read, W: Write, E: Write>(
+    rt: &R,
+    options: &StepOptions<'a>,
+    core: &mut Core,
+    domain: &Arc<Domain>,
+    input: &mut I,
+    output: &mut W,
+    errors: &mut E,
+) -> Result<u8, Fault<'a>>
+    ensures { IfOk result (λ status. status ≤ 1) }
+{
+    let notes = Notes::new(rt.alloc(), options, domain, errors);
+    run_noted(rt, core, input, output, notes)
+}
+
+// Advises on the length of the journal, if it is kept.
+fn advise_on_journal(alloc: Global, options: &StepOptions<'_>, core: &Core, advice: &mut Advice) {
+    if let Some(path) = options.journal {
+        advice.of_kept_journal(alloc, core.domain(), path, core.journal());
+    }
 }
 
 // The core of a domain file, and its domain.

@@ -26,3 +26,4 @@ IsFaultOf e unmet (fault.LogNotEmpty _) = ⊥
 IsFaultOf e unmet (fault.LogOfAnother _) = ⊥
 IsFaultOf e unmet (fault.LogInUse _) = ⊥
 IsFaultOf e unmet (fault.LogFull _) = ⊥
+IsFaultOf e unmet (fault.NoLine _ _) = ⊥

@@ -11,6 +11,7 @@ use Rattle.smi_journal_entries.specs.Words.{is_open, posts_between, state_of}
 use Rattle.smi_journal.specs.CallText.{object_name_text, spaced, state_name_text}
 use Rattle.smi_journal.specs.EntryText.{sender_text}
 use Rattle.smi_mail.specs.declared.mailboxes.TheConstants.{MAX_SESSIONS}
+use Rattle.smi_run.specs.declared.player.Refusals.{Refusals}
 use Rattle.smi_run_report.specs.Reports.{ReportSide, left_from}
 use Rattle.smi_run_report.specs.Told.{accepted_in}
 use Rattle.smi_run_shared.specs.declared.ending.ServeEnd.{ServeEnd}
@@ -70,6 +71,10 @@ sender_lines d r g s = object_lines d (summed_line d r g s)
 -- the lines of a group: by senders, and of each by objects
 abbrev pub group_lines : Domain → ReportSide → Group → List ℕ
 group_lines d r g = flat_map (sender_lines d r g) (all_senders d)
+
+-- how many lines of a session were refused
+abbrev pub all_refused : Refusals → ℕ
+all_refused r = r.all
 
 -- the line of a session's refused lines, where the first session is at 0
 abbrev pub refused_line : List ℕ → ℕ → List ℕ

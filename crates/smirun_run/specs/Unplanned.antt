@@ -25,3 +25,4 @@ IsUnplanned d path text (fault.LogNotEmpty _) = ⊥
 IsUnplanned d path text (fault.LogOfAnother _) = ⊥
 IsUnplanned d path text (fault.LogInUse _) = ⊥
 IsUnplanned d path text (fault.LogFull _) = ⊥
+IsUnplanned d path text (fault.NoLine _ _) = ⊥

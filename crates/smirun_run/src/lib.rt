@@ -2,6 +2,7 @@
 //! (docs/FORMATS.md, "Scripts".)
 #![tactic(auto)]
 
+mod checking;
 mod command;
 mod host;
 mod options;
@@ -11,6 +12,7 @@ mod progress;
 mod running;
 mod summary;
 
+pub use checking::{CheckOptions, run_check_lines};
 pub use command::run_run;
 pub use host::Host;
 pub use options::RunOptions;

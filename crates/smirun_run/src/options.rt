@@ -20,4 +20,6 @@ pub struct RunOptions<'a> {
     pub explain: bool,
     /// Whether the status says that something went wrong in the run.
     pub strict: bool,
+    /// Whether the parameters and what is open are written behind the summary.
+    pub states: bool,
 }

@@ -6,7 +6,7 @@ ghost use Rattle.smi_journal.specs.JournalText.{journal_text};
 ghost use Rattle.smirun_run.specs.Outcomes.{IsFaultOf};
 
 use smi_journal::{Cause, Entry, Journal, write_journal};
-use smi_run::{Receipt, ServeEnd};
+use smi_run::{Receipt, Refusals, ServeEnd};
 use smirun_commands::Fault;
 use sml_domain::Domain;
 use sml_text::{Sink, WriteFault, put};
@@ -26,6 +26,8 @@ pub struct Outcome {
     pub journal: Journal,
     /// The receipts that the journal does not agree with, by sessions and in their order.
     pub unmet: Vec<Receipt>,
+    /// How many lines of each session were refused, by their causes.
+    pub refused: Vec<Refusals>,
 }
 
 // Whether a summary has a line that begins so.

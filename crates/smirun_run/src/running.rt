@@ -1,5 +1,5 @@
 //! A plan is run in threads.
-ghost use Rattle.std.specs.Prelude.{◌≡◌, IfErr, IfOk, length, true};
+ghost use Rattle.std.specs.Prelude.{◌≡◌, IfErr, IfOk, length, map, true};
 ghost use Rattle.std.specs.Arc.{arc_value};
 ghost use Rattle.smi_journal_entries.specs.Words.{all_starts};
 ghost use Rattle.smi_journal_entries.specs.declared.journal.Format.TheVariants.{Two};
@@ -11,7 +11,7 @@ ghost use Rattle.smi_run_runtime.specs.Opening.{are_run_numbers};
 ghost use Rattle.smirun_run.specs.Ends.{EndsAtRest};
 ghost use Rattle.smirun_run.specs.Running.{AreWithin, HasDevices, IsOpenFault, IsRunError, config_of};
 ghost use Rattle.smirun_run.specs.Running.{error_of_mail, error_of_open};
-ghost use Rattle.smirun_run.specs.Summary.{summary_text};
+ghost use Rattle.smirun_run.specs.Summary.{all_refused, summary_text};
 ghost use Rattle.smirun_run.specs.Told.{AreUnmet, IsSummed};
 ghost use Rattle.smi_run_shared.specs.declared.ending.ServeEnd.TheVariants.{Limit};
 ghost use Rattle.smirun_run.specs.declared.running.RunError.TheVariants.{Memory as NoMemory};
@@ -20,7 +20,8 @@ use crate::outcome::Outcome;
 use crate::summary::summary_of;
 use smi_mail::{MailError, MailNames, Mailboxes, ruled};
 use smi_run::{
-    Config, OpenError, Receipt, Report, Runtime, ServeEnd, Session, Watch, add_unmet, run_watched,
+    Config, OpenError, Receipt, Refusals, Report, Runtime, ServeEnd, Session, Watch, add_unmet,
+    run_watched,
 };
 use smi_run_plan::{Plan, ScriptDevice};
 use sml_domain::Domain;
@@ -94,29 +95,43 @@ fn unmet_of<D: Drop, K: MailNames>(
     Ok(unmet)
 }
 
+// How many lines of each session were refused.
+fn counts_of(alloc: Global, refused: &[Refusals]) -> Result<Vec<u64>, AllocError>
+    ensures { IfOk result (λ v. v.items ≡ map all_refused refused.now) }
+{
+    let mut counts = Vec::new(alloc);
+    for refusals in refused {
+        counts.push(refusals.all)?;
+    }
+    Ok(counts)
+}
+
 // What a run came to, by its report.
 fn outcome_of<D: Drop, K: MailNames>(
     alloc: Global,
     report: Report<D, K>,
     end: ServeEnd,
-    refused: &[u64],
+    refused: Vec<Refusals>,
 ) -> Result<Outcome, AllocError>
     ensures end { IfOk result (λ o. o.end ≡ end) }
     ensures journal { IfOk result (λ o. o.journal.entries ≡ report.journal) }
     ensures legal { IfOk result (λ o. IsLegal Two K.names.domain o.journal.entries) }
     ensures unmet { IfOk result (λ o. o.unmet.items ≡ unmet_among report.journal report.unmet) }
-    ensures text { IfOk result (λ o. o.summary.items ≡ summary_text K.names.domain report end refused.now) }
+    ensures text { IfOk result (λ o. o.summary.items ≡ summary_text K.names.domain report end
+        (map all_refused refused.items)) }
     ensures report { IfOk result (λ _. IsFinalReport K.names.domain K.names.sessions report.journal report.accepted
         report.drained) }
 {
     report.tells();
-    let summary = summary_of(alloc, &report, end, refused)?;
+    let counts = counts_of(alloc, &refused)?;
+    let summary = summary_of(alloc, &report, end, &counts)?;
     let unmet = unmet_of(alloc, &report)?;
     Ok(Outcome {
         end,
         summary,
         journal: report.into_journal(),
         unmet,
+        refused,
     })
 }
 
@@ -195,7 +210,7 @@ fn run_over<K: MailNames + Send + Sync, R: Threads + Wait + Copy + Send + Sync, 
     let devices = answers.devices(alloc, domain)?;
     let (runtime, sessions) = open_run::<K, R>(alloc, domain, boxes, devices, numbers)?;
     match run_watched(&rt, alloc, runtime, sessions, &scripts, watcher) {
-        Ok((end, refused, report)) => Ok(outcome_of(alloc, report, end, &refused)?),
+        Ok((end, refused, report)) => Ok(outcome_of(alloc, report, end, refused)?),
         Err(_) => Err(RunError::Memory),
     }
 }

@@ -3,12 +3,14 @@ ghost use Rattle.std.specs.Prelude.{◌≡◌, ◌≢◌, ◌≤◌, IfErr, IfOk
 ghost use Rattle.std.specs.IoError.{error_kind};
 ghost use Rattle.smirun_commands.specs.Status.{fault_status};
 
+use crate::traced::TracedWriter;
 use smirun_commands::{
-    Advice, AuditOptions, DONE, Fault, GraphOptions, PageOptions, StepOptions, WRONG_WORDS,
-    run_audit, run_check, run_graph, run_list, run_page, run_print, run_step,
+    Advice, AuditOptions, DONE, Fault, GraphOptions, PageOptions, StatesOptions, StepOptions,
+    WRONG_WORDS, run_audit, run_check, run_graph, run_list, run_page, run_print, run_states,
+    run_step,
 };
 use smirun_live::{LiveHost, LiveOptions, run_live, run_live_as_lines_come};
-use smirun_run::{Host, RunOptions, run_run};
+use smirun_run::{CheckOptions, Host, RunOptions, run_check_lines, run_run};
 use std::io;
 use std::io::{ErrorKind, Read, Write};
 
@@ -16,7 +18,15 @@ use std::io::{ErrorKind, Read, Write};
 #[derive(Drop)]
 pub enum AskedCommand<'a> {
     /// To check the domain files of these paths, and to say of refused ones why, if that is asked for.
-    Check { files: Vec<&'a str>, explain: bool },
+    Check {
+        files: Vec<&'a str>,
+        explain: bool,
+    },
+    /// To check a domain file with scripts and schedules. It is a wrong command line if there are more files.
+    CheckLines {
+        options: CheckOptions<'a>,
+        has_more: bool,
+    },
     /// To run a schedule on a domain.
     Step(StepOptions<'a>),
     /// To run a script on a domain, in threads.
@@ -24,13 +34,21 @@ pub enum AskedCommand<'a> {
     /// To run a manager on a domain, which other programs talk to.
     Live(LiveOptions<'a>),
     /// To print the canonical text of the domain file of this path, or to say why it is refused, if that is asked for.
-    Print { file: &'a str, explain: bool },
-    /// To list what the domain file of this path declares.
-    List(&'a str),
+    Print {
+        file: &'a str,
+        explain: bool,
+    },
+    /// To list what the domain file of this path declares, or to say why it is refused, if that is asked for.
+    List {
+        file: &'a str,
+        explain: bool,
+    },
     /// To draw a domain, or the run of a journal.
     Graph(GraphOptions<'a>),
     /// To write a page of the run of a journal.
     Page(PageOptions<'a>),
+    /// To tell how all stood behind a line of a journal.
+    States(StatesOptions<'a>),
     /// To judge a journal by a domain.
     Audit(AuditOptions<'a>),
 }
@@ -40,11 +58,15 @@ impl AskedCommand<'_> {
     fn explain(&self) -> bool {
         match self {
             AskedCommand::Check { explain, .. } | AskedCommand::Print { explain, .. } => *explain,
+            AskedCommand::CheckLines { options, .. } => options.explain,
             AskedCommand::Step(options) => options.explain,
             AskedCommand::Run(options) => options.explain,
             AskedCommand::Live(options) => options.explain,
             AskedCommand::Audit(options) => options.explain,
-            AskedCommand::List(_) | AskedCommand::Graph(_) | AskedCommand::Page(_) => false,
+            AskedCommand::List { explain, .. } => *explain,
+            AskedCommand::Graph(options) => options.explain,
+            AskedCommand::States(options) => options.explain,
+            AskedCommand::Page(_) => false,
         }
     }
 }
@@ -52,9 +74,9 @@ impl AskedCommand<'_> {
 /// Does what is asked, and returns the exit status.
 ///
 /// A file that is named `-` is `input`, and so are the lines of a manager, which it takes in turn. The result of the
-/// command goes to `output`. A fault line (docs/FORMATS.md, "Fault lines and exit statuses") goes to `errors`, and
-/// behind it the advice, if that is asked for. A fault of `errors` changes nothing, since there is no place left to
-/// tell it.
+/// command goes to `output`. A fault line (docs/FORMATS.md, "Fault lines and exit statuses") goes to `errors`, behind
+/// it the cause where `output` failed for one, and then the advice, if that is asked for. A fault of `errors` changes
+/// nothing, since there is no place left to tell it.
 pub fn perform<R: Host + LiveHost, I: Read, W: Write, E: Write>(
     rt: &R,
     asked: &AskedCommand<'_>,
@@ -65,7 +87,9 @@ pub fn perform<R: Host + LiveHost, I: Read, W: Write, E: Write>(
     ensures { result ≤ 4 }
 {
     let mut advice = Advice::new(rt.alloc(), asked.explain());
-    let status = perform_advised(rt, asked, input, output, errors, &mut advice);
+    let mut traced = TracedWriter::new(output);
+    let status = perform_advised(rt, asked, input, &mut traced, errors, &mut advice);
+    traced.tell(errors);
     advice.tell(errors);
     status
 }
@@ -84,10 +108,12 @@ fn perform_advised<R: Host + LiveHost, I: Read, W: Write, E: Write>(
 {
     match asked {
         AskedCommand::Check { files, explain } => check(rt, files, *explain, input, output, errors),
+        AskedCommand::CheckLines { options, .. } => check_lines(rt, options, input, output, errors),
         AskedCommand::Print { file, .. } => print(rt, file, input, output, errors, advice),
-        AskedCommand::List(file) => list(rt, file, input, output, errors, advice),
+        AskedCommand::List { file, .. } => list(rt, file, input, output, errors, advice),
         AskedCommand::Graph(options) => graph(rt, options, input, output, errors, advice),
         AskedCommand::Page(options) => page(rt, options, input, output, errors, advice),
+        AskedCommand::States(options) => states(rt, options, input, output, errors, advice),
         AskedCommand::Step(options) => step(rt, options, input, output, errors, advice),
         AskedCommand::Run(options) => run(rt, options, input, output, errors, advice),
         AskedCommand::Live(options) => live(rt, options, input, output, errors, advice),
@@ -107,8 +133,10 @@ pub fn perform_live<
     ensures { result ≤ 4 }
 {
     let mut advice = Advice::new(rt.alloc(), options.explain);
-    let done = run_live_as_lines_come(rt, options, input, output, errors, &mut advice);
+    let mut traced = TracedWriter::new(output);
+    let done = run_live_as_lines_come(rt, options, input, &mut traced, errors, &mut advice);
     let status = ended(&done, errors);
+    traced.tell(errors);
     advice.tell(errors);
     status
 }
@@ -125,6 +153,20 @@ fn check<R: Host + LiveHost, I: Read, W: Write, E: Write>(
     ensures { result ≤ 4 }
 {
     let outcome = run_check(rt, files, explain, input, output, errors);
+    status_of(&outcome, errors)
+}
+
+// Checks a domain file with scripts and schedules.
+fn check_lines<R: Host + LiveHost, I: Read, W: Write, E: Write>(
+    rt: &R,
+    options: &CheckOptions<'_>,
+    input: &mut I,
+    output: &mut W,
+    errors: &mut E,
+) -> u8
+    ensures { result ≤ 4 }
+{
+    let outcome = run_check_lines(rt, options, input, output, errors);
     status_of(&outcome, errors)
 }
 
@@ -169,7 +211,7 @@ fn graph<R: Host + LiveHost, I: Read, W: Write, E: Write>(
 ) -> u8
     ensures { result ≤ 4 }
 {
-    let outcome = run_graph(rt, options, input, output, advice);
+    let outcome = run_graph(rt, options, input, output, errors, advice);
     ended(&outcome, errors)
 }
 
@@ -231,6 +273,21 @@ fn live<R: Host + LiveHost, I: Read, W: Write, E: Write>(
 {
     let outcome = run_live(rt, options, input, output, errors, advice);
     ended(&outcome, errors)
+}
+
+// Tells how all stood behind a line of a journal.
+fn states<R: Host + LiveHost, I: Read, W: Write, E: Write>(
+    rt: &R,
+    options: &StatesOptions<'_>,
+    input: &mut I,
+    output: &mut W,
+    errors: &mut E,
+    advice: &mut Advice,
+) -> u8
+    ensures { result ≤ 4 }
+{
+    let outcome = run_states(rt, options, input, output, advice);
+    status_of(&outcome, errors)
 }
 
 // Judges a journal.

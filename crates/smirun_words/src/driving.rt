@@ -4,8 +4,9 @@ ghost use Rattle.clap.specs.Values.{kind_of};
 
 use crate::asked::{AskedCommand, perform, perform_live};
 use crate::command_line::parse;
+use crate::traced::STANDARD_OUTPUT;
 use clap::error::ErrorKind;
-use smirun_commands::{DONE, Fault, WRONG_WORDS};
+use smirun_commands::{DONE, Fault, WRONG_WORDS, tell_cause};
 use smirun_live::LiveHost;
 use smirun_run::Host;
 use std::io::{IsTerminal, Read, Write};
@@ -73,6 +74,10 @@ fn answer<W: Write, E: Write>(error: &clap::Error, output: &mut W, errors: &mut 
     }
     match write!(output, "{error}").and_then(|()| output.flush()) {
         Ok(()) => DONE,
-        Err(_) => Fault::Output.tell(errors),
+        Err(cause) => {
+            let status = Fault::Output.tell(errors);
+            tell_cause(STANDARD_OUTPUT, &cause, errors);
+            status
+        }
     }
 }

@@ -8,6 +8,7 @@ pub mod live;
 pub mod page;
 pub mod print;
 pub mod run;
+pub mod states;
 pub mod step;
 
 pub const ABOUT: &str = "\
@@ -38,6 +39,9 @@ pub const FILE: &str = "The domain file, or - for standard input";
 
 pub const WHY_REFUSED: &str =
     "Say on standard error why a file is refused: line, column, and what could stand there instead";
+
+pub const WHY_TEXTS: &str =
+    "Say on standard error why FILE or JOURNAL is refused: line, column, and what could stand there instead";
 
 pub const WHY_LINES: &str =
     "Say on standard error why a file or a line is refused: line, column, and what could stand there instead";

@@ -4,7 +4,9 @@
 mod asked;
 mod command_line;
 mod driving;
+mod grammar;
 mod help;
+mod traced;
 
 pub use asked::refuse_words;
 pub use driving::{drive, drive_from};

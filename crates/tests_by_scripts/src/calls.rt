@@ -86,6 +86,9 @@ pub fn call_in_vain<R: Host + LiveHost>(rt: &R, line: &str, place: &mut Place) -
     call_into(rt, line, place, &mut FailsLate)
 }
 
+// What is told where an output has no more room.
+const OUTPUT_FAULT: &[u8] = b"output fault\nstandard output: no storage space\n";
+
 // Whether a command line whose output takes `taken` bytes and then fails writes a prefix of what it wrote before, and
 // tells that its output cannot be written.
 fn is_cut_off<R: Host + LiveHost>(
@@ -102,7 +105,7 @@ fn is_cut_off<R: Host + LiveHost>(
     let status = run(rt, line, place.text.as_slice(), &mut output, &mut errors)?;
     Ok(
         status == 1
-            && errors.as_slice() == b"output fault\n".as_slice()
+            && errors.as_slice() == OUTPUT_FAULT
             && output.taken.len() == taken
             && place.output.starts_with(output.taken.as_slice()),
     )

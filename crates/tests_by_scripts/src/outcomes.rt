@@ -47,6 +47,7 @@ fn outcome_of(alloc: Global, end: &str, unmet: &str) -> io::Result<Outcome> {
         summary,
         journal: Journal::new(alloc),
         unmet: receipts(alloc, number(unmet)?)?,
+        refused: Vec::new(alloc),
     })
 }
 

@@ -74,13 +74,33 @@ fn changes_are_read_and_printed(rt: HostRuntime) {
 }
 
 // Texts that differ from those of another instruction, object or set.
-const OTHERS: &[(&[u8], &[u8])] = &[
-    (b"insert A in G", b"remove A from G"),
-    (b"insert A in G", b"insert B in G"),
-    (b"insert A in G", b"insert A in H"),
-    (b"remove A from G", b"remove B from G"),
-    (b"remove A from G", b"remove A from H"),
-    (b"insert A in G", b"insert G in A"),
+const OTHERS: &[(&str, &[u8], &[u8])] = &[
+    ("another instruction", b"insert A in G", b"remove A from G"),
+    (
+        "another object of an insert",
+        b"insert A in G",
+        b"insert B in G",
+    ),
+    (
+        "another set of an insert",
+        b"insert A in G",
+        b"insert A in H",
+    ),
+    (
+        "another object of a remove",
+        b"remove A from G",
+        b"remove B from G",
+    ),
+    (
+        "another set of a remove",
+        b"remove A from G",
+        b"remove A from H",
+    ),
+    (
+        "object and set exchanged",
+        b"insert A in G",
+        b"insert G in A",
+    ),
 ];
 
 const ACTION: &[u8] = b"class:K state:S action:G ";
@@ -99,8 +119,8 @@ fn differ(alloc: Global, left: &[u8], right: &[u8]) -> Result<bool, AllocError> 
 
 #[test]
 fn changes_differ(rt: HostRuntime) {
-    for (left, right) in OTHERS {
-        assert!(rt; differ(rt.alloc(), left, right) == Ok(true));
+    for (name, left, right) in OTHERS {
+        assert!(rt; differ(rt.alloc(), left, right) == Ok(true), "{name}");
     }
 }
 

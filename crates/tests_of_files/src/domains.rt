@@ -291,7 +291,7 @@ B in DEAD
 ];
 
 #[test]
-fn domains_of_several_classes(rt: HostRuntime) {
+fn domains_of_several_classes_have_their_tables(rt: HostRuntime) {
     for (name, text, tables) in ROWS {
         assert!(rt; has_tables(rt.alloc(), text, tables), "{name}");
     }

@@ -369,7 +369,7 @@ X in DEAD
 ];
 
 #[test]
-fn small_domains(rt: HostRuntime) {
+fn small_domains_have_their_tables(rt: HostRuntime) {
     for (name, text, tables) in ROWS {
         assert!(rt; has_tables(rt.alloc(), text, tables), "{name}");
     }

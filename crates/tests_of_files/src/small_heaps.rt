@@ -8,7 +8,11 @@ use std::alloc::Global;
 use std::test::Fail;
 use test_domains::{LAMP, MARKED_IN_ONE_LINE, SUPPLIES};
 
-const TEXTS: &[&[u8]] = &[LAMP, SUPPLIES, MARKED_IN_ONE_LINE];
+const TEXTS: &[(&str, &[u8])] = &[
+    ("a lamp", LAMP),
+    ("supplies", SUPPLIES),
+    ("a class in one line", MARKED_IN_ONE_LINE),
+];
 
 fn is(error: Option<ReadError>, kind: ReadErrorKind, offset: usize) -> bool {
     error == Some(ReadError { kind, offset })
@@ -36,8 +40,8 @@ fn is_copied_as_that_of(bump: &Bump, alloc: Global, text: &[u8], other: &[u8]) -
 #[test]
 fn copies_into_an_arena(rt: HostRuntime) -> Result<(), Fail> {
     let mut bump = Bump::new(rt.alloc());
-    for text in TEXTS {
-        assert!(rt; is_copied(rt.alloc(), text, &bump) == Some(true));
+    for (name, text) in TEXTS {
+        assert!(rt; is_copied(rt.alloc(), text, &bump) == Some(true), "{name}");
         bump.reset()?;
     }
     assert!(rt; is_copied_as_that_of(&bump, rt.alloc(), MARKED_IN_ONE_LINE, LAMP) == Some(false));

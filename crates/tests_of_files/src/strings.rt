@@ -6,11 +6,16 @@ use std::alloc::{AllocError, Global};
 use std::test::*;
 
 #[test]
-fn bytes_of_a_string(rt: HostRuntime) -> Result<(), Fail> {
-    let good: [&[u8]; 4] = [b"none", b"", b"it is lit!", &[b'~'; 255]];
-    for bytes in good {
+fn strings_keep_their_bytes(rt: HostRuntime) -> Result<(), Fail> {
+    let good: [(&str, &[u8]); 4] = [
+        ("letters", b"none"),
+        ("nothing", b""),
+        ("blanks and a sign", b"it is lit!"),
+        ("the last sign, as often as may be", &[b'~'; 255]),
+    ];
+    for (name, bytes) in good {
         let text = Text::new(rt.alloc(), bytes)?;
-        assert!(rt; text.as_bytes() == bytes && text.share()? == text);
+        assert!(rt; text.as_bytes() == bytes && text.share()? == text, "{name}");
     }
     Ok(())
 }
@@ -23,20 +28,20 @@ fn other_strings_differ(rt: HostRuntime) -> Result<(), Fail> {
 }
 
 #[test]
-fn bytes_of_no_string(rt: HostRuntime) {
-    let bad: [&[u8]; 8] = [
-        b"\x22",
-        b"\x1f",
-        b"\x7f",
-        b"\x80",
-        b"no\nne",
-        b"a\n",
-        b"\xc3\xa4",
-        &[b' '; 256],
+fn bytes_of_no_string_are_refused(rt: HostRuntime) {
+    let bad: [(&str, &[u8]); 8] = [
+        ("a quote", b"\x22"),
+        ("the byte before the blank", b"\x1f"),
+        ("the byte behind the last sign", b"\x7f"),
+        ("a byte beyond ASCII", b"\x80"),
+        ("a line feed between letters", b"no\nne"),
+        ("a line feed at the end", b"a\n"),
+        ("a letter beyond ASCII", b"\xc3\xa4"),
+        ("too many blanks", &[b' '; 256]),
     ];
-    for bytes in bad {
+    for (name, bytes) in bad {
         let refused = Text::new(rt.alloc(), bytes).err();
-        assert!(rt; refused == Some(TextError::BadText));
+        assert!(rt; refused == Some(TextError::BadText), "{name}");
     }
 }
 

@@ -9,14 +9,14 @@ use std::alloc::{AllocError, Global};
 use std::io::{Error, Write};
 use std::test::Fail;
 
-// A text, and what is at its front.
-type Row = (&'static [u8], Front);
+// A name, a text, and what is at its front.
+type Row = (&'static str, &'static [u8], Front);
 
-// The first of these rows whose text has something else at its front.
-fn other_front(source: Source, rows: &[Row]) -> Option<usize> {
-    for (place, (text, front)) in rows.iter().enumerate() {
-        if front_at(source, text) != *front {
-            return Some(place);
+// The name of the first of these rows whose text has something else at its front.
+fn other_front(source: Source, rows: &[Row]) -> Option<&'static str> {
+    for (name, text, front) in rows {
+        if front_at(source, *text) != *front {
+            return Some(*name);
         }
     }
     None
@@ -31,20 +31,33 @@ fn is_at_string(alloc: Global, length: usize, front: Front) -> bool {
 }
 
 const SKIPS: &[Row] = &[
-    (b"", Front::End),
-    (b"  A", Front::Skip(1)),
-    (b"\t", Front::Skip(1)),
-    (b"\r", Front::Skip(1)),
-    (b"\n", Front::Skip(1)),
-    (b"! a \"comment\"\nA", Front::Skip(13)),
-    (b"! to the end", Front::Skip(12)),
-    (b"!\rA\nB", Front::Skip(3)),
-    (b"!\x00\xff", Front::Skip(3)),
+    ("the end", b"", Front::End),
+    ("blanks", b"  A", Front::Skip(1)),
+    ("a tab", b"\t", Front::Skip(1)),
+    ("a carriage return", b"\r", Front::Skip(1)),
+    ("a line feed", b"\n", Front::Skip(1)),
+    (
+        "a comment with quotes",
+        b"! a \"comment\"\nA",
+        Front::Skip(13),
+    ),
+    ("a comment at the end", b"! to the end", Front::Skip(12)),
+    (
+        "a comment with a carriage return",
+        b"!\rA\nB",
+        Front::Skip(3),
+    ),
+    (
+        "a comment of bytes of no token",
+        b"!\x00\xff",
+        Front::Skip(3),
+    ),
 ];
 
 #[test]
 fn skips_blanks_and_comments(rt: HostRuntime) {
-    assert!(rt; other_front(Source::Domain, SKIPS) == None);
+    let wrong = other_front(Source::Domain, SKIPS);
+    assert!(rt; wrong.is_none(), "{wrong:?}");
 }
 
 const LONGEST: &[u8] = &[b'w'; 64];
@@ -52,22 +65,28 @@ const LONGEST: &[u8] = &[b'w'; 64];
 const TOO_LONG: &[u8] = &[b'w'; 65];
 
 const WORDS: &[Row] = &[
-    (b"class:", Front::Word(5)),
-    (b"A-5", Front::Word(1)),
-    (b"z_9Z", Front::Word(4)),
-    (b"_A", Front::Bad),
-    (LONGEST, Front::Word(64)),
-    (TOO_LONG, Front::Bad),
+    ("letters", b"class:", Front::Word(5)),
+    ("a letter before a minus", b"A-5", Front::Word(1)),
+    (
+        "letters, digits and signs below the line",
+        b"z_9Z",
+        Front::Word(4),
+    ),
+    ("a sign below the line in front", b"_A", Front::Bad),
+    ("a word of sixty-four letters", LONGEST, Front::Word(64)),
+    ("a word of sixty-five letters", TOO_LONG, Front::Bad),
 ];
 
 #[test]
 fn reads_words(rt: HostRuntime) {
-    assert!(rt; other_front(Source::Domain, WORDS) == None);
+    let wrong = other_front(Source::Domain, WORDS);
+    assert!(rt; wrong.is_none(), "{wrong:?}");
     assert!(rt; first_bad(Source::Domain, TOO_LONG) == Some(0));
 }
 
 const INTS: &[Row] = &[
     (
+        "zero",
         b"0",
         Front::Int {
             value: 0,
@@ -75,6 +94,7 @@ const INTS: &[Row] = &[
         },
     ),
     (
+        "a negative zero",
         b"-0",
         Front::Int {
             value: 0,
@@ -82,6 +102,7 @@ const INTS: &[Row] = &[
         },
     ),
     (
+        "zeros in front",
         b"007 ",
         Front::Int {
             value: 7,
@@ -89,6 +110,7 @@ const INTS: &[Row] = &[
         },
     ),
     (
+        "a number before a minus",
         b"5-3",
         Front::Int {
             value: 5,
@@ -96,6 +118,7 @@ const INTS: &[Row] = &[
         },
     ),
     (
+        "a negative number",
         b"-3",
         Front::Int {
             value: -3,
@@ -103,6 +126,7 @@ const INTS: &[Row] = &[
         },
     ),
     (
+        "the greatest int",
         b"9223372036854775807",
         Front::Int {
             value: i64::MAX,
@@ -110,6 +134,7 @@ const INTS: &[Row] = &[
         },
     ),
     (
+        "the least int",
         b"-9223372036854775808",
         Front::Int {
             value: i64::MIN,
@@ -117,36 +142,58 @@ const INTS: &[Row] = &[
         },
     ),
     (
+        "a number of forty digits",
         b"0000000000000000000000000000000000000042",
         Front::Int {
             value: 42,
             length: 40,
         },
     ),
-    (b"9223372036854775808", Front::Bad),
-    (b"-9223372036854775809", Front::Bad),
-    (b"18446744073709551616", Front::Bad),
-    (b"99999999999999999999999", Front::Bad),
-    (b"-", Front::Bad),
-    (b"--5", Front::Bad),
-    (b"5a", Front::Bad),
-    (b"5_", Front::Bad),
-    (b"-5a", Front::Bad),
+    (
+        "one above the greatest int",
+        b"9223372036854775808",
+        Front::Bad,
+    ),
+    (
+        "one below the least int",
+        b"-9223372036854775809",
+        Front::Bad,
+    ),
+    (
+        "a number that would be zero in sixty-four bits",
+        b"18446744073709551616",
+        Front::Bad,
+    ),
+    (
+        "a number of twenty-three digits",
+        b"99999999999999999999999",
+        Front::Bad,
+    ),
+    ("a minus alone", b"-", Front::Bad),
+    ("two minuses", b"--5", Front::Bad),
+    ("a letter behind a number", b"5a", Front::Bad),
+    ("a sign below the line behind a number", b"5_", Front::Bad),
+    ("a letter behind a negative number", b"-5a", Front::Bad),
 ];
 
 #[test]
 fn reads_ints(rt: HostRuntime) {
-    assert!(rt; other_front(Source::Domain, INTS) == None);
+    let wrong = other_front(Source::Domain, INTS);
+    assert!(rt; wrong.is_none(), "{wrong:?}");
 }
 
 const STRINGS: &[Row] = &[
-    (b"\"\"", Front::Str(0)),
-    (b"\"a\"b", Front::Str(1)),
-    (b"\"! ~\"", Front::Str(3)),
-    (b"\"abc", Front::Bad),
-    (b"\"a\nb\"", Front::Bad),
-    (b"\"\x7f\"", Front::Bad),
-    (b"\"\x80\"", Front::Bad),
+    ("the empty string", b"\"\"", Front::Str(0)),
+    ("a letter", b"\"a\"b", Front::Str(1)),
+    (
+        "the first sign, a blank and the last sign",
+        b"\"! ~\"",
+        Front::Str(3),
+    ),
+    ("no closing quote", b"\"abc", Front::Bad),
+    ("a line feed", b"\"a\nb\"", Front::Bad),
+    ("a delete byte", b"\"\x7f\"", Front::Bad),
+    ("a byte beyond ASCII", b"\"\x80\"", Front::Bad),
 ];
 
 const STRING_LENGTHS: &[(usize, Front)] = &[
@@ -157,7 +204,8 @@ const STRING_LENGTHS: &[(usize, Front)] = &[
 
 #[test]
 fn reads_strings(rt: HostRuntime) {
-    assert!(rt; other_front(Source::Domain, STRINGS) == None);
+    let wrong = other_front(Source::Domain, STRINGS);
+    assert!(rt; wrong.is_none(), "{wrong:?}");
     for (length, front) in STRING_LENGTHS {
         assert!(rt;
             is_at_string(rt.alloc(), *length, *front),
@@ -167,35 +215,41 @@ fn reads_strings(rt: HostRuntime) {
 }
 
 const SIGNS: &[Row] = &[
-    (b":", Front::Sign(Sign::Colon)),
-    (b",,", Front::Sign(Sign::Comma)),
-    (b"=", Front::Sign(Sign::Equals)),
-    (b"(", Front::Sign(Sign::OpenBracket)),
-    (b")", Front::Sign(Sign::CloseBracket)),
-    (b"{", Front::Sign(Sign::OpenBrace)),
-    (b"}", Front::Sign(Sign::CloseBrace)),
-    (b"/", Front::Sign(Sign::Slash)),
-    (b";", Front::Bad),
-    (b"\x00", Front::Bad),
+    ("a colon", b":", Front::Sign(Sign::Colon)),
+    ("two commas", b",,", Front::Sign(Sign::Comma)),
+    ("an equals sign", b"=", Front::Sign(Sign::Equals)),
+    ("an opening bracket", b"(", Front::Sign(Sign::OpenBracket)),
+    ("a closing bracket", b")", Front::Sign(Sign::CloseBracket)),
+    ("an opening brace", b"{", Front::Sign(Sign::OpenBrace)),
+    ("a closing brace", b"}", Front::Sign(Sign::CloseBrace)),
+    ("a slash", b"/", Front::Sign(Sign::Slash)),
+    ("a semicolon", b";", Front::Bad),
+    ("a NUL", b"\x00", Front::Bad),
 ];
 
 #[test]
 fn reads_signs(rt: HostRuntime) {
-    assert!(rt; other_front(Source::Domain, SIGNS) == None);
+    let wrong = other_front(Source::Domain, SIGNS);
+    assert!(rt; wrong.is_none(), "{wrong:?}");
 }
 
 const SESSIONS: &[Row] = &[
-    (b"@1", Front::Session(1)),
-    (b"@8RUN", Front::Session(8)),
-    (b"@12", Front::Session(1)),
-    (b"@0", Front::Bad),
-    (b"@9", Front::Bad),
-    (b"@", Front::Bad),
+    ("the first session", b"@1", Front::Session(1)),
+    (
+        "the last session before a word",
+        b"@8RUN",
+        Front::Session(8),
+    ),
+    ("a digit behind a session", b"@12", Front::Session(1)),
+    ("the session 0", b"@0", Front::Bad),
+    ("the session 9", b"@9", Front::Bad),
+    ("no number", b"@", Front::Bad),
 ];
 
 #[test]
 fn sessions_stand_in_lines_alone(rt: HostRuntime) {
-    assert!(rt; other_front(Source::Line, SESSIONS) == None);
+    let wrong = other_front(Source::Line, SESSIONS);
+    assert!(rt; wrong.is_none(), "{wrong:?}");
     assert!(rt; front_at(Source::Domain, b"@1") == Front::Bad);
 }
 
@@ -205,26 +259,26 @@ fn behind_token(text: &[u8]) -> Option<usize> {
     Some(place)
 }
 
-// A text, the place behind the first token of it as a line, and that of the first thing that is no token.
-type Place = (&'static [u8], Option<usize>, Option<usize>);
+// A name, a text, the place behind the first token of it as a line, and that of the first thing that is no token.
+type Place = (&'static str, &'static [u8], Option<usize>, Option<usize>);
 
 const PLACES: &[Place] = &[
-    (b"", None, None),
-    (b";", None, Some(0)),
-    (b" A", Some(2), None),
-    (b"\"abc\"", Some(5), None),
-    (b"-7", Some(2), None),
-    (b"@1", Some(2), None),
+    ("nothing", b"", None, None),
+    ("a byte of no token", b";", None, Some(0)),
+    ("a blank before a word", b" A", Some(2), None),
+    ("a string", b"\"abc\"", Some(5), None),
+    ("a negative number", b"-7", Some(2), None),
+    ("a session", b"@1", Some(2), None),
 ];
 
-fn stands_so((text, behind, bad): Place) -> bool {
+fn stands_so((_, text, behind, bad): Place) -> bool {
     behind_token(text) == behind && first_bad(Source::Line, text) == bad
 }
 
 #[test]
 fn knows_what_stands_and_its_size(rt: HostRuntime) {
-    for (i, row) in PLACES.iter().enumerate() {
-        assert!(rt; stands_so(*row), "at {i}");
+    for row in PLACES {
+        assert!(rt; stands_so(*row), "{}", row.0);
     }
 }
 
@@ -253,24 +307,55 @@ fn gives_one_token_after_another(rt: HostRuntime) -> Result<(), Fail> {
     Ok(())
 }
 
-const BAD: &[(Source, &[u8], Option<usize>)] = &[
-    (Source::Domain, b"", None),
-    (Source::Domain, b"class:A state:S 0 \"x\" ! \xff", None),
-    (Source::Domain, b"A 9A", Some(2)),
-    (Source::Domain, b"A  \"abc", Some(3)),
-    (Source::Domain, b"5--3", Some(1)),
-    (Source::Domain, b"5-3", None),
-    (Source::Domain, b"5 -5a", Some(2)),
-    (Source::Domain, b"\n@1", Some(1)),
-    (Source::Line, b"\n@1", None),
-    (Source::Line, b"@12@9", Some(3)),
-    (Source::Domain, b"!\r;\n;", Some(4)),
+// A name, a text of a source, and the place of the first thing that is no token.
+const BAD: &[(&str, Source, &[u8], Option<usize>)] = &[
+    ("nothing", Source::Domain, b"", None),
+    (
+        "tokens, and a byte beyond ASCII in a comment",
+        Source::Domain,
+        b"class:A state:S 0 \"x\" ! \xff",
+        None,
+    ),
+    (
+        "a word that begins with a digit",
+        Source::Domain,
+        b"A 9A",
+        Some(2),
+    ),
+    (
+        "a string that does not end",
+        Source::Domain,
+        b"A  \"abc",
+        Some(3),
+    ),
+    ("two minuses", Source::Domain, b"5--3", Some(1)),
+    ("a minus between numbers", Source::Domain, b"5-3", None),
+    (
+        "a letter behind a number",
+        Source::Domain,
+        b"5 -5a",
+        Some(2),
+    ),
+    ("a session in a domain", Source::Domain, b"\n@1", Some(1)),
+    ("a session in a line", Source::Line, b"\n@1", None),
+    (
+        "a session 9 behind another",
+        Source::Line,
+        b"@12@9",
+        Some(3),
+    ),
+    (
+        "a comment that goes on behind a carriage return",
+        Source::Domain,
+        b"!\r;\n;",
+        Some(4),
+    ),
 ];
 
 #[test]
 fn finds_the_first_bad_place(rt: HostRuntime) {
-    for (i, (source, text, bad)) in BAD.iter().enumerate() {
-        assert!(rt; first_bad(*source, text) == *bad, "at {i}");
+    for (name, source, text, bad) in BAD {
+        assert!(rt; first_bad(*source, *text) == *bad, "{name}");
     }
 }
 

@@ -52,19 +52,20 @@ fn names_are_folded(rt: HostRuntime) {
     assert!(rt; Name::from_word(b"A") < Name::from_word(b"A1"));
 }
 
-// Whether the file of each of these texts is the same as its copy.
-fn are_copied(alloc: Global, texts: &[&[u8]]) -> bool {
-    for text in texts {
-        if is_copied(alloc, text, alloc) != Some(true) {
-            return false;
-        }
-    }
-    true
-}
+const COPIED: &[(&str, &[u8])] = &[
+    ("a choice", CHOICE),
+    ("every form", EVERY_FORM),
+    ("nothing", b""),
+];
 
 #[test]
 fn copies_are_the_same(rt: HostRuntime) {
-    assert!(rt; are_copied(rt.alloc(), &[CHOICE, EVERY_FORM, b""]));
+    for (name, text) in COPIED {
+        assert!(rt;
+            is_copied(rt.alloc(), text, rt.alloc()) == Some(true),
+            "{name}"
+        );
+    }
     assert!(rt; same_file(rt.alloc(), CHOICE, b"") == Some(false));
     assert!(rt; same_file(rt.alloc(), EVERY_FORM, b"") == Some(false));
 }

@@ -47,9 +47,10 @@ fn is_value(value: &Value, plain: Plain) -> bool {
     }
 }
 
-// Values that are passed by name, and what they make for an object's action.
+// Values that are passed by name, what they make for an object's action, and the name of it all.
 #[derive(Clone, Copy)]
 struct Row {
+    name: &'static str,
     object: usize,
     action: usize,
     passed: &'static [(&'static [u8], Plain)],
@@ -57,79 +58,85 @@ struct Row {
 }
 
 const ROWS: &[Row] = &[
-    // A default is used.
     Row {
+        name: "a default is used",
         object: C,
         action: PUT,
         passed: &[(b"M", Plain::Str(b"a"))],
         made: Some(&[Plain::Int(5), Plain::Str(b"a")]),
     },
-    // What is passed goes before the default.
     Row {
+        name: "what is passed goes before the default",
         object: C,
         action: PUT,
         passed: &[(b"T", Plain::Int(-7)), (b"M", Plain::Str(b""))],
         made: Some(&[Plain::Int(-7), Plain::Str(b"")]),
     },
-    // The order is that of the parameters.
     Row {
+        name: "the order is that of the parameters",
         object: OUT,
         action: TAKE,
         passed: &[(b"W", Plain::Str(b"a")), (b"V", Plain::Int(5))],
         made: Some(&[Plain::Int(5), Plain::Str(b"a")]),
     },
     Row {
+        name: "a default that is a string is used",
         object: OUT,
         action: TAKE,
         passed: &[(b"V", Plain::Int(3))],
         made: Some(&[Plain::Int(3), Plain::Str(b"none")]),
     },
     Row {
+        name: "an action without parameters takes nothing",
         object: C,
         action: SHOW,
         passed: &[],
         made: Some(&[]),
     },
-    // A value is missing.
     Row {
+        name: "nothing is passed for a parameter without a default",
         object: C,
         action: PUT,
         passed: &[],
         made: None,
     },
     Row {
+        name: "a parameter with a default is passed alone",
         object: C,
         action: PUT,
         passed: &[(b"T", Plain::Int(7))],
         made: None,
     },
     Row {
+        name: "the parameter with a default is the last, and is passed alone",
         object: OUT,
         action: TAKE,
         passed: &[(b"W", Plain::Str(b"a"))],
         made: None,
     },
-    // A name is unknown, also where it is that of a parameter of the class.
     Row {
+        name: "a name is unknown",
         object: C,
         action: PUT,
         passed: &[(b"M", Plain::Str(b"a")), (b"X", Plain::Int(1))],
         made: None,
     },
     Row {
+        name: "a name is that of a parameter of the class",
         object: C,
         action: SHOW,
         passed: &[(b"N", Plain::Int(1))],
         made: None,
     },
-    // A name is repeated.
     Row {
+        name: "a name is repeated",
         object: C,
         action: PUT,
         passed: &[(b"M", Plain::Str(b"a")), (b"M", Plain::Str(b"a"))],
         made: None,
     },
     Row {
+        name: "a name is repeated behind another",
         object: C,
         action: PUT,
         passed: &[
@@ -139,14 +146,15 @@ const ROWS: &[Row] = &[
         ],
         made: None,
     },
-    // A value is of the wrong kind.
     Row {
+        name: "an int is passed for a string",
         object: C,
         action: PUT,
         passed: &[(b"M", Plain::Int(1))],
         made: None,
     },
     Row {
+        name: "a string is passed for an int",
         object: C,
         action: PUT,
         passed: &[(b"M", Plain::Str(b"a")), (b"T", Plain::Str(b"5"))],
@@ -205,6 +213,7 @@ fn makes(alloc: Global, domain: &Domain, row: Row) -> bool {
 
 // What is passed in another order than that of the sink's parameters.
 const TURNED: Row = Row {
+    name: "the order is another than that of the parameters",
     object: OUT,
     action: TAKE,
     passed: &[(b"W", Plain::Str(b"a")), (b"V", Plain::Int(5))],
@@ -216,11 +225,11 @@ pub fn completes_at_last(alloc: Global, domain: &Domain) -> bool {
     makes(alloc, domain, TURNED) || makes(alloc, domain, TURNED)
 }
 
-// The place of the first row that makes something else.
-fn wrong_row(alloc: Global, domain: &Domain) -> Option<usize> {
-    for (place, row) in ROWS.iter().enumerate() {
+// The name of the first row that makes something else.
+fn wrong_row(alloc: Global, domain: &Domain) -> Option<&'static str> {
+    for row in ROWS {
         if !makes(alloc, domain, *row) {
-            return Some(place);
+            return Some(row.name);
         }
     }
     None
@@ -229,5 +238,9 @@ fn wrong_row(alloc: Global, domain: &Domain) -> Option<usize> {
 #[test]
 fn completes_by_name(rt: HostRuntime) {
     let domain = domain_of(rt.alloc(), COUNTER).ok();
-    assert!(rt; domain.is_some_and(|domain| wrong_row(rt.alloc(), &domain).is_none()));
+    let wrong = match &domain {
+        Some(domain) => wrong_row(rt.alloc(), domain),
+        None => Some("the domain"),
+    };
+    assert!(rt; wrong.is_none(), "{wrong:?}");
 }

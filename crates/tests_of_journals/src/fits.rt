@@ -9,30 +9,82 @@ use std::alloc::Global;
 use std::test::*;
 use test_domains::COUNTER;
 
-// An object, an action with values, and whether they fit.
-type Row = (usize, usize, &'static [Plain], bool);
+// A name, an object, an action with values, and whether they fit.
+type Row = (&'static str, usize, usize, &'static [Plain], bool);
 
 const ROWS: &[Row] = &[
-    (OUT, TAKE, &[Plain::Int(5), Plain::Str(b"a")], true),
-    (C, PUT, &[Plain::Int(5), Plain::Str(b"a")], true),
-    (C, SHOW, &[], true),
-    // Of the wrong kinds, or in another order.
-    (OUT, TAKE, &[Plain::Int(5), Plain::Int(5)], false),
-    (OUT, TAKE, &[Plain::Str(b"a"), Plain::Int(5)], false),
-    // Too few, though there is a default, or too many.
-    (OUT, TAKE, &[Plain::Int(5)], false),
-    (C, PUT, &[], false),
     (
+        "what the sink takes",
+        OUT,
+        TAKE,
+        &[Plain::Int(5), Plain::Str(b"a")],
+        true,
+    ),
+    (
+        "what the counter takes",
+        C,
+        PUT,
+        &[Plain::Int(5), Plain::Str(b"a")],
+        true,
+    ),
+    (
+        "nothing, for an action without parameters",
+        C,
+        SHOW,
+        &[],
+        true,
+    ),
+    (
+        "a value of the wrong kind",
+        OUT,
+        TAKE,
+        &[Plain::Int(5), Plain::Int(5)],
+        false,
+    ),
+    (
+        "values in another order",
+        OUT,
+        TAKE,
+        &[Plain::Str(b"a"), Plain::Int(5)],
+        false,
+    ),
+    (
+        "too few, though there is a default",
+        OUT,
+        TAKE,
+        &[Plain::Int(5)],
+        false,
+    ),
+    ("none of two", C, PUT, &[], false),
+    (
+        "one too many",
         C,
         PUT,
         &[Plain::Int(5), Plain::Str(b"a"), Plain::Int(5)],
         false,
     ),
-    (C, SHOW, &[Plain::Int(5)], false),
-    // The action is another class's, or the object is not there.
-    (OUT, PUT, &[Plain::Int(5), Plain::Str(b"a")], false),
-    (C, TAKE, &[Plain::Int(5), Plain::Str(b"a")], false),
-    (2, SHOW, &[], false),
+    (
+        "one for an action without parameters",
+        C,
+        SHOW,
+        &[Plain::Int(5)],
+        false,
+    ),
+    (
+        "an action of another class, at the sink",
+        OUT,
+        PUT,
+        &[Plain::Int(5), Plain::Str(b"a")],
+        false,
+    ),
+    (
+        "an action of another class, at the counter",
+        C,
+        TAKE,
+        &[Plain::Int(5), Plain::Str(b"a")],
+        false,
+    ),
+    ("an object that is not there", 2, SHOW, &[], false),
 ];
 
 // An envelope of the first session.
@@ -44,18 +96,18 @@ fn envelope_of(alloc: Global, action: usize, values: &[Plain]) -> Option<Envelop
 
 // Whether a row's values fit as it says.
 fn is_so(alloc: Global, domain: &Domain, row: Row) -> bool {
-    let (object, action, values, fit) = row;
+    let (_, object, action, values, fit) = row;
     match envelope_of(alloc, action, values) {
         Some(envelope) => envelope.fits(domain, ObjId::new(object)) == fit,
         None => false,
     }
 }
 
-// The place of the first row that is not so.
-fn wrong_row(alloc: Global, domain: &Domain) -> Option<usize> {
-    for (place, row) in ROWS.iter().enumerate() {
+// The name of the first row that is not so.
+fn wrong_row(alloc: Global, domain: &Domain) -> Option<&'static str> {
+    for row in ROWS {
         if !is_so(alloc, domain, *row) {
-            return Some(place);
+            return Some(row.0);
         }
     }
     None
@@ -64,7 +116,11 @@ fn wrong_row(alloc: Global, domain: &Domain) -> Option<usize> {
 #[test]
 fn fits_by_kind_and_order(rt: HostRuntime) {
     let domain = domain_of(rt.alloc(), COUNTER).ok();
-    assert!(rt; domain.is_some_and(|domain| wrong_row(rt.alloc(), &domain).is_none()));
+    let wrong = match &domain {
+        Some(domain) => wrong_row(rt.alloc(), domain),
+        None => Some("the domain"),
+    };
+    assert!(rt; wrong.is_none(), "{wrong:?}");
 }
 
 // Whether a letter is that of the first session, under the number, with `args` arguments.
@@ -92,6 +148,6 @@ fn gives_four_letters(alloc: Global) -> bool {
 }
 
 #[test]
-fn four_equal_letters(rt: HostRuntime) {
+fn an_envelope_gives_four_equal_letters(rt: HostRuntime) {
     assert!(rt; gives_four_letters(rt.alloc()));
 }

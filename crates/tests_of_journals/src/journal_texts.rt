@@ -87,6 +87,7 @@ end A ON
 
 // A request with the least int and the empty string, and the greatest number that a request can have.
 const ENDS_OF_RANGES: Run = Run {
+    name: "the least int, the empty string, and the greatest number of a request",
     text: COUNTER,
     lines: &[
         Line::Start(
@@ -110,6 +111,7 @@ kill C @1
 ";
 
 const NO_ENTRIES: Run = Run {
+    name: "no entries",
     text: SUPPLIES,
     lines: &[],
     facts: &[],
@@ -153,6 +155,6 @@ const TEXTS: &[(Run, &[u8])] = &[
 #[test]
 fn journals_are_written(rt: HostRuntime) {
     for (run, text) in TEXTS {
-        assert!(rt; is_written_as(rt.alloc(), *run, *text));
+        assert!(rt; is_written_as(rt.alloc(), *run, *text), "{}", run.name);
     }
 }

@@ -89,70 +89,110 @@ const TWO: &[(&[u8], Plain)] = &[
 
 const TWICE: &[(&[u8], Plain)] = &[(b"T", Plain::Int(1)), (b"T", Plain::Int(1))];
 
-const LINES: &[(&[u8], Asked)] = &[
-    (b"", Asked::Nothing),
-    (b"  \t ! a comment", Asked::Nothing),
+// A name, a line, and what it asks.
+const LINES: &[(&str, &[u8], Asked)] = &[
+    ("an empty line", b"", Asked::Nothing),
+    ("a comment alone", b"  \t ! a comment", Asked::Nothing),
     (
+        "a request",
         b"request @1 RUN CONFIGURE",
         Asked::Request(1, b"RUN", b"CONFIGURE", &[]),
     ),
     (
+        "a keyword and names in small letters",
         b"REQUEST @8 run configure\r",
         Asked::Request(8, b"RUN", b"CONFIGURE", &[]),
     ),
     (
+        "a session without blanks round it",
         b"request@1RUN CONFIGURE",
         Asked::Request(1, b"RUN", b"CONFIGURE", &[]),
     ),
     (
+        "a request with one argument",
         b"request @1 C PUT (M = \"a\")",
         Asked::Request(1, b"C", b"PUT", ONE),
     ),
     (
+        "a request with two arguments, without blanks",
         b"request @1 C PUT(T=-9223372036854775808,M=\"b c\")",
         Asked::Request(1, b"C", b"PUT", TWO),
     ),
     // Which names an action has is not asked yet.
     (
+        "an argument that is repeated",
         b"request @1 C PUT (T = 1, T = 1)",
         Asked::Request(1, b"C", b"PUT", TWICE),
     ),
-    (b"start RUN", Asked::Start(b"RUN")),
-    (b"go RUN ! on", Asked::Go(b"RUN")),
-    (b"answer HV1 ON", Asked::Answer(b"HV1", b"ON")),
-    (b"fault HV1", Asked::Fault(b"HV1")),
-    (b"kill RUN @1", Asked::Kill(b"RUN", 1)),
-    (b"begin RUN", Asked::Bad),
-    (b"request @9 RUN CONFIGURE", Asked::Bad),
-    (b"request @12 RUN CONFIGURE", Asked::Bad),
-    (b"request @1 RUN", Asked::Bad),
-    (b"request @1 C PUT ()", Asked::Bad),
-    (b"request @1 C PUT (M = \"a\"", Asked::Bad),
-    (b"request @1 C PUT (M = \"a\",)", Asked::Bad),
-    (b"request @1 C PUT (M = \"a\") x", Asked::Bad),
-    (b"request @1 C PUT (M = N)", Asked::Bad),
-    (b"request @1 C PUT (M : \"a\")", Asked::Bad),
+    ("a start", b"start RUN", Asked::Start(b"RUN")),
+    ("a go with a comment", b"go RUN ! on", Asked::Go(b"RUN")),
+    ("an answer", b"answer HV1 ON", Asked::Answer(b"HV1", b"ON")),
+    ("a fault", b"fault HV1", Asked::Fault(b"HV1")),
+    ("a kill", b"kill RUN @1", Asked::Kill(b"RUN", 1)),
+    ("an unknown word", b"begin RUN", Asked::Bad),
+    ("the session 9", b"request @9 RUN CONFIGURE", Asked::Bad),
     (
+        "a session of two digits",
+        b"request @12 RUN CONFIGURE",
+        Asked::Bad,
+    ),
+    (
+        "a request without its action",
+        b"request @1 RUN",
+        Asked::Bad,
+    ),
+    ("empty brackets", b"request @1 C PUT ()", Asked::Bad),
+    (
+        "no closing bracket",
+        b"request @1 C PUT (M = \"a\"",
+        Asked::Bad,
+    ),
+    (
+        "a comma before the closing bracket",
+        b"request @1 C PUT (M = \"a\",)",
+        Asked::Bad,
+    ),
+    (
+        "a word behind the arguments",
+        b"request @1 C PUT (M = \"a\") x",
+        Asked::Bad,
+    ),
+    (
+        "a name for a value",
+        b"request @1 C PUT (M = N)",
+        Asked::Bad,
+    ),
+    (
+        "a colon for the sign of an argument",
+        b"request @1 C PUT (M : \"a\")",
+        Asked::Bad,
+    ),
+    (
+        "an int above the greatest",
         b"request @1 C PUT (M = \"b\", T = 9223372036854775808)",
         Asked::Bad,
     ),
-    (b"start RUN RUN", Asked::Bad),
-    (b"start SET", Asked::Bad),
-    (b"start", Asked::Bad),
-    (b"answer HV1", Asked::Bad),
-    (b"answer HV1 ON ON", Asked::Bad),
-    (b"fault HV1 ON", Asked::Bad),
-    (b"kill RUN", Asked::Bad),
-    (b"kill @1 RUN", Asked::Bad),
-    (b"kill RUN @1 @1", Asked::Bad),
-    (b"go RUN\ngo RUN", Asked::Bad),
-    (b"go RUN ! \x80", Asked::Bad),
+    ("a start of two objects", b"start RUN RUN", Asked::Bad),
+    ("a reserved word for an object", b"start SET", Asked::Bad),
+    ("a start of nothing", b"start", Asked::Bad),
+    ("an answer without its state", b"answer HV1", Asked::Bad),
+    ("an answer with two states", b"answer HV1 ON ON", Asked::Bad),
+    ("a fault with a state", b"fault HV1 ON", Asked::Bad),
+    ("a kill without its session", b"kill RUN", Asked::Bad),
+    ("a kill whose object comes last", b"kill @1 RUN", Asked::Bad),
+    ("a kill by two sessions", b"kill RUN @1 @1", Asked::Bad),
+    ("two lines", b"go RUN\ngo RUN", Asked::Bad),
+    (
+        "a byte beyond ASCII in a comment",
+        b"go RUN ! \x80",
+        Asked::Bad,
+    ),
 ];
 
 #[test]
 fn lines_ask_for_steps(rt: HostRuntime) {
-    for (i, (line, asked)) in LINES.iter().enumerate() {
-        assert!(rt; asks(rt.alloc(), line, *asked), "line {i}");
+    for (name, line, asked) in LINES {
+        assert!(rt; asks(rt.alloc(), *line, *asked), "{name}");
     }
 }
 
@@ -280,11 +320,11 @@ fn writes(alloc: Global, domain: &Domain, line: &[u8], told: Told, text: &[u8]) 
     }
 }
 
-/// The place of the first answer that writes something else.
-fn wrong_answer(alloc: Global, domain: &Domain) -> Option<usize> {
-    for (place, (line, told, text)) in ANSWERS.iter().enumerate() {
-        if !writes(alloc, domain, line, *told, text) {
-            return Some(place);
+/// The name of the first answer that writes something else.
+fn wrong_answer(alloc: Global, domain: &Domain) -> Option<&'static str> {
+    for (name, line, told, text) in ANSWERS {
+        if !writes(alloc, domain, *line, *told, *text) {
+            return Some(*name);
         }
     }
     None
@@ -292,95 +332,119 @@ fn wrong_answer(alloc: Global, domain: &Domain) -> Option<usize> {
 
 const FULL_ARGS: &[Plain] = &[Plain::Int(5), Plain::Str(b"a")];
 
-const ANSWERS: &[(&[u8], Told, &[u8])] = &[
+// A name, the line of a step, its answer, and what that writes.
+const ANSWERS: &[(&str, &[u8], Told, &[u8])] = &[
     (
+        "a request with arguments is accepted",
         b"request @1 C PUT (M = \"a\")",
         Told::Accepted(0, FULL_ARGS),
         b"accept @1 C 0 PUT (T = 5, M = \"a\")\n",
     ),
     (
+        "the greatest number of a request",
         b"request @8 C SHOW",
         Told::Accepted(18446744073709551615, &[]),
         b"accept @8 C 18446744073709551615 SHOW\n",
     ),
     (
+        "an int is set",
         b"go C",
         Told::Changed(0, Plain::Int(-9223372036854775808)),
         b"set C N=-9223372036854775808\n",
     ),
     (
+        "a string is set",
         b"go C",
         Told::Changed(1, Plain::Str(b"a")),
         b"set C P=\"a\"\n",
     ),
-    (b"go C", Told::Ended(C, 1), b"end C IDLE\n"),
-    (b"go C", Told::Still, b"still C\n"),
     (
+        "an action ends",
+        b"go C",
+        Told::Ended(C, 1),
+        b"end C IDLE\n",
+    ),
+    ("nothing has changed", b"go C", Told::Still, b"still C\n"),
+    (
+        "an unknown object",
         b"start XX",
         Told::Refused(StepError::UnknownObject),
         b"refused UnknownObject\n",
     ),
     (
+        "an unknown action",
         b"request @1 C NOPE",
         Told::Refused(StepError::UnknownAction),
         b"refused UnknownAction\n",
     ),
     (
+        "arguments that are missing",
         b"request @1 C PUT",
         Told::Refused(StepError::BadArgs),
         b"refused BadArgs\n",
     ),
     (
+        "no memory",
         b"start C",
         Told::Refused(StepError::Memory),
         b"refused Memory\n",
     ),
     (
+        "a dead object",
         b"start C",
         Told::Refused(StepError::Dead),
         b"refused Dead\n",
     ),
     (
+        "a full mailbox",
         b"request @1 C SHOW",
         Told::Refused(StepError::Full),
         b"refused Full\n",
     ),
     (
+        "a limit",
         b"start C",
         Told::Refused(StepError::Limit),
         b"refused Limit\n",
     ),
     (
+        "an open object",
         b"start C",
         Told::Refused(StepError::AlreadyOpen),
         b"refused AlreadyOpen\n",
     ),
     (
+        "nothing waits",
         b"start C",
         Told::Refused(StepError::Empty),
         b"refused Empty\n",
     ),
     (
+        "a go of an associated object",
         b"go OUT",
         Told::Refused(StepError::Associated),
         b"refused Associated\n",
     ),
     (
+        "an answer of one that is not associated",
         b"answer C IDLE",
         Told::Refused(StepError::NotAssociated),
         b"refused NotAssociated\n",
     ),
     (
+        "an answer of one that is not open",
         b"answer OUT READY",
         Told::Refused(StepError::NotOpen),
         b"refused NotOpen\n",
     ),
     (
+        "a state of another class",
         b"answer OUT IDLE",
         Told::Refused(StepError::NotAState),
         b"refused NotAState\n",
     ),
     (
+        "a kill of a dead object",
         b"kill C @2",
         Told::Refused(StepError::AlreadyDead(3)),
         b"refused AlreadyDead\n",
@@ -390,5 +454,9 @@ const ANSWERS: &[(&[u8], Told, &[u8])] = &[
 #[test]
 fn answers_write_their_lines(rt: HostRuntime) {
     let domain = domain_of(rt.alloc(), COUNTER).ok();
-    assert!(rt; domain.is_some_and(|domain| wrong_answer(rt.alloc(), &domain).is_none()));
+    let wrong = match &domain {
+        Some(domain) => wrong_answer(rt.alloc(), domain),
+        None => Some("the domain"),
+    };
+    assert!(rt; wrong.is_none(), "{wrong:?}");
 }

@@ -67,9 +67,10 @@ pub enum Line {
     Empty(usize, usize),
 }
 
-/// A journal of a domain, and facts, each with the number of entries after which it holds.
+/// A journal of a domain under a name, and facts, each with the number of entries after which it holds.
 #[derive(Clone, Copy)]
 pub struct Run {
+    pub name: &'static str,
     pub text: &'static [u8],
     pub lines: &'static [Line],
     pub facts: &'static [(usize, Fact)],
@@ -79,6 +80,7 @@ const NONE: Given = &[];
 
 /// Both supplies are switched on, the run is ready, and what asks for it again is skipped.
 pub const STANDARD: Run = Run {
+    name: "both supplies are switched on, and a second request is skipped",
     text: SUPPLIES,
     lines: &[
         Line::Start(RUN, By::Session(1), 0, CONFIGURE, NONE),
@@ -130,6 +132,7 @@ pub const STANDARD: Run = Run {
 
 /// Both posts are refused, a device fails while the run waits, and two objects are killed.
 pub const KILLS: Run = Run {
+    name: "posts are refused, a device fails, and objects are killed",
     text: SUPPLIES,
     lines: &[
         Line::Start(RUN, By::Session(1), 0, CONFIGURE, NONE),
@@ -175,6 +178,7 @@ pub const KILLS: Run = Run {
 
 /// A supply is killed before it starts what was posted to it: it is clear, and what was posted still counts.
 pub const KILLED_SUPPLY: Run = Run {
+    name: "a supply is killed before it starts",
     text: SUPPLIES,
     lines: &[
         Line::Start(RUN, By::Session(1), 0, CONFIGURE, NONE),
@@ -210,6 +214,7 @@ const PUT: usize = 1;
 
 /// A counter sends what it was given to its sink.
 pub const ARGUMENTS: Run = Run {
+    name: "a counter sends arguments to its sink",
     text: COUNTER,
     lines: &[
         Line::Start(
@@ -251,6 +256,7 @@ const GO: usize = 1;
 
 /// Members are put into sets and taken out, and who did it is killed.
 pub const CHANGES: Run = Run {
+    name: "members are put into sets and taken out",
     text: LAMPS,
     lines: &[
         Line::Start(X, By::Session(1), 0, GO, NONE),

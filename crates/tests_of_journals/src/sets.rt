@@ -61,32 +61,82 @@ fn members_after(alloc: Global, domain: &Domain, changes: &[Change]) -> Option<M
     Some(members)
 }
 
-// Changes, and the members of the two sets after them.
-type Row = (&'static [Change], &'static [usize], &'static [usize]);
+// A name, changes, and the members of the two sets after them.
+type Row = (
+    &'static str,
+    &'static [Change],
+    &'static [usize],
+    &'static [usize],
+);
 
 const ROWS: &[Row] = &[
-    (&[], &[A, B], &[]),
-    // What is inserted comes last, and what is a member already stays where it is.
-    (&[(true, X, G)], &[A, B, X], &[]),
-    (&[(true, A, G)], &[A, B], &[]),
-    (&[(true, X, G), (true, A, G), (true, X, G)], &[A, B, X], &[]),
-    (&[(true, B, E), (true, A, E)], &[A, B], &[B, A]),
-    // The others close up where one is taken out, and nothing changes where it is no member.
-    (&[(false, A, G)], &[B], &[]),
-    (&[(false, X, G)], &[A, B], &[]),
-    (&[(false, A, E)], &[A, B], &[]),
-    (&[(true, X, G), (false, B, G), (false, B, G)], &[A, X], &[]),
-    (&[(false, A, G), (false, B, G)], &[], &[]),
-    // What is inserted again comes last.
-    (&[(false, A, G), (true, A, G)], &[B, A], &[]),
-    // Each set has its own members.
-    (&[(true, A, E), (false, A, G)], &[B], &[A]),
-    // There is no third set.
-    (&[(true, X, 2), (false, A, 2)], &[A, B], &[]),
+    ("no change", &[], &[A, B], &[]),
+    (
+        "what is inserted comes last",
+        &[(true, X, G)],
+        &[A, B, X],
+        &[],
+    ),
+    ("a member stays where it is", &[(true, A, G)], &[A, B], &[]),
+    (
+        "members are inserted again",
+        &[(true, X, G), (true, A, G), (true, X, G)],
+        &[A, B, X],
+        &[],
+    ),
+    (
+        "members of a set of none",
+        &[(true, B, E), (true, A, E)],
+        &[A, B],
+        &[B, A],
+    ),
+    ("the others close up", &[(false, A, G)], &[B], &[]),
+    (
+        "what is no member is taken out",
+        &[(false, X, G)],
+        &[A, B],
+        &[],
+    ),
+    (
+        "a member of another set is taken out",
+        &[(false, A, E)],
+        &[A, B],
+        &[],
+    ),
+    (
+        "a member is taken out twice",
+        &[(true, X, G), (false, B, G), (false, B, G)],
+        &[A, X],
+        &[],
+    ),
+    (
+        "all are taken out",
+        &[(false, A, G), (false, B, G)],
+        &[],
+        &[],
+    ),
+    (
+        "what is inserted again comes last",
+        &[(false, A, G), (true, A, G)],
+        &[B, A],
+        &[],
+    ),
+    (
+        "each set has its own members",
+        &[(true, A, E), (false, A, G)],
+        &[B],
+        &[A],
+    ),
+    (
+        "there is no third set",
+        &[(true, X, 2), (false, A, 2)],
+        &[A, B],
+        &[],
+    ),
 ];
 
 fn is_so(alloc: Global, domain: &Domain, row: Row) -> bool {
-    let (changes, first, second) = row;
+    let (_, changes, first, second) = row;
     match members_after(alloc, domain, changes) {
         Some(members) => {
             are(members.of(domain, SetId::new(G)), first)
@@ -97,11 +147,11 @@ fn is_so(alloc: Global, domain: &Domain, row: Row) -> bool {
     }
 }
 
-// The place of the first row that is not so.
-fn wrong_row(alloc: Global, domain: &Domain) -> Option<usize> {
-    for (place, row) in ROWS.iter().enumerate() {
+// The name of the first row that is not so.
+fn wrong_row(alloc: Global, domain: &Domain) -> Option<&'static str> {
+    for row in ROWS {
         if !is_so(alloc, domain, *row) {
-            return Some(place);
+            return Some(row.0);
         }
     }
     None
@@ -110,29 +160,50 @@ fn wrong_row(alloc: Global, domain: &Domain) -> Option<usize> {
 #[test]
 fn members_as_changes_leave_them(rt: HostRuntime) {
     let domain = domain_of(rt.alloc(), LAMPS).ok();
-    assert!(rt; domain.is_some_and(|domain| wrong_row(rt.alloc(), &domain).is_none()));
+    let wrong = match &domain {
+        Some(domain) => wrong_row(rt.alloc(), domain),
+        None => Some("the domain"),
+    };
+    assert!(rt; wrong.is_none(), "{wrong:?}");
 }
 
-// Two lists of changes, and whether sets have been changed to the same members by them.
-const PAIRS: &[(&[Change], &[Change], bool)] = &[
-    (&[], &[], true),
-    (&[(true, A, E)], &[(true, A, E)], true),
+// A name, two lists of changes, and whether sets have been changed to the same members by them.
+const PAIRS: &[(&str, &[Change], &[Change], bool)] = &[
+    ("no changes", &[], &[], true),
+    ("the same change", &[(true, A, E)], &[(true, A, E)], true),
     (
+        "a member that was inserted and taken out",
         &[(true, A, E), (true, B, E), (false, A, E)],
         &[(true, B, E)],
         true,
     ),
-    (&[(true, A, G)], &[(false, X, G)], true),
     (
+        "changes that leave all members",
+        &[(true, A, G)],
+        &[(false, X, G)],
+        true,
+    ),
+    (
+        "another order of members",
         &[(true, A, E), (true, B, E)],
         &[(true, B, E), (true, A, E)],
         false,
     ),
-    (&[(true, A, E)], &[(true, A, G)], false),
-    (&[(true, A, E)], &[(true, B, E)], false),
-    (&[(true, A, E)], &[(true, A, E), (true, B, E)], false),
-    // A set that was changed is another than one that was not, though it has the same members.
-    (&[(true, A, G)], &[], false),
+    ("another set", &[(true, A, E)], &[(true, A, G)], false),
+    ("another member", &[(true, A, E)], &[(true, B, E)], false),
+    (
+        "a member more",
+        &[(true, A, E)],
+        &[(true, A, E), (true, B, E)],
+        false,
+    ),
+    // It has the same members.
+    (
+        "a set that was changed, and one that was not",
+        &[(true, A, G)],
+        &[],
+        false,
+    ),
 ];
 
 // Whether members are the same as others, and as a share of themselves, where a pair says so.
@@ -161,18 +232,22 @@ fn are_compared(
     }
 }
 
-// The place of the first pair that is not so.
-fn wrong_pair(alloc: Global, domain: &Domain) -> Option<usize> {
-    for (place, (first, second, same)) in PAIRS.iter().enumerate() {
+// The name of the first pair that is not so.
+fn wrong_pair(alloc: Global, domain: &Domain) -> Option<&'static str> {
+    for (name, first, second, same) in PAIRS {
         if !are_compared(alloc, domain, *first, *second, *same) {
-            return Some(place);
+            return Some(*name);
         }
     }
     None
 }
 
 #[test]
-fn same_members(rt: HostRuntime) {
+fn same_members_are_told_from_others(rt: HostRuntime) {
     let domain = domain_of(rt.alloc(), LAMPS).ok();
-    assert!(rt; domain.is_some_and(|domain| wrong_pair(rt.alloc(), &domain).is_none()));
+    let wrong = match &domain {
+        Some(domain) => wrong_pair(rt.alloc(), domain),
+        None => Some("the domain"),
+    };
+    assert!(rt; wrong.is_none(), "{wrong:?}");
 }

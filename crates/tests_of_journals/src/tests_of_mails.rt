@@ -48,12 +48,13 @@ const OWN: Asked = Asked {
     given: &[Plain::Int(5), Plain::Str(b"e")],
 };
 
-// A capacity, and the steps of a mail with it.
-type Row = (usize, &'static [Move]);
+// A name, a capacity, and the steps of a mail with it.
+type Row = (&'static str, usize, &'static [Move]);
 
 const ROWS: &[Row] = &[
-    // Capacity 1: number 0, full, taken, nothing left, then number 1.
+    // Number 0, full, taken, nothing left, then number 1.
     (
+        "a capacity of one",
         1,
         &[
             Move::Empty(OUT),
@@ -67,8 +68,9 @@ const ROWS: &[Row] = &[
             Move::Empty(OUT),
         ],
     ),
-    // Three senders, each with its own numbers. What was posted first is taken first.
+    // What was posted first is taken first.
     (
+        "three senders, each with its own numbers",
         4,
         &[
             Move::Posts(OUT, OTHERS, 0),
@@ -85,8 +87,8 @@ const ROWS: &[Row] = &[
             Move::Empty(OUT),
         ],
     ),
-    // An object that sends to itself finds its own mailbox full.
     (
+        "an object that sends to itself finds its own mailbox full",
         2,
         &[
             Move::Posts(C, SHOWN, 0),
@@ -99,8 +101,8 @@ const ROWS: &[Row] = &[
             Move::Empty(C),
         ],
     ),
-    // Objects have their own mailboxes, and their own numbers too.
     (
+        "objects have their own mailboxes, and their own numbers",
         1,
         &[
             Move::Posts(OUT, SENT, 0),
@@ -113,8 +115,8 @@ const ROWS: &[Row] = &[
             Move::Empty(C),
         ],
     ),
-    // What was taken may be posted again, however often.
     (
+        "what was taken is posted again and again",
         1,
         &[
             Move::Posts(OUT, FIRST, 0),
@@ -129,9 +131,9 @@ const ROWS: &[Row] = &[
     ),
 ];
 
-// The place of the first step of a row that goes wrong, in a mail of the counter.
+// Whether each step of a row goes as it says, in a mail of the counter.
 fn is_answered(alloc: Global, row: Row) -> bool {
-    let (capacity, steps) = row;
+    let (_, capacity, steps) = row;
     if capacity < 1 || capacity > 1024 {
         return false;
     }
@@ -149,8 +151,8 @@ fn is_answered(alloc: Global, row: Row) -> bool {
 }
 
 #[test]
-fn mailboxes_step_by_step(rt: HostRuntime) {
+fn mails_keep_their_order_and_capacity(rt: HostRuntime) {
     for row in ROWS {
-        assert!(rt; is_answered(rt.alloc(), *row));
+        assert!(rt; is_answered(rt.alloc(), *row), "{}", row.0);
     }
 }

@@ -57,6 +57,6 @@ const RUNS: &[Run] = &[STANDARD, KILLS, KILLED_SUPPLY, ARGUMENTS, CHANGES];
 #[test]
 fn ledgers_say_what_journals_say(rt: HostRuntime) {
     for run in RUNS {
-        assert!(rt; is_kept(rt.alloc(), *run));
+        assert!(rt; is_kept(rt.alloc(), *run), "{}", run.name);
     }
 }

@@ -210,35 +210,38 @@ fn shared_go<R: Wait + Copy + Send + Drop>(rt: R, alloc: Global, domain: &Arc<Do
         && operators_go::<Brand, _>(rt, alloc, domain, others)
 }
 
+// A name, a capacity, a count of sessions, and whether mailboxes are made with them.
+type Row = (&'static str, usize, usize, bool);
+
 // Whether mailboxes of these numbers are made, and refused as wrong numbers otherwise.
 fn is_made<R: Wait + Copy + Send + Drop>(
     rt: R,
     alloc: Global,
     domain: &Arc<Domain>,
-    row: (usize, usize, bool),
+    row: Row,
 ) -> bool {
     let Ok(shared) = Arc::try_clone(domain) else {
         return false;
     };
-    match Mailboxes::new(rt, alloc, shared, row.0, row.1) {
-        Ok(_) => row.2,
-        Err(error) => !row.2 && error == MailError::BadConfig,
+    let (_, capacity, sessions, good) = row;
+    match Mailboxes::new(rt, alloc, shared, capacity, sessions) {
+        Ok(_) => good,
+        Err(error) => !good && error == MailError::BadConfig,
     }
 }
 
-// A capacity, a count of sessions, and whether mailboxes are made with them.
-const NUMBERS: &[(usize, usize, bool)] = &[
-    (0, 1, false),
-    (1, 1, true),
-    (1_024, 1, true),
-    (1_025, 1, false),
-    (1, 0, false),
-    (1, 8, true),
-    (1, 9, false),
+const NUMBERS: &[Row] = &[
+    ("no capacity", 0, 1, false),
+    ("a capacity of one", 1, 1, true),
+    ("the greatest capacity", 1_024, 1, true),
+    ("a greater capacity", 1_025, 1, false),
+    ("no session", 1, 0, false),
+    ("eight sessions", 1, 8, true),
+    ("nine sessions", 1, 9, false),
 ];
 
 #[test]
-fn numbers_of_mailboxes(rt: HostRuntime) {
+fn mailboxes_are_made_with_good_numbers_alone(rt: HostRuntime) {
     let alloc: Global = rt.alloc();
     let domain = domain_of(alloc, ALONE).ok();
     assert!(rt; domain.is_some());
@@ -246,12 +249,12 @@ fn numbers_of_mailboxes(rt: HostRuntime) {
         return;
     };
     for row in NUMBERS {
-        assert!(rt; is_made(rt, alloc, &domain, *row));
+        assert!(rt; is_made(rt, alloc, &domain, *row), "{}", row.0);
     }
 }
 
 #[test]
-fn alone_in_a_mailbox(rt: HostRuntime) {
+fn one_request_waits_in_a_mailbox_of_one(rt: HostRuntime) {
     let alloc: Global = rt.alloc();
     let domain = domain_of(alloc, ALONE).ok();
     assert!(rt; domain.is_some());

@@ -274,7 +274,7 @@ fn goes_once<R: Threads + Wait + Copy + Send + Sync + Drop>(
 }
 
 #[test]
-fn eight_sessions_at_once(rt: HostRuntime) {
+fn no_request_of_eight_sessions_is_lost(rt: HostRuntime) {
     let alloc: Global = rt.alloc();
     let domain = domain_of(alloc, THREE).ok();
     assert!(rt; domain.is_some());

@@ -55,9 +55,9 @@ fn wrong_place(alloc: Global, text: &[u8]) -> Option<usize> {
 }
 
 #[test]
-fn changed_letters(rt: HostRuntime) {
-    for (text, _) in &TEXTS {
+fn explained_faults_have_that_of_the_checker(rt: HostRuntime) {
+    for (name, text, _) in &TEXTS {
         let wrong = wrong_place(rt.alloc(), text);
-        assert!(rt; wrong == None, "at {wrong:?}");
+        assert!(rt; wrong == None, "{name}, at {wrong:?}");
     }
 }

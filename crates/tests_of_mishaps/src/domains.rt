@@ -25,16 +25,16 @@ objectset: G { L, K }
 objectset: E { }
 ";
 
-/// Texts, each with its canonical text, which most of them are.
-pub const TEXTS: [(&[u8], &[u8]); 10] = [
-    (SUPPLIES, SUPPLIES),
-    (COUNTER, COUNTER),
-    (FIRST, FIRST),
-    (PAIR, PAIR),
-    (EMPTY_SET, EMPTY_SET),
-    (WAITS, WAITS),
-    (CHANGES, CHANGES),
-    (ASKS_ITSELF, ASKS_ITSELF),
-    (MARKED, MARKED),
-    (MARKED_IN_ONE_LINE, MARKED),
+/// Texts, each with its name and its canonical text, which most of them are.
+pub const TEXTS: [(&str, &[u8], &[u8]); 10] = [
+    ("supplies", SUPPLIES, SUPPLIES),
+    ("a counter", COUNTER, COUNTER),
+    ("a first domain", FIRST, FIRST),
+    ("a pair", PAIR, PAIR),
+    ("an empty set", EMPTY_SET, EMPTY_SET),
+    ("waits", WAITS, WAITS),
+    ("sets that change", CHANGES, CHANGES),
+    ("an object that asks itself", ASKS_ITSELF, ASKS_ITSELF),
+    ("marks", MARKED, MARKED),
+    ("marks in one line", MARKED_IN_ONE_LINE, MARKED),
 ];

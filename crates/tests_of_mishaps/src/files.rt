@@ -111,13 +111,13 @@ fn wrong_place(alloc: Global, text: &[u8]) -> Option<usize> {
 }
 
 #[test]
-fn broken_files(rt: HostRuntime) {
-    for (text, canonical) in &TEXTS {
+fn broken_files_are_refused_where_they_break(rt: HostRuntime) {
+    for (name, text, canonical) in &TEXTS {
         let wrong = match wrong_place(rt.alloc(), text) {
             None if is_printed_as(rt.alloc(), text, canonical) => None,
             None => Some(usize::MAX),
             wrong => wrong,
         };
-        assert!(rt; wrong == None, "at {wrong:?}");
+        assert!(rt; wrong == None, "{name}, at {wrong:?}");
     }
 }

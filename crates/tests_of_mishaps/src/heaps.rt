@@ -94,8 +94,8 @@ fn goes_in_all(alloc: Global, text: &[u8]) -> Option<bool> {
 }
 
 #[test]
-fn heaps_of_every_size(rt: HostRuntime) {
-    for (text, _) in &TEXTS {
-        assert!(rt; goes_in_all(rt.alloc(), text) == Some(true));
+fn heaps_have_a_file_or_no_room(rt: HostRuntime) {
+    for (name, text, _) in &TEXTS {
+        assert!(rt; goes_in_all(rt.alloc(), text) == Some(true), "{name}");
     }
 }

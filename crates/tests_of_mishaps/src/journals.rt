@@ -13,9 +13,10 @@ use test_domains::{CHANGES, COUNTER, PAIR, SUPPLIES};
 // A header, which is as long in either format.
 const HEADER: &[u8] = b"smi-journal 1\n";
 
-// Legal journals of both formats and their domains.
-const JOURNALS: [(&[u8], &[u8]); 6] = [
+// Legal journals of both formats, each with its name and its domain.
+const JOURNALS: [(&str, &[u8], &[u8]); 6] = [
     (
+        "a full mailbox, a fault and a skip",
         SUPPLIES,
         b"smi-journal 1
 start RUN @1 0 CONFIGURE
@@ -31,6 +32,7 @@ end RUN skipped
 ",
     ),
     (
+        "two that wait for one another",
         PAIR,
         b"smi-journal 1
 start A @1 0 GO
@@ -43,6 +45,7 @@ end A S
 ",
     ),
     (
+        "waits",
         WAITS,
         b"smi-journal 1
 start B @1 0 GO
@@ -58,6 +61,7 @@ end B DONE
 ",
     ),
     (
+        "arguments",
         COUNTER,
         b"smi-journal 1
 start C @1 0 PUT (T = 5, M = \"a\")
@@ -68,6 +72,7 @@ end OUT READY
 ",
     ),
     (
+        "a set that changes",
         CHANGES,
         b"smi-journal 2
 start B @1 0 GO
@@ -80,6 +85,7 @@ end B DONE
 ",
     ),
     (
+        "waits, and a full mailbox, in the second format",
         WAITS,
         b"smi-journal 2
 start B @1 0 GO
@@ -174,8 +180,8 @@ fn is_right(alloc: Global, domain: &[u8], text: &[u8]) -> Option<bool> {
 }
 
 #[test]
-fn broken_journals(rt: HostRuntime) {
-    for (domain, text) in &JOURNALS {
-        assert!(rt; is_right(rt.alloc(), domain, text) == Some(true));
+fn broken_journals_are_bad_where_they_break(rt: HostRuntime) {
+    for (name, domain, text) in &JOURNALS {
+        assert!(rt; is_right(rt.alloc(), domain, text) == Some(true), "{name}");
     }
 }

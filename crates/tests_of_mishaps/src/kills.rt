@@ -12,20 +12,39 @@ use std::sync::Arc;
 use std::test::*;
 use test_domains::SUPPLIES;
 
-// A line that kills an object, and the words in front of its kill and of its starts in a journal.
-type Kill = (&'static [u8], &'static [u8], &'static [u8]);
+// A line that kills an object, the words in front of its kill and of its starts in a journal, and its name.
+type Kill = (&'static [u8], &'static [u8], &'static [u8], &'static str);
 
 const KILLS: [Kill; 3] = [
-    (b"kill HV1 @2\n", b"kill HV1 ", b"start HV1 "),
-    (b"kill HV2 @2\n", b"kill HV2 ", b"start HV2 "),
-    (b"kill RUN @2\n", b"kill RUN ", b"start RUN "),
+    (
+        b"kill HV1 @2\n",
+        b"kill HV1 ",
+        b"start HV1 ",
+        "a kill of the first supply",
+    ),
+    (
+        b"kill HV2 @2\n",
+        b"kill HV2 ",
+        b"start HV2 ",
+        "a kill of the second supply",
+    ),
+    (
+        b"kill RUN @2\n",
+        b"kill RUN ",
+        b"start RUN ",
+        "a kill of the run",
+    ),
 ];
 
-// The place of an answer among the steps, and the fault that is there.
-type Fault = (usize, &'static [u8]);
+// The place of an answer among the steps, the fault that is there, and its name.
+type Fault = (usize, &'static [u8], &'static str);
 
 // The first has no place: all answers are given.
-const FAULTS: [Fault; 3] = [(usize::MAX, b""), (6, b"fault HV1\n"), (9, b"fault HV2\n")];
+const FAULTS: [Fault; 3] = [
+    (usize::MAX, b"", "no fault"),
+    (6, b"fault HV1\n", "a fault of the first supply"),
+    (9, b"fault HV2\n", "a fault of the second supply"),
+];
 
 // What a schedule is with a kill in front of the step at a place and a fault in the place of another.
 fn schedule(alloc: Global, kill: &[u8], place: usize, fault: Fault) -> Result<Vec<u8>, AllocError> {
@@ -113,10 +132,15 @@ fn goes_everywhere(alloc: Global, kill: Kill, fault: Fault) -> Option<bool> {
 }
 
 #[test]
-fn kills_everywhere(rt: HostRuntime) {
+fn nothing_starts_behind_a_kill(rt: HostRuntime) {
     for fault in FAULTS {
         for kill in KILLS {
-            assert!(rt; goes_everywhere(rt.alloc(), kill, fault) == Some(true));
+            assert!(rt;
+                goes_everywhere(rt.alloc(), kill, fault) == Some(true),
+                "{}, {}",
+                kill.3,
+                fault.2
+            );
         }
     }
 }
@@ -124,7 +148,7 @@ fn kills_everywhere(rt: HostRuntime) {
 // A fault, and the journal behind the start of its device. The run waits for the other device, and ends in ERROR.
 const AFTER_FAULTS: [(Fault, &[u8]); 2] = [
     (
-        (6, b"fault HV1\n"),
+        (6, b"fault HV1\n", "a fault of the first supply"),
         b"smi-journal 2
 start RUN @1 0 CONFIGURE
 post RUN HV1 0 SWITCH_ON
@@ -139,7 +163,7 @@ end RUN ERROR
 ",
     ),
     (
-        (9, b"fault HV2\n"),
+        (9, b"fault HV2\n", "a fault of the second supply"),
         b"smi-journal 2
 start RUN @1 0 CONFIGURE
 post RUN HV1 0 SWITCH_ON
@@ -164,8 +188,12 @@ fn has_journal(alloc: Global, fault: Fault, journal: &[u8]) -> Option<bool> {
 }
 
 #[test]
-fn faults_in_place_of_answers(rt: HostRuntime) {
+fn a_fault_kills_its_device_alone(rt: HostRuntime) {
     for (fault, journal) in &AFTER_FAULTS {
-        assert!(rt; has_journal(rt.alloc(), *fault, journal) == Some(true));
+        assert!(rt;
+            has_journal(rt.alloc(), *fault, journal) == Some(true),
+            "{}",
+            fault.2
+        );
     }
 }

@@ -141,7 +141,7 @@ fn goes_once<R: Wait + Copy + Send + Drop>(rt: R, alloc: Global) -> Option<bool>
 }
 
 #[test]
-fn kill_behind_posts(rt: HostRuntime) {
+fn what_was_posted_before_a_kill_is_left(rt: HostRuntime) {
     for _ in 0..100u8 {
         assert!(rt; goes_once(rt, rt.alloc()) == Some(true));
     }

@@ -124,8 +124,8 @@ fn is_right(alloc: Global, told: Told) -> Option<bool> {
 }
 
 #[test]
-fn broken_schedules(rt: HostRuntime) {
+fn broken_schedules_write_what_stands_before_the_break(rt: HostRuntime) {
     for told in [CONFIGURE_READY, PARAMETERS, WAITING, LAMPS, CHANGING] {
-        assert!(rt; is_right(rt.alloc(), told) == Some(true));
+        assert!(rt; is_right(rt.alloc(), told) == Some(true), "{}", told.name);
     }
 }

@@ -8,9 +8,10 @@ use std::alloc::Global;
 use std::test::*;
 use test_domains::{COUNTER, SUPPLIES};
 
-// Scripts and their domains.
-const SCRIPTS: [(&[u8], &[u8]); 3] = [
+// Scripts, each with its name and its domain.
+const SCRIPTS: [(&str, &[u8], &[u8]); 3] = [
     (
+        "devices and a request",
         SUPPLIES,
         b"device HV1 SWITCH_ON ON
 device HV2 SWITCH_ON ON
@@ -18,6 +19,7 @@ request @1 RUN CONFIGURE
 ",
     ),
     (
+        "kills and an empty line",
         SUPPLIES,
         b"request @2 HV1 SWITCH_ON
 kill RUN @1
@@ -28,6 +30,7 @@ kill HV1 @8
 ",
     ),
     (
+        "arguments",
         COUNTER,
         b"device OUT TAKE READY
 request @1 C PUT (M = \"a b\")
@@ -87,39 +90,60 @@ fn is_right(alloc: Global, domain: &[u8], text: &[u8]) -> Option<bool> {
 }
 
 #[test]
-fn broken_scripts(rt: HostRuntime) {
-    for (domain, text) in &SCRIPTS {
-        assert!(rt; is_right(rt.alloc(), domain, text) == Some(true));
+fn broken_scripts_are_refused_where_they_break(rt: HostRuntime) {
+    for (name, domain, text) in &SCRIPTS {
+        assert!(rt; is_right(rt.alloc(), domain, text) == Some(true), "{name}");
     }
 }
 
 // Bytes that a line may have and may not: a NUL and an escape are only in comments, a carriage return is a blank,
-// though not in a word or a string, and the last line needs no line feed. With each comes the first bad line, or 0.
-const BYTES_OF_LINES: [(&[u8], u64); 10] = [
-    (b"kill RUN @1 !\x00\x1b\n", 0),
-    (b"kill RUN @1\x00\n", 1),
-    (b"kill RUN @1\n\x00\n", 2),
-    (b"kill RUN @1\n\x00", 2),
-    (b"kill\rRUN\r@1\r\r\n", 0),
-    (b"kill RU\rN @1\n", 1),
-    (b"request @1 RUN CONFIGURE (M = \"a\r\")\n", 1),
-    (b"kill RUN @1\nkill RUN @1", 0),
-    (b"kill RUN @1\nkill RUN", 2),
-    (b"kill RUN @1\r", 0),
+// though not in a word or a string, and the last line needs no line feed. With each comes its name, and the first bad
+// line, or 0.
+const BYTES_OF_LINES: [(&str, &[u8], u64); 10] = [
+    (
+        "a NUL and an escape in a comment",
+        b"kill RUN @1 !\x00\x1b\n",
+        0,
+    ),
+    ("a NUL behind a line", b"kill RUN @1\x00\n", 1),
+    ("a line of a NUL", b"kill RUN @1\n\x00\n", 2),
+    ("a NUL in the last line", b"kill RUN @1\n\x00", 2),
+    ("carriage returns for blanks", b"kill\rRUN\r@1\r\r\n", 0),
+    ("a carriage return in a word", b"kill RU\rN @1\n", 1),
+    (
+        "a carriage return in a string",
+        b"request @1 RUN CONFIGURE (M = \"a\r\")\n",
+        1,
+    ),
+    (
+        "a last line without a line feed",
+        b"kill RUN @1\nkill RUN @1",
+        0,
+    ),
+    (
+        "a bad last line without a line feed",
+        b"kill RUN @1\nkill RUN",
+        2,
+    ),
+    ("a carriage return at the end", b"kill RUN @1\r", 0),
 ];
 
-// The rows of which something else is said.
-fn wrong_row(alloc: Global) -> Option<usize> {
-    let domain = domain_of(alloc, SUPPLIES).ok()?;
-    for (i, (text, line)) in BYTES_OF_LINES.iter().enumerate() {
-        if bad_line(alloc, &domain, text) != Some(*line) {
-            return Some(i);
+// The name of the first row of which something else is said.
+fn wrong_row(alloc: Global, domain: &Domain) -> Option<&'static str> {
+    for (name, text, line) in &BYTES_OF_LINES {
+        if bad_line(alloc, domain, text) != Some(*line) {
+            return Some(*name);
         }
     }
-    Some(BYTES_OF_LINES.len())
+    None
 }
 
 #[test]
-fn bytes_of_lines(rt: HostRuntime) {
-    assert!(rt; wrong_row(rt.alloc()) == Some(BYTES_OF_LINES.len()));
+fn bytes_stand_where_they_may(rt: HostRuntime) {
+    let domain = domain_of(rt.alloc(), SUPPLIES).ok();
+    let wrong = match &domain {
+        Some(domain) => wrong_row(rt.alloc(), domain),
+        None => Some("the domain"),
+    };
+    assert!(rt; wrong.is_none(), "{wrong:?}");
 }

@@ -6,15 +6,17 @@ use test_domains::{CHANGES, COUNTER, PAIR, SUPPLIES};
 /// A line of a schedule, and what it writes.
 pub type Step = (&'static [u8], &'static [u8]);
 
-/// A schedule on a domain.
+/// A schedule on a domain, with its name.
 #[derive(Clone, Copy)]
 pub struct Told {
+    pub name: &'static str,
     pub domain: &'static [u8],
     pub steps: &'static [Step],
 }
 
 /// The run is configured, and waits for both of its supplies.
 pub const CONFIGURE_READY: Told = Told {
+    name: "the run is configured",
     domain: SUPPLIES,
     steps: &[
         (
@@ -40,6 +42,7 @@ pub const CONFIGURE_READY: Told = Told {
 
 /// A counter is asked for its actions, and killed in the middle of the last.
 pub const PARAMETERS: Told = Told {
+    name: "a counter with parameters",
     domain: COUNTER,
     steps: &[
         (
@@ -75,6 +78,7 @@ pub const PARAMETERS: Told = Told {
 
 /// Two objects wait for one another, until one of them is killed.
 pub const WAITING: Told = Told {
+    name: "two that wait for one another",
     domain: PAIR,
     steps: &[
         (b"request @1 A GO\n", b"accept @1 A 0 GO\n"),
@@ -92,6 +96,7 @@ pub const WAITING: Told = Told {
 
 /// A boss lights two lamps and waits for both, in the order in which it names them.
 pub const LAMPS: Told = Told {
+    name: "two lamps that are waited for",
     domain: WAITS,
     steps: &[
         (b"request @1 B GO\n", b"accept @1 B 0 GO\n"),
@@ -111,6 +116,7 @@ pub const LAMPS: Told = Told {
 
 /// A boss sends to a set that has a lamp, and then to the same set without any.
 pub const CHANGING: Told = Told {
+    name: "a set that changes",
     domain: CHANGES,
     steps: &[
         (b"request @1 B GO\n", b"accept @1 B 0 GO\n"),

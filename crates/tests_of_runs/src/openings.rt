@@ -20,8 +20,8 @@ const GOOD: Config = Config {
     max_starts: 1,
 };
 
-/// How many devices are given and the numbers of the run, and why no runtime is opened.
-pub type Opening = (usize, Config, OpenError);
+/// How many devices are given, the numbers of the run, why no runtime is opened, and the name of it all.
+pub type Opening = (usize, Config, OpenError, &'static str);
 
 // Whether mail is refused so, and comes back with its ends and the devices. Over what came back, with both devices and
 // good numbers, a runtime must then be opened, with a session for each end.

@@ -23,11 +23,12 @@ pub enum Act {
     Stray,
 }
 
-/// A run: the text of its domain, the capacity of its mailboxes, its numbers, how often each device was entered
-/// before, what each session does and how often, and what the report must show. None where it is open which lines are
-/// accepted: each session does one thing, and all ends with nothing left.
+/// A run: its name, the text of its domain, the capacity of its mailboxes, its numbers, how often each device was
+/// entered before, what each session does and how often, and what the report must show. None where it is open which
+/// lines are accepted: each session does one thing, and all ends with nothing left.
 #[derive(Clone, Copy)]
 pub struct Run {
+    pub name: &'static str,
     pub text: &'static [u8],
     pub devices: usize,
     pub capacity: usize,

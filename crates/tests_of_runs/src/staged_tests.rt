@@ -13,6 +13,7 @@ const RUNS: u32 = 20;
 // `RUN` waits for the first supply, whose device is held; the second is dead. Only the kill of the first lets `RUN` go
 // on, while the device is still held and the session stays.
 const KILL_ALONE: Staged<'static> = Staged {
+    name: "a kill lets a task go on",
     text: SUPPLIES,
     supplies: 2,
     meeting: 2,
@@ -42,6 +43,7 @@ fn kill_lets_a_task_go_on(rt: HostRuntime) {
 // The first supply, whose calls were brief, is stuck. All requests of the second are done meanwhile, so that the end of
 // the first is the last entry of the journal.
 const STUCK: Staged<'static> = Staged {
+    name: "a device that is stuck",
     text: SUPPLIES,
     supplies: 2,
     meeting: 2,
@@ -72,6 +74,7 @@ fn stuck_device_holds_up_nothing(rt: HostRuntime) {
 
 // After brief calls each of some supplies waits until all of them were entered.
 const MEETING: Staged<'static> = Staged {
+    name: "devices that wait for one another",
     text: EIGHT,
     supplies: 8,
     meeting: 8,
@@ -88,7 +91,7 @@ const MEETING: Staged<'static> = Staged {
 };
 
 #[test]
-fn devices_that_wait_for_one_another(rt: HostRuntime) {
+fn devices_that_wait_for_one_another_all_answer(rt: HostRuntime) {
     let watched = begin_watch(rt, rt.alloc());
     let switched_on = [ON; 8];
     for _ in 0..RUNS {
@@ -107,6 +110,7 @@ fn devices_that_wait_for_one_another(rt: HostRuntime) {
 
 // The calls of the first supply are brief, then slow, then brief again.
 const TURNS_SLOW: Staged<'static> = Staged {
+    name: "calls that turn slow, and brief again",
     text: SUPPLIES,
     supplies: 2,
     meeting: 2,
@@ -126,6 +130,7 @@ const TURNS_SLOW: Staged<'static> = Staged {
 
 // The session leaves once all workers wait.
 const LEAVES_LATE: Staged<'static> = Staged {
+    name: "a session that leaves late",
     text: SUPPLIES,
     supplies: 2,
     meeting: 2,
@@ -136,11 +141,11 @@ const LEAVES_LATE: Staged<'static> = Staged {
 };
 
 #[test]
-fn slow_devices_and_late_sessions(rt: HostRuntime) {
+fn slow_devices_and_late_sessions_end(rt: HostRuntime) {
     let watched = begin_watch(rt, rt.alloc());
     for _ in 0..RUNS {
         for run in &[TURNS_SLOW, LEAVES_LATE] {
-            assert_eq!(rt; told_of(rt, rt.alloc(), run), RIGHT);
+            assert_eq!(rt; told_of(rt, rt.alloc(), run), RIGHT, "{}", run.name);
         }
     }
     end_watch(&rt, watched);

@@ -46,10 +46,12 @@ pub enum Step {
     Nap,
 }
 
-/// A run: its domain; how many supplies it has, and how many of these are to meet; how many workers serve; what is
-/// done; in which states the first objects are in the end; and the object whose end the journal's last entry must be.
+/// A run: its name and its domain; how many supplies it has, and how many of these are to meet; how many workers serve;
+/// what is done; in which states the first objects are in the end; and the object whose end the journal's last entry
+/// must be.
 #[derive(Clone, Copy)]
 pub struct Staged<'a> {
+    pub name: &'static str,
     pub text: &'static [u8],
     pub supplies: usize,
     pub meeting: usize,

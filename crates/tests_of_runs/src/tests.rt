@@ -25,6 +25,7 @@ const SWITCHES: &[Act] = &[Act::Post(FIRST, SWITCH_ON)];
 
 // Both supplies are switched on.
 const CONFIGURED: Run = Run {
+    name: "both supplies are switched on by two workers",
     text: SUPPLIES,
     devices: 2,
     capacity: 16,
@@ -47,9 +48,10 @@ const CONFIGURED: Run = Run {
 };
 
 #[test]
-fn run_on(rt: HostRuntime) {
+fn both_supplies_are_switched_on(rt: HostRuntime) {
     let watched = begin_watch(rt, rt.alloc());
     let alone = Run {
+        name: "both supplies are switched on by one worker",
         config: Config {
             workers: 1,
             max_starts: MOST,
@@ -58,7 +60,7 @@ fn run_on(rt: HostRuntime) {
     };
     for _ in 0..RUNS {
         for run in &[CONFIGURED, alone] {
-            assert!(rt; goes(rt, rt.alloc(), run));
+            assert!(rt; goes(rt, rt.alloc(), run), "{}", run.name);
         }
     }
     end_watch(&rt, watched);
@@ -66,6 +68,7 @@ fn run_on(rt: HostRuntime) {
 
 // Two sessions switch one supply on, a hundred times each.
 const BUSY: Run = Run {
+    name: "two sessions switch one supply on",
     text: SUPPLIES,
     devices: 2,
     capacity: 256,
@@ -88,7 +91,7 @@ const BUSY: Run = Run {
 };
 
 #[test]
-fn two_sessions(rt: HostRuntime) {
+fn all_requests_of_two_sessions_are_accepted(rt: HostRuntime) {
     let watched = begin_watch(rt, rt.alloc());
     for _ in 0..RUNS {
         assert!(rt; goes(rt, rt.alloc(), &BUSY));
@@ -98,6 +101,7 @@ fn two_sessions(rt: HostRuntime) {
 
 // Each supply returns only after the other was entered.
 const GATED: Run = Run {
+    name: "each supply returns after the other was entered",
     text: SUPPLIES,
     devices: 2,
     capacity: 16,
@@ -120,7 +124,7 @@ const GATED: Run = Run {
 };
 
 #[test]
-fn gate(rt: HostRuntime) {
+fn two_devices_are_at_work_at_once(rt: HostRuntime) {
     let watched = begin_watch(rt, rt.alloc());
     for _ in 0..RUNS {
         assert!(rt; goes(rt, rt.alloc(), &GATED));
@@ -130,6 +134,7 @@ fn gate(rt: HostRuntime) {
 
 // Only one request is started: what it sends is left, and it waits for it.
 const LIMITED: Run = Run {
+    name: "one request is started at most",
     config: Config {
         workers: 2,
         max_starts: 1,
@@ -148,6 +153,7 @@ const LIMITED: Run = Run {
 
 // Nothing is there, and what is asked for is refused.
 const NOTHING: Run = Run {
+    name: "a domain of nothing",
     text: EMPTY,
     devices: 0,
     capacity: 1,
@@ -171,6 +177,7 @@ const NOTHING: Run = Run {
 
 // The sessions do nothing.
 const IDLE: Run = Run {
+    name: "sessions that do nothing",
     sessions: &[&[], &[]],
     wanted: Some(Wanted {
         end: ServeEnd::Quiet,
@@ -186,6 +193,7 @@ const IDLE: Run = Run {
 
 // One session kills a supply, and then asks it and is refused; so what switches both on sees it dead.
 const KILLED: Run = Run {
+    name: "a supply that is killed and then asked",
     sessions: &[&[
         Act::Kill(FIRST),
         Act::Kill(FIRST),
@@ -204,11 +212,11 @@ const KILLED: Run = Run {
 };
 
 #[test]
-fn small_runs(rt: HostRuntime) {
+fn runs_that_do_little_end(rt: HostRuntime) {
     let watched = begin_watch(rt, rt.alloc());
     for _ in 0..RUNS {
         for run in &[LIMITED, NOTHING, IDLE, KILLED] {
-            assert!(rt; goes(rt, rt.alloc(), run));
+            assert!(rt; goes(rt, rt.alloc(), run), "{}", run.name);
         }
     }
     end_watch(&rt, watched);
@@ -216,6 +224,7 @@ fn small_runs(rt: HostRuntime) {
 
 // Eight sessions at mailboxes for one request, of which many are refused.
 const CROWDED: Run = Run {
+    name: "eight sessions at mailboxes for one request",
     capacity: 1,
     config: Config {
         workers: 8,
@@ -230,7 +239,7 @@ const CROWDED: Run = Run {
 };
 
 #[test]
-fn capacity_one(rt: HostRuntime) {
+fn runs_over_full_mailboxes_end(rt: HostRuntime) {
     let watched = begin_watch(rt, rt.alloc());
     for _ in 0..RUNS {
         assert!(rt; goes(rt, rt.alloc(), &CROWDED));
@@ -247,7 +256,7 @@ const fn far(starts: u64, waiting: u64, open: u64) -> Progress {
 }
 
 #[test]
-fn kill_then_post(rt: HostRuntime) {
+fn what_is_killed_or_unknown_is_refused(rt: HostRuntime) {
     let asked = [
         Asked::Kill(NONE, Err(KillError::UnknownObject)),
         Asked::Kill(RUN, Ok(0)),
@@ -276,7 +285,7 @@ fn kill_then_post(rt: HostRuntime) {
 
 // `RUN` sends to the first supply, whose mailbox is full, and to the second. It ends after both supplies.
 #[test]
-fn progress(rt: HostRuntime) {
+fn progress_tells_what_waits_and_is_open(rt: HostRuntime) {
     let asked = [
         Asked::See(far(0, 0, 0)),
         Asked::Post(RUN, CONFIGURE, 0, Ok(0)),
@@ -300,7 +309,7 @@ fn progress(rt: HostRuntime) {
 
 // Only `RUN` is started: it waits for what it sent.
 #[test]
-fn progress_at_limit(rt: HostRuntime) {
+fn progress_at_the_limit_tells_what_is_left(rt: HostRuntime) {
     let asked = [Asked::Post(RUN, CONFIGURE, 0, Ok(0))];
     let case = Case {
         max_starts: 1,
@@ -316,12 +325,12 @@ fn progress_at_limit(rt: HostRuntime) {
 }
 
 #[test]
-fn finish_missing(rt: HostRuntime) {
+fn no_run_is_finished_without_its_sessions(rt: HostRuntime) {
     assert!(rt; misses_any(rt, rt.alloc()));
 }
 
 #[test]
-fn two_names(rt: HostRuntime) {
+fn two_runs_are_finished_under_two_names(rt: HostRuntime) {
     assert!(rt; finishes_two(rt, rt.alloc()));
 }
 
@@ -333,22 +342,27 @@ const fn numbers(workers: usize, max_starts: usize) -> Config {
 }
 
 #[test]
-fn not_opened(rt: HostRuntime) {
+fn wrong_numbers_open_no_run(rt: HostRuntime) {
     let openings = [
-        (1, numbers(1, 1), OpenError::DeviceCount),
-        (0, numbers(8, MOST), OpenError::DeviceCount),
-        (2, numbers(0, 1), OpenError::BadConfig),
-        (2, numbers(9, 1), OpenError::BadConfig),
-        (2, numbers(1, 0), OpenError::BadConfig),
-        (1, numbers(1, MOST + 1), OpenError::BadConfig),
+        (1, numbers(1, 1), OpenError::DeviceCount, "a device too few"),
+        (0, numbers(8, MOST), OpenError::DeviceCount, "no device"),
+        (2, numbers(0, 1), OpenError::BadConfig, "no worker"),
+        (2, numbers(9, 1), OpenError::BadConfig, "nine workers"),
+        (2, numbers(1, 0), OpenError::BadConfig, "no starts"),
+        (
+            1,
+            numbers(1, MOST + 1),
+            OpenError::BadConfig,
+            "too many starts, and a device too few",
+        ),
     ];
     for opening in &openings {
-        assert!(rt; refuses(rt, rt.alloc(), opening));
+        assert!(rt; refuses(rt, rt.alloc(), opening), "{}", opening.3);
     }
 }
 
 #[test]
-fn late_answer(rt: HostRuntime) {
+fn late_answers_are_dropped(rt: HostRuntime) {
     let watched = begin_watch(rt, rt.alloc());
     for _ in 0..RUNS {
         assert!(rt; drops_late_answers(rt, rt.alloc()));

@@ -5,6 +5,12 @@ Tells of domain files whether they are well-formed, one line a file.";
 
 pub const FILES: &str = "The domain files; - is standard input";
 
+pub const CHECKED_SCRIPT: &str =
+    "Look at the lines of this script of FILE too, and run nothing; may stand more than once";
+
+pub const CHECKED_SCHEDULE: &str =
+    "Look at the lines of this schedule of FILE too, and run nothing; may stand more than once";
+
 pub const CHECK_MORE: &str = "\
 A domain file has at most 1048576 bytes of ASCII, without a byte order mark. It is well-formed where
 every name that it uses is declared and fits where it stands. What is written to standard output, one
@@ -14,6 +20,13 @@ line a file:
   FILE read NO KIND at OFFSET  it is no text of the language; OFFSET counts bytes from 0
   FILE check NO KIND NAME      it is not well-formed; NAME is the name at fault
   FILE unreadable              it cannot be opened or read; standard error has why
+
+With `--script` and `--schedule` there is one FILE. Where it is well-formed, these lines follow, of each script and
+then of each schedule:
+
+  PATH ok                      each line is one of a script (`smirun run --help`) or a schedule (`smirun step --help`)
+  PATH bad line NO             the first line that is none; `run` refuses such a script, `step` such a line
+  PATH too long, unreadable    as `run` and `step` tell it
 
 To find the line of an offset: `head -c OFFSET FILE | wc -l` gives the number of lines before the one that
 OFFSET lies in. For example
@@ -26,7 +39,9 @@ before it, so it is in the second.
 
 With `--explain` standard error has why, behind the line of each refused file: the place as FILE:LINE:COLUMN,
 both counted from 1, one sentence, the line of the text and a caret under the place; for each fault of a file
-that is not well-formed, in the order of its text, up to twenty. Of the file above
+that is not well-formed, in the order of its text, up to twenty. Of a script or a schedule it says why each line
+is none; where there are no such lines, which lines the domain refuses whenever they come, and which `device`
+lines do nothing or make their device fail. Of the file above
 
   FILE:2:9: expected `:` behind `state`, found `ON`
     state ON

@@ -6,7 +6,10 @@ Draws a domain as a graph of its states, or, with a journal, the run that this i
 pub const DRAWN_JOURNAL: &str =
     "The journal of the run to draw: a text as `step --journal` writes it; - is standard input";
 
-pub const OBJECTS: &str = "Draw the objects and sets too, and who sends what to whom";
+pub const OBJECTS: &str =
+    "Draw the objects and sets too, who sends what to whom, and who reads whom";
+
+pub const MEMBERS: &str = "With --objects, draw each member of sets with more than eight too";
 
 pub const FROM: &str = "The first entry of the journal to draw; the first of all is 1";
 
@@ -24,28 +27,40 @@ Each class has a frame, and each of its states a box: a thick one where objects 
 broken one where killed objects are in it. An arrow from a state has the actions that may end in the
 state to which it leads, one a line. An action may end where `move_to` or `terminate_action` says so,
 and keeps its state where its instructions run out; whether a condition can hold is not looked at.
-Actions of a device may end in any state of their class: they stand in the boxes of the states that
-declare them. With `--objects` there is a frame of all objects and sets. An arrow from an object has
-what actions of its class send to the object or set to which it leads, and a broken line leads from a
-set to each of its declared members.
+Actions of a device may end in any state of their class: a class of devices is a table, in which they
+stand beside the states that declare them. In SVG the parameters of actions are shown where one points
+at an arrow or a table.
+
+With `--objects` there is a frame of all objects and sets; devices are grey-blue. An arrow from an
+object has what actions of its class send to the object or set to which it leads, a dotted line leads
+to what their `if` and `wait` read, and a broken line from a set to each of its declared members. A set
+of more than eight members is one box, with their count. Members stand in it that no instruction names
+and no smaller set has, and what they send leads from it; with `--members` each is drawn for itself.
 
 With JOURNAL a picture in SVG is written to standard output, which a browser shows:
 
   smirun graph detector.sml run.journal > run.svg
 
-Each object has a line of life, and each session that the entries name has one. Each entry has a row,
-with its number (its line in the journal is one more), and its line is shown where one points at it:
+Each object has a line of life, and each session that the entries name has one. Sessions come first, then
+the objects that nobody commands, then those to which these send, and so on, and devices last. Each entry
+has a row, with its number (its line in the journal is one more), and its line is shown where one points
+at it:
 
   a bar             an action, from its start to its end; the call stands at the one, the state at the other
+  a coloured line   an object between actions: each state has one of eight colours, in the order of the text;
+                    grey and broken in the state of killed objects
   an arrow          what an object posts, what a session asked for, or a kill by one; red where refused
-  a ring            a wait
+  a ring            a wait, with those for whom it is: those of whom it then reads the state and that are not
+                    done, or, if the journal does not come so far, those to which it sent and that are not
   a dotted line     what is read, with the state of each object that was read
   insert, remove    who is put into which set, or taken out; `empty`: a set that is asked has no members
-  a cross           a kill, behind which the line of life is broken
+  a cross           a kill
 
 `--from N` and `--count M` choose the entries that are shown, and the first line of the picture says
 which of how many they are. A bar that began before them, or does not end in them, goes to the edge.
 The journal need not be legal; `smirun audit` judges it. What is cut for want of room ends with `..`.
+The picture is dark where the browser prefers that. Behind one of a journal with more than 2000 entries
+a line on standard error says that `smirun page` shows so many better.
 
 A file that is refused is told on standard error, by its path and one of: `read NO KIND at OFFSET`, `check
 NO KIND NAME` (the domain; `smirun check --help` has the kinds), `unreadable`, and of the journal `too

@@ -17,6 +17,9 @@ pub const PROGRESS: &str =
 pub const RUN_STRICT: &str =
     "Ends with status 1 where a request was refused, an object waits, requests are left, or a device failed";
 
+pub const RUN_STATES: &str =
+    "Writes behind the summary every parameter, what is open, and changed sets, as `smirun step --states` does";
+
 pub const RUN_MORE: &str = "\
 FILE is a domain file, as `smirun step --help` has it. SCRIPT has at most 16777216 bytes of ASCII. Each line
 has at most 8192 bytes, and is one of these, or has only blanks and a comment behind `!`:
@@ -84,6 +87,9 @@ accepted wait for it, and how many objects have an open action:
 
   starts 123456, waiting 12, open 3
 
+With `--states` these lines are written behind the summary, as `smirun step --help` has them: `param` for every
+parameter, `open` for every open action with what it waits for, and `member` for sets that changed.
+
 With `--journal PATH` the file PATH is made, or what stands there is deleted, once the summary is written, and
 the journal of the run is written to it: what was started, sent, seen, put into sets, taken out of them,
 ended and killed, in its order.
@@ -102,7 +108,8 @@ With `--explain` standard error has why a text or a line of SCRIPT is refused: t
 counted from 1, one sentence, the line and a caret under the place; and behind the summary the same for the
 requests and kills that the domain refuses whenever they come, and for `device` lines that do nothing, or make
 their device fail. Then it has what went wrong in the run: devices that failed, and at what; requests that were
-skipped, and in which state; objects that wait at its end, and for whom; of each up to twenty.
+skipped, and in which state; objects that wait at its end, and for whom; of each up to twenty. Of each session it
+has how many requests found a mailbox full, and how many requests and kills came to an object that was killed.
 
 SCRIPT is kept while the run goes on, and so are the journal, some 100 to 150 bytes an entry, and what each
 session was told is accepted.

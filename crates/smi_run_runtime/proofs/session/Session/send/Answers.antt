@@ -21,9 +21,9 @@ invariant_of-self-2 g c =
     let now = rows_of c.add_accepted.new.rows.items in
     let p = c.get-place.result in
     let x : Letter = record c.args.addressed.envelope { number = n } in
-    let y : Accepted = record { number = n; action = c.args.addressed.action; args = c.args.addressed.kept } in
+    let y : Accepted = record { number = n; action = c.args.addressed.action; args = c.args.addressed.args } in
     let alike : y ≡ accepted_of x =
-    sym (ap (λ (a : ℕ). record { number = n; action = a; args = x.args }) c.requires.action ∙ ap (λ (l : List Value). record { number = n; action = c.args.addressed.action; args = l }) c.requires.kept) in
+    sym (ap (λ (a : ℕ). record { number = n; action = a; args = x.args }) c.requires.action ∙ ap (λ (l : List Value). record { number = n; action = c.args.addressed.action; args = l }) c.requires.args) in
     let end = c.self.inside.end in
     let added : now ≡ set grown p (get_or grown p [] ++ y ∷ []) = c.add_accepted.ensures in (
       posted_rows end c.post.new.self was grown now o p x y c.self.invariant.0 c.grow_row.ensures.same c.get-place.ensures lt sent.1 alike added,
