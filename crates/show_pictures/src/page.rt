@@ -105,7 +105,7 @@ fn steps(count: usize, step: u64) -> u64 {
 }
 
 impl Page {
-    /// The page of the entries of a journal from one place to another. The names of the files have so many letters.
+    /// The page of the entries of a journal from one place to another. The names of the files have this many letters.
     pub(crate) fn of(
         alloc: Global,
         domain: &Domain,

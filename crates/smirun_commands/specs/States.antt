@@ -2,13 +2,13 @@
 use Rattle.std.specs.Prelude.{◌≡◌, ◌⊎◌, ◌==◌, ℕ, Bool, List, [], ◌∷◌, ◌++◌, Option, codes, filter, length}
 use Rattle.sml_text.specs.Written.{Wrote}
 use Rattle.sml_domain.specs.Domain.{Domain}
-use Rattle.smi_audit.specs.declared.judgement.Judgement.{Judgement}
+use Rattle.smi_audit_rules.specs.declared.rule.Rule.{Rule}
+use Rattle.smi_audit.specs.declared.judgement.Judgement.TheVariants.{Illegal}
 use Rattle.smi_audit.specs.Audit.{Judges}
 use Rattle.smi_audit.specs.JudgementText.{ruling_text}
 use Rattle.smi_audit.specs.Pasts.{IsPastOf}
 use Rattle.smi_audit.specs.Views.{PastView}
 use Rattle.show_states.specs.StandingText.{TellsStanding}
-use Rattle.smirun_commands.specs.Ruling.{ruling_status}
 
 -- how all stood behind a legal journal was written
 pub record WritesStanding (d : Domain) (bytes : List ℕ) (old new : Option (List ℕ)) : Type 0 where
@@ -18,17 +18,17 @@ pub record WritesStanding (d : Domain) (bytes : List ℕ) (old new : Option (Lis
   pub tells : TellsStanding past.format d past.books.journal text
   pub wrote : Wrote old new text
 
--- what the judge says of a journal was written, and this is its status
-pub record WritesJudgement (d : Domain) (bytes : List ℕ) (status : ℕ) (old new : Option (List ℕ)) : Type 0 where
-  pub judgement : Judgement
-  pub judged : Judges d bytes judgement
-  pub status_is : status ≡ ruling_status judgement
-  pub wrote : Wrote old new (ruling_text judgement ++ codes "\n")
+-- that a journal is not legal was written, with its first broken line and the first rule broken there
+pub record WritesIllegal (d : Domain) (bytes : List ℕ) (old new : Option (List ℕ)) : Type 0 where
+  pub line : ℕ
+  pub rule : Rule
+  pub judged : Judges d bytes (Illegal line rule)
+  pub wrote : Wrote old new (ruling_text (Illegal line rule) ++ codes "\n")
 
--- how all stood was written, with status 0, or else what the judge says, with its status
+-- how all stood was written, with status 0, or that the journal is not legal, with status 4
 abbrev pub WritesStates : Domain → List ℕ → ℕ → Option (List ℕ) → Option (List ℕ) → Type 0
 WritesStates d bytes status old new =
-    ((status ≡ 0) × WritesStanding d bytes old new) ⊎ WritesJudgement d bytes status old new
+    ((status ≡ 0) × WritesStanding d bytes old new) ⊎ ((status ≡ 4) × WritesIllegal d bytes old new)
 
 -- whether a byte ends a line
 abbrev pub ends_line : ℕ → Bool

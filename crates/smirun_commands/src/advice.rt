@@ -73,7 +73,7 @@ impl Advice {
         }
     }
 
-    /// Advises on all lines of a script or a schedule that are none: at most twenty, and then how many others there
+    /// Advises on all lines that a script or a schedule cannot have: at most twenty, and then how many others there
     /// are. The cost is the length of the text, and memory is taken for what is said of one line.
     pub fn of_bad_lines(
         &mut self,

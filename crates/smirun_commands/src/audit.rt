@@ -111,7 +111,7 @@ pub fn judge_bytes<'a, W: Write, E: Write>(
 }
 
 // The exit status of a judgement.
-pub(crate) fn status_of(judgement: Judgement) -> u8
+fn status_of(judgement: Judgement) -> u8
     ensures status { result ≡ ruling_status judgement }
     ensures range { result ≤ 4 }
 {

@@ -8,10 +8,10 @@ ghost use Rattle.smirun_commands.specs.Ruling.{IsNotJudged};
 ghost use Rattle.smirun_commands.specs.States.{AreFirstLines, WritesStates, WritesStanding, ended_lines};
 
 use crate::advice::Advice;
-use crate::audit::{judge_text, load_journal, status_of, tell_judgement, tell_text};
+use crate::audit::{judge_text, load_journal, tell_judgement, tell_text};
 use crate::fault::Fault;
 use crate::loading::load_domain;
-use crate::status::DONE;
+use crate::status::{DONE, ILLEGAL};
 use show_states::{change_text, past_text};
 use smi_audit::{Judgement, Past};
 use sml_domain::Domain;
@@ -190,11 +190,11 @@ fn tell_illegal<'a, W: Write>(
     let judgement = match judge_text(heap, domain, journal, bytes) {
         // Memory ran out for its past, and did not when it was judged again.
         Ok(Judgement::Legal) => return Err(Fault::Memory),
-        Ok(judgement) => judgement,
+        Ok(Judgement::Illegal { line, rule }) => Judgement::Illegal { line, rule },
         Err(fault) => return Err(fault),
     };
     match tell_judgement(heap, judgement, output) {
-        Ok(()) => Ok(status_of(judgement)),
+        Ok(()) => Ok(ILLEGAL),
         Err(fault) => Err(fault),
     }
 }

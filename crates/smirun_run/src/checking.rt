@@ -162,8 +162,8 @@ fn look_at_script<'a>(
     Ok(())
 }
 
-// Advises on the lines of a text: on all that are none, or where there are no such lines, on those that the domain
-// refuses whenever they come, and of a script on lines of devices that do nothing.
+// Advises on the lines of a text: on all that it cannot have, or where there are no such lines, on those that the
+// domain refuses whenever they come, and of a script on lines of devices that do nothing.
 fn advise_on_lines(
     heap: Global,
     domain: &Arc<Domain>,

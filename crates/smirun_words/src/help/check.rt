@@ -25,7 +25,7 @@ With `--script` and `--schedule` there is one FILE. Where it is well-formed, the
 then of each schedule:
 
   PATH ok                      each line is one of a script (`smirun run --help`) or a schedule (`smirun step --help`)
-  PATH bad line NO             the first line that is none; `run` refuses such a script, `step` such a line
+  PATH bad line NO             the first line that it cannot have; `run` refuses such a script, `step` the line
   PATH too long, unreadable    as `run` and `step` tell it
 
 To find the line of an offset: `head -c OFFSET FILE | wc -l` gives the number of lines before the one that
@@ -39,8 +39,8 @@ before it, so it is in the second.
 
 With `--explain` standard error has why, behind the line of each refused file: the place as FILE:LINE:COLUMN,
 both counted from 1, one sentence, the line of the text and a caret under the place; for each fault of a file
-that is not well-formed, in the order of its text, up to twenty. Of a script or a schedule it says why each line
-is none; where there are no such lines, which lines the domain refuses whenever they come, and which `device`
+that is not well-formed, in the order of its text, up to twenty. Of a script or a schedule it says why it cannot
+have a line; where there are no such lines, which lines the domain refuses whenever they come, and which `device`
 lines do nothing or make their device fail. Of the file above
 
   FILE:2:9: expected `:` behind `state`, found `ON`

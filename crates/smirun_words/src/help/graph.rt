@@ -60,7 +60,7 @@ at it:
 which of how many they are. A bar that began before them, or does not end in them, goes to the edge.
 The journal need not be legal; `smirun audit` judges it. What is cut for want of room ends with `..`.
 The picture is dark where the browser prefers that. Behind one of a journal with more than 2000 entries
-a line on standard error says that `smirun page` shows so many better.
+a line on standard error says that `smirun page` shows it better.
 
 A file that is refused is told on standard error, by its path and one of: `read NO KIND at OFFSET`, `check
 NO KIND NAME` (the domain; `smirun check --help` has the kinds), `unreadable`, and of the journal `too
