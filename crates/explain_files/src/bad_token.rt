@@ -1,14 +1,21 @@
 //! Things that are no tokens.
 
+use crate::advice::{Advice, tell_advice};
+use crate::foreign::{ForeignSign, NO_ARITHMETIC, NO_TIMES, sign_of};
 use crate::left_out::{DOMAINS, MINUS, SCHEDULE};
 use crate::teller::Teller;
 use crate::tokens::Tokens;
+use crate::trail::Trail;
 use sml_text::{LONGEST_NAME, LONGEST_STRING, Sink};
 use sml_tree::TokenKind;
 
 const JOURNAL: &[u8] = b"smi-journal ";
 
-const SIGNS: &[u8] = b" is no sign of this language (: , = ( ) { } /)";
+const NO_SIGN: &[u8] = b" is no sign of this language";
+
+const SIGNS: &[u8] = b" (: , = ( ) { } /)";
+
+const NO_UNIT: &[u8] = b" is no int: an int is decimal, and has no unit";
 
 // Why a string ends too early, or is too long.
 enum StringFault {
@@ -29,8 +36,8 @@ fn byte_before(text: &[u8], offset: usize) -> Option<u8> {
     text.get(offset.checked_sub(1)?).copied()
 }
 
-/// Says which rule of tokens is broken at a place.
-pub(crate) fn tell_bad_token<W: Sink>(out: &mut Teller<'_, W>, offset: usize) {
+/// Says which rule of tokens is broken at a place, which is that of the trail.
+pub(crate) fn tell_bad_token<W: Sink>(out: &mut Teller<'_, W>, trail: &Trail, offset: usize) {
     let text = out.text;
     if text.starts_with(JOURNAL) {
         out.say(b"this looks like a journal, and not like a domain: is the order FILE JOURNAL?");
@@ -43,10 +50,13 @@ pub(crate) fn tell_bad_token<W: Sink>(out: &mut Teller<'_, W>, offset: usize) {
     let before = byte_before(text, offset).unwrap_or(b' ');
     match first {
         b'a'..=b'z' | b'A'..=b'Z' => tell_long_word(out, rest),
-        b'0'..=b'9' => tell_int(out, rest),
-        b'-' => tell_minus(out, rest, before),
+        b'0'..=b'9' => tell_int(out, trail, rest),
+        b'-' => tell_minus(out, trail, rest, before),
         b'"' => tell_string(out, rest),
-        _ => tell_other(out, first, before),
+        _ => match sign_of(rest, trail) {
+            Some(sign) => tell_sign(out, rest, sign),
+            None => tell_other(out, first, before),
+        },
     }
 }
 
@@ -59,29 +69,55 @@ fn tell_long_word<W: Sink>(out: &mut Teller<'_, W>, rest: &[u8]) {
 }
 
 // An int that is too large, or a number with letters.
-fn tell_int<W: Sink>(out: &mut Teller<'_, W>, rest: &[u8]) {
+fn tell_int<W: Sink>(out: &mut Teller<'_, W>, trail: &Trail, rest: &[u8]) {
     let digits = rest
         .iter()
         .take_while(|b| b.is_ascii_digit() || **b == b'-')
         .count();
     let behind = rest.get(digits).copied().unwrap_or(b' ');
     if is_word_byte(&behind) {
-        out.say(b"a letter or `_` stands directly behind an int: a name begins with a letter");
+        tell_letters(out, trail, rest);
     } else {
         out.say(b"an int is from -9223372036854775808 to 9223372036854775807");
     }
 }
 
+// A number with letters: a value that is written otherwise, a time, or a name.
+fn tell_letters<W: Sink>(out: &mut Teller<'_, W>, trail: &Trail, rest: &[u8]) {
+    let length = rest
+        .iter()
+        .take_while(|b| is_word_byte(*b) || **b == b'-')
+        .count();
+    match (trail.head.kind, trail.last.kind) {
+        (_, TokenKind::Equals) => {
+            out.quoted(rest.split_at(length.min(rest.len())).0);
+            out.say(NO_UNIT);
+        }
+        (TokenKind::Wait, _) => out.say(NO_TIMES),
+        _ => out.say(b"a letter or `_` stands directly behind an int: a name begins with a letter"),
+    }
+}
+
 // A minus without digits, or with too many of them.
-fn tell_minus<W: Sink>(out: &mut Teller<'_, W>, rest: &[u8], before: u8) {
+fn tell_minus<W: Sink>(out: &mut Teller<'_, W>, trail: &Trail, rest: &[u8], before: u8) {
     if is_word_byte(&before) {
         out.say(MINUS);
         out.say(DOMAINS);
     } else if rest.get(1).is_some_and(|b| b.is_ascii_digit()) {
-        tell_int(out, rest);
+        tell_int(out, trail, rest);
     } else {
         out.say(b"digits expected behind `-`, which begins an int");
+        if matches!(trail.before.kind, TokenKind::Equals) {
+            tell_advice(out, Advice::Say(NO_ARITHMETIC));
+        }
     }
+}
+
+// A sign of other languages.
+fn tell_sign<W: Sink>(out: &mut Teller<'_, W>, rest: &[u8], sign: ForeignSign) {
+    out.quoted(rest.split_at(sign.length.min(rest.len())).0);
+    out.say(NO_SIGN);
+    tell_advice(out, Advice::Say(sign.sentence));
 }
 
 // Why what begins with a quote is not a string.
@@ -150,10 +186,10 @@ fn tell_other<W: Sink>(out: &mut Teller<'_, W>, byte: u8, before: u8) {
             out.say(DOMAINS);
         }
         b'#' => out.say(b"a comment begins with `!`"),
-        b';' => out.say(b"`;` is no sign of this language: an instruction ends without one"),
         b'_' => out.say(b"a name begins with a letter"),
         b'!'..=b'~' => {
             out.quoted(&[byte]);
+            out.say(NO_SIGN);
             out.say(SIGNS);
         }
         _ => {

@@ -26,7 +26,8 @@ pub enum Sort {
 #[derive(Clone, Copy, Debug, PartialEq, Eq)]
 pub enum Site {
     Member,
-    Target,
+    /// Behind the `do` whose action is named at this byte of the text.
+    Target(usize),
     Tested,
     /// In the brackets of a `wait`.
     Waited,
@@ -59,6 +60,12 @@ pub enum Detail {
     Class(usize),
     /// The action that lacks a parameter, by its class and its places there.
     Own {
+        class: usize,
+        state: usize,
+        action: usize,
+    },
+    /// The action that sets what is no parameter of its class, by its class and its places there.
+    Set {
         class: usize,
         state: usize,
         action: usize,

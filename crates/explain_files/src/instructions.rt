@@ -148,7 +148,7 @@ impl<'w, const MOST: usize> Walk<'w, MOST> {
             self.passed_arg(within, call, passed);
         }
         let target_at = self.take();
-        self.named(is_set, target, target_at, Site::Target);
+        self.named(is_set, target, target_at, Site::Target(call.at));
     }
 
     // Looks whether the class of each target declares the action. Where no class of those that do not is known, that
@@ -323,7 +323,11 @@ impl<'w, const MOST: usize> Walk<'w, MOST> {
         let at = self.take();
         match class_param(within.class, name) {
             None => {
-                let detail = Detail::Class(within.class_place);
+                let detail = Detail::Set {
+                    class: within.class_place,
+                    state: within.state_place,
+                    action: within.action_place,
+                };
                 self.add(CheckKind::UnknownParam, name, at, detail);
             }
             Some(param) => {

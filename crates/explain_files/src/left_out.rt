@@ -77,19 +77,6 @@ fn is_word_byte(byte: u8) -> bool {
     byte.is_ascii_alphanumeric() || byte == b'_'
 }
 
-// Whether a comment of another language begins at the place, or one byte before it.
-fn is_comment(text: &[u8], trail: &Trail) -> bool {
-    let at = if matches!(trail.last.kind, TokenKind::Slash) && trail.last.end == trail.found.at {
-        trail.last.at
-    } else {
-        trail.found.at
-    };
-    match text.get(at..) {
-        Some([b'/', b'/' | b'*', ..]) => true,
-        _ => false,
-    }
-}
-
 // What is said about the word at the place, if it is of another language.
 fn word_said(text: &[u8], trail: &Trail) -> Option<&'static [u8]> {
     match name_of(trail.found.bytes(text)) {
@@ -112,10 +99,6 @@ pub(crate) fn tell_left_out<W: Sink>(out: &mut Teller<'_, W>, trail: &Trail) -> 
     let text = out.text;
     if is_schedule(text, trail) {
         out.say(SCHEDULE);
-        return true;
-    }
-    if is_comment(text, trail) {
-        out.say(b"a comment begins with `!`");
         return true;
     }
     let said = if is_double_colon(trail) {

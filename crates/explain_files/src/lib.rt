@@ -3,12 +3,15 @@
 //! docs/LANGUAGE.md, "Well-formed files"; which fault a file is refused for, the checker says.
 #![tactic(auto)]
 
+mod advice;
 mod bad_token;
 mod block;
 mod checking;
+mod comments;
 mod directory;
 mod expected;
 mod finding;
+mod foreign;
 mod heads;
 mod instructions;
 mod left_out;
@@ -18,6 +21,8 @@ mod names;
 mod params;
 mod reading;
 mod sentence;
+mod shapes;
+mod sorts;
 mod spots;
 mod subject;
 mod teller;

@@ -1,5 +1,6 @@
 //! Sentences of parameters and arguments.
 
+use crate::directory::action_param;
 use crate::finding::{Detail, Finding, Role};
 use crate::subject::{Subject, tell_called, tell_class_name, tell_comma, tell_nearest, tell_of};
 use crate::teller::Teller;
@@ -25,13 +26,17 @@ pub(crate) fn tell_param<W: Sink>(
                 tell_params(out, action, &finding.name);
             }
         }
-        Detail::Class(class) => {
-            tell_class_name(out, subject, class);
-            tell_of(out, b" has no parameter ", &finding.name, b"");
-            if let Some(class) = subject.directory.class_at(class) {
-                tell_class_params(out, class, &finding.name);
-            }
-        }
+        Detail::Set {
+            class,
+            state,
+            action,
+        } => tell_set_param(
+            out,
+            subject,
+            finding,
+            class,
+            own_action(subject, class, state, action),
+        ),
         Detail::Own {
             class,
             state,
@@ -106,6 +111,36 @@ fn tell_class_params<W: Sink>(out: &mut Teller<'_, W>, class: &Class<Global>, na
     }
     out.say(b")");
     tell_nearest(out, &nearest);
+}
+
+// A `set` of a name that is no parameter's of the class, but may be one of the action.
+fn tell_set_param<W: Sink>(
+    out: &mut Teller<'_, W>,
+    subject: Subject<'_>,
+    finding: &Finding,
+    class: usize,
+    action: Option<&Action<Global>>,
+) {
+    let name = &finding.name;
+    match action {
+        Some(action) if action_param(action, name).is_some() => {
+            out.name(name);
+            tell_of(
+                out,
+                b" is a parameter of action ",
+                &action.name,
+                b"; `set` sets those of ",
+            );
+            tell_class_name(out, subject, class);
+        }
+        _ => {
+            tell_class_name(out, subject, class);
+            tell_of(out, b" has no parameter ", name, b"");
+        }
+    }
+    if let Some(class) = subject.directory.class_at(class) {
+        tell_class_params(out, class, name);
+    }
 }
 
 // A value that names no parameter of an action or its class.

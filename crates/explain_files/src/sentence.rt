@@ -3,12 +3,13 @@
 use crate::directory::{adds_dead, dead_name};
 use crate::finding::{Detail, Finding, Site, Sort};
 use crate::params::{tell_kinds, tell_missing, tell_param};
+use crate::sorts::{tell_class, tell_object, tell_set};
 use crate::subject::{Subject, tell_class_name, tell_comma, tell_nearest, tell_of};
 use crate::teller::Teller;
 use explain_places::Nearest;
 use sml_check_faults::CheckKind;
 use sml_text::Sink;
-use sml_tree::{Class, Item, Name};
+use sml_tree::{Class, Name};
 use std::alloc::Global;
 
 /// Writes the sentence of a fault.
@@ -100,87 +101,6 @@ fn tell_marks<W: Sink>(out: &mut Teller<'_, W>, finding: &Finding, mark: &[u8]) 
     out.say(mark);
     out.say(b": the first stands at ");
     out.spot(at);
-}
-
-// What a name is instead, if an item of another sort has it. The answer is whether one has.
-fn tell_other_sort<W: Sink>(
-    out: &mut Teller<'_, W>,
-    subject: Subject<'_>,
-    name: &Name,
-    place: Option<usize>,
-    sort: &[u8],
-) -> bool {
-    let Some(place) = place else {
-        return false;
-    };
-    out.name(name);
-    out.say(sort);
-    out.say(b" (declared at ");
-    out.spot(subject.spots.item(place));
-    out.say(b")");
-    true
-}
-
-// A class that is not declared.
-fn tell_class<W: Sink>(out: &mut Teller<'_, W>, subject: Subject<'_>, finding: &Finding) {
-    let directory = subject.directory;
-    let name = &finding.name;
-    let object = directory.object(name);
-    if tell_other_sort(out, subject, name, object, b" is an object") {
-        return out.say(b", not a class");
-    }
-    let mut nearest = Nearest::new(name);
-    for item in &directory.file.items {
-        if let Item::Class(class) = item {
-            nearest.offer(&class.name);
-        }
-    }
-    tell_of(out, b"no class ", name, b" is declared");
-    tell_nearest(out, &nearest);
-}
-
-// An object that is not declared.
-fn tell_object<W: Sink>(out: &mut Teller<'_, W>, subject: Subject<'_>, finding: &Finding) {
-    let directory = subject.directory;
-    let name = &finding.name;
-    let set = directory.set(name);
-    if tell_other_sort(out, subject, name, set, b" is a set") {
-        return out.say(match finding.detail {
-            Detail::Site(Site::Tested) => b": `all_in` or `any_in` is missing before it",
-            Detail::Site(Site::Target | Site::Waited) => b": `all_in` is missing before it",
-            _ => b", and the members of a set are objects",
-        });
-    }
-    let mut nearest = Nearest::new(name);
-    for item in &directory.file.items {
-        if let Item::Object(object) = item {
-            nearest.offer(&object.name);
-        }
-    }
-    tell_of(out, b"no object ", name, b" is declared");
-    tell_nearest(out, &nearest);
-}
-
-// A set that is not declared.
-fn tell_set<W: Sink>(out: &mut Teller<'_, W>, subject: Subject<'_>, finding: &Finding) {
-    let directory = subject.directory;
-    let name = &finding.name;
-    let object = directory.object(name);
-    if tell_other_sort(out, subject, name, object, b" is an object") {
-        return out.say(match finding.detail {
-            Detail::Site(Site::Tested) => b", not a set: leave out `all_in` or `any_in`",
-            Detail::Site(Site::Changed) => b", not a set, which stands behind the object",
-            _ => b", not a set: leave out `all_in`",
-        });
-    }
-    let mut nearest = Nearest::new(name);
-    for item in &directory.file.items {
-        if let Item::Group(set) = item {
-            nearest.offer(&set.name);
-        }
-    }
-    tell_of(out, b"no set ", name, b" is declared");
-    tell_nearest(out, &nearest);
 }
 
 // The states of a class, and the one of them that may have been meant.

@@ -1,5 +1,6 @@
 //! The parts of a sentence.
 
+use crate::tokens::Piece;
 use explain_places::{place_of, tell_place, tell_quoted, tell_spot};
 use sml_text::{Sink, tell, tell_u64};
 use sml_tree::Name;
@@ -57,6 +58,16 @@ impl<'t, W: Sink> Teller<'t, W> {
             self.say(b"..");
         }
         self.say(b"`");
+    }
+
+    /// Writes a token of the text, a long one cut short.
+    pub(crate) fn piece(&mut self, piece: Piece) {
+        let text = self.text;
+        let bytes = piece.bytes(text);
+        self.say(bytes.split_at(bytes.len().min(SHOWN)).0);
+        if bytes.len() > SHOWN {
+            self.say(b"..");
+        }
     }
 
     /// Writes the line and the column of a place.

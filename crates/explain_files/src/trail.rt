@@ -31,6 +31,10 @@ pub(crate) struct Trail {
     pub found: Piece,
     /// The token behind it.
     pub after: Piece,
+    /// The last name of a state in the condition that the place is in.
+    pub state: Option<Piece>,
+    /// Where two slashes are.
+    pub slashes: Option<usize>,
 }
 
 // Whether a word begins a part of the grammar.
@@ -68,6 +72,8 @@ impl Trail {
             signs: Vec::new(alloc),
             found: Piece::none(),
             after: Piece::none(),
+            state: None,
+            slashes: None,
         }
     }
 
@@ -104,10 +110,26 @@ impl Trail {
         }
         if is_head(piece.kind) && !matches!(self.last.kind, TokenKind::Slash) {
             self.head = piece;
+            self.state = None;
         }
+        self.note_pair(piece);
         self.before = self.last;
         self.last = piece;
         Ok(())
+    }
+
+    // Notes what a token is together with the one before it.
+    fn note_pair(&mut self, piece: Piece) {
+        match (self.last.kind, piece.kind) {
+            (TokenKind::InState | TokenKind::NotInState, TokenKind::Name) => {
+                self.state = Some(piece);
+            }
+            (TokenKind::Slash, TokenKind::Slash)
+                if self.last.end == piece.at && self.slashes.is_none() => {
+                self.slashes = Some(self.last.at);
+            }
+            _ => {}
+        }
     }
 
     // Opens an `if`. If it is directly behind an `else`, notes it in the `if` of that `else`.
@@ -170,6 +192,16 @@ impl Trail {
             TokenKind::Remove => matches!(before, TokenKind::From),
             _ => false,
         }
+    }
+
+    /// Whether a test of a condition could go on at the place, behind the name of an object or a set.
+    pub(crate) fn takes_test(&self) -> bool {
+        matches!(self.head.kind, TokenKind::If)
+            && matches!(self.last.kind, TokenKind::Name)
+            && !matches!(
+                self.before.kind,
+                TokenKind::InState | TokenKind::NotInState | TokenKind::OpenBrace | TokenKind::Comma
+            )
     }
 
     /// Whether the place is the end of the text.

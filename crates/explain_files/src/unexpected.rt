@@ -1,18 +1,27 @@
 //! A token that may not be where it is.
 
+use crate::advice::{Advice, tell_advice};
 use crate::expected::{Expected, expected_at};
+use crate::foreign::elsewhere;
 use crate::left_out::{DOMAINS, tell_left_out};
 use crate::names::nearest_word;
+use crate::shapes::{forgotten_do, in_place_of, in_place_of_instruction, tell_equals, tell_taken};
 use crate::teller::Teller;
-use crate::tokens::{Piece, name_of};
+use crate::tokens::name_of;
 use crate::trail::{OpenIf, Trail};
 use explain_places::place_of;
 use sml_text::Sink;
-use sml_tree::TokenKind;
+use sml_tree::{Name, TokenKind};
+
+const INSTRUCTIONS: &[u8] = b" (do, if, set, move_to, terminate_action, wait, insert, remove)";
 
 /// Says why the token at the place of a trail may not be there, and what could be.
 pub(crate) fn tell_unexpected<W: Sink>(out: &mut Teller<'_, W>, trail: &Trail) {
-    let told = tell_left_out(out, trail) || tell_stray_part(out, trail) || tell_part(out, trail);
+    let told = tell_left_out(out, trail)
+        || tell_stray_part(out, trail)
+        || tell_taken(out, trail)
+        || tell_equals(out, trail)
+        || tell_part(out, trail);
     if !told {
         tell_expected(out, trail);
     }
@@ -82,11 +91,7 @@ fn tell_open_if<W: Sink>(out: &mut Teller<'_, W>, trail: &Trail, open: OpenIf) {
 fn tell_part<W: Sink>(out: &mut Teller<'_, W>, trail: &Trail) -> bool {
     match trail.found.kind {
         TokenKind::Name if trail.takes_instruction() => {
-            out.quoted(trail.found.bytes(out.text));
-            out.say(
-                b" is no instruction (do, if, set, move_to, terminate_action, wait, insert, remove)",
-            );
-            tell_meant(out, trail.found);
+            tell_no_instruction(out, trail);
             true
         }
         TokenKind::InitialState | TokenKind::DeadState
@@ -100,15 +105,39 @@ fn tell_part<W: Sink>(out: &mut Teller<'_, W>, trail: &Trail) -> bool {
     }
 }
 
-// Says which reserved word may have been meant by a name, or that it is a mark without its slash.
-fn tell_meant<W: Sink>(out: &mut Teller<'_, W>, found: Piece) {
-    let Some(name) = name_of(found.bytes(out.text)) else {
+// Says that the name at the place is no instruction, and what to write instead.
+fn tell_no_instruction<W: Sink>(out: &mut Teller<'_, W>, trail: &Trail) {
+    let text = out.text;
+    out.quoted(trail.found.bytes(text));
+    out.say(b" is no instruction");
+    let Some(name) = name_of(trail.found.bytes(text)) else {
         return;
     };
-    let Some(word) = nearest_word(&name) else {
+    let advice = in_place_of_instruction(text, trail, &name);
+    if !matches!(advice, Some(Advice::Say(_))) {
+        out.say(INSTRUCTIONS);
+    }
+    match advice {
+        Some(advice) => tell_advice(out, advice),
+        None => tell_near(out, trail, &name),
+    }
+}
+
+// Says which instruction may have been meant by a name, or else that it may be the action of a `do`.
+fn tell_near<W: Sink>(out: &mut Teller<'_, W>, trail: &Trail, name: &Name) {
+    if nearest_word(name, trail).is_some() {
+        tell_meant(out, trail, name);
+    } else if let Some(advice) = forgotten_do(out.text, trail) {
+        tell_advice(out, advice);
+    }
+}
+
+// Says which reserved word may have been meant by the name at the place, or that it is a mark without its slash.
+fn tell_meant<W: Sink>(out: &mut Teller<'_, W>, trail: &Trail, name: &Name) {
+    let Some(word) = nearest_word(name, trail) else {
         return;
     };
-    if word == name {
+    if word == *name {
         out.say(b", which is a name where no `/` stands before it");
     } else {
         out.say(b"; did you mean `");
@@ -156,8 +185,16 @@ fn tell_found<W: Sink>(out: &mut Teller<'_, W>, trail: &Trail, expected: Expecte
     }
     out.say(b", found ");
     out.quoted(trail.found.bytes(out.text));
+    match in_place_of(out.text, trail, expected) {
+        Some(advice) => tell_advice(out, advice),
+        None => tell_what_is_found(out, trail, expected),
+    }
+}
+
+// Says what is not right with what is at the place, as far as its kind tells that.
+fn tell_what_is_found<W: Sink>(out: &mut Teller<'_, W>, trail: &Trail, expected: Expected) {
     match (expected, trail.found.kind) {
-        (Expected::Other(_), TokenKind::Name) => tell_meant(out, trail.found),
+        (Expected::Other(_), TokenKind::Name) => tell_word(out, trail),
         (Expected::Name(_), kind) if is_word(kind) => out.say(b", which is a reserved word"),
         (Expected::Other(_), TokenKind::CloseBracket) if is_empty_list(trail) => {
             out.say(b": an empty list is left out with its brackets");
@@ -166,6 +203,17 @@ fn tell_found<W: Sink>(out: &mut Teller<'_, W>, trail: &Trail, expected: Expecte
             out.say(b": the arguments of a `do` stand in brackets");
         }
         _ => {}
+    }
+}
+
+// Says what to write in place of the name at the place.
+fn tell_word<W: Sink>(out: &mut Teller<'_, W>, trail: &Trail) {
+    let Some(name) = name_of(trail.found.bytes(out.text)) else {
+        return;
+    };
+    match elsewhere(name.as_bytes()) {
+        Some(advice) => tell_advice(out, advice),
+        None => tell_meant(out, trail, &name),
     }
 }
 

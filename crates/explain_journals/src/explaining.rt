@@ -5,8 +5,9 @@ ghost use Rattle.smi_journal.specs.HasText.{HasText};
 
 use crate::earlier::{Earlier, is_fault_without_device, last, owner, post_of};
 use crate::next::{Next, next_of};
+use crate::placing::{DomainText, tell_instruction};
 use crate::sentence::{first_busy, first_misread, tell_sentence};
-use smi_audit::{Past, PastError, Rule};
+use smi_audit::{Judgement, Past, PastError, Rule};
 use smi_journal::{Entry, Format, Sender, Verdict, tell_lines};
 use sml_domain::{Domain, ObjId};
 use sml_text::{Sink, tell, tell_u64};
@@ -100,20 +101,25 @@ fn closed_by(past: &Past, entries: &[Entry], entry: &Entry) -> Option<usize> {
     }
 }
 
-// What the action does next that continues in place of an entry: that of its object, or the one whose posts it splits.
+// The object whose action continues in place of an entry: its own, or the one whose posts it splits.
+fn continues(past: &Past, entry: &Entry, rule: Rule) -> Option<ObjId> {
+    match rule {
+        Rule::Meaning => Some(owner(entry)),
+        Rule::Split => past.books().last(),
+        _ => None,
+    }
+}
+
+// What that action does next.
 fn next_in_place(
     alloc: Global,
     past: &Past,
     entry: &Entry,
     rule: Rule,
 ) -> Result<Option<Next>, AllocError> {
-    match rule {
-        Rule::Meaning => next_of(alloc, past, owner(entry)),
-        Rule::Split => match past.books().last() {
-            Some(o) => next_of(alloc, past, o),
-            None => Ok(None),
-        },
-        _ => Ok(None),
+    match continues(past, entry, rule) {
+        Some(o) => next_of(alloc, past, o),
+        None => Ok(None),
     }
 }
 
@@ -149,25 +155,29 @@ fn place_of(line: u64, entries: &[Entry]) -> Option<usize>
     }
 }
 
-/// Explains why a line of a journal is not legal. Writes its text, one sentence, and the earlier line that this
-/// rests on, if there is one. Line and rule are those of a `Judgement` of these entries as a journal of the format.
-/// Nothing is written if the line has no entry, or if a line before it is not legal.
+/// Explains why a line of a journal is not legal. Writes its text, one sentence, if the text of the domain is there the
+/// place of the instruction that the sentence is about, and the earlier line that this rests on, if there is one. The
+/// judgement is that of these entries as a journal of the format. Nothing is written if it is legal, if the line has no
+/// entry, or if a line before it is not legal.
 ///
 /// It is text for people, and no part of a format. What is written is not promised, and only tests hold it. The
-/// time and the memory are those of judging the entries before the line.
+/// time and the memory are those of judging the entries before the line, and of reading the text.
 pub fn explain<W: Sink>(
     alloc: Global,
     format: Format,
     domain: Arc<Domain>,
+    text: Option<DomainText<'_>>,
     entries: &[Entry],
-    line: u64,
-    rule: Rule,
+    judgement: Judgement,
     writer: &mut W,
     failed: &mut bool,
 ) -> Result<(), AllocError>
     requires texts { All (HasText (arc_value domain)) entries.now }
     requires few { length entries.now + 2 < 2 ^ 64 }
 {
+    let Judgement::Illegal { line, rule } = judgement else {
+        return Ok(());
+    };
     let Some(place) = place_of(line, entries) else {
         return Ok(());
     };
@@ -182,6 +192,11 @@ pub fn explain<W: Sink>(
     tell_numbered(writer, failed, past.books().domain(), entries, place);
     tell_sentence(writer, failed, &past, entry, rule, &next);
     tell(writer, failed, b".\n");
+    if let Some(text) = &text {
+        if let Some(o) = continues(&past, entry, rule) {
+            tell_instruction(alloc, text, &past, o, writer, failed)?;
+        }
+    }
     if let Some(earlier) = rests_on(&past, before, entry, rule) {
         tell_numbered(writer, failed, past.books().domain(), entries, earlier);
     }

@@ -6,7 +6,9 @@ mod bad_request;
 mod earlier;
 mod explaining;
 mod next;
+mod placing;
 mod sentence;
 
 pub use explaining::explain;
 pub use next::{Next, next_of};
+pub use placing::DomainText;

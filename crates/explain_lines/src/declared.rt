@@ -2,6 +2,8 @@
 
 use crate::words::{NameList, tell_meant, tell_name};
 use explain_places::Nearest;
+use smi_journal::tell_session;
+use smi_world::Step;
 use sml_domain::{ActionId, Class, Domain, ObjId, StateId};
 use sml_text::{Sink, tell};
 use sml_tree::Name;
@@ -60,6 +62,40 @@ pub(crate) fn tell_no_object<W: Sink>(
         }
     }
     tell_meant(writer, failed, &nearest);
+}
+
+/// Writes that a request names its action where its object should be, if that is so. The answer is whether it is so.
+pub(crate) fn tell_swapped<W: Sink>(
+    writer: &mut W,
+    failed: &mut bool,
+    domain: &Domain,
+    step: &Step,
+) -> bool {
+    let Step::Request {
+        sender,
+        object,
+        action,
+        ..
+    } = step
+    else {
+        return false;
+    };
+    if domain.action(object).is_none() || domain.object(action).is_none() {
+        return false;
+    }
+    tell_name(writer, failed, object);
+    tell(
+        writer,
+        failed,
+        b" is an action: the object stands first, as in `request",
+    );
+    tell_session(writer, failed, *sender);
+    tell(writer, failed, b" ");
+    tell_name(writer, failed, action);
+    tell(writer, failed, b" ");
+    tell_name(writer, failed, object);
+    tell(writer, failed, b"`");
+    true
 }
 
 /// Writes that no class has an action, and which may have been meant.

@@ -13,6 +13,7 @@ mod entry_lines;
 mod entry_reader;
 mod entry_sentence;
 mod fault;
+mod foreign;
 mod form;
 mod history;
 mod line_fault;

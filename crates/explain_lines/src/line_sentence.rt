@@ -6,7 +6,8 @@ use crate::fault::{Cause, Fault, Wanted};
 use crate::no_token::tell_no_token;
 use crate::pieces::{from, name_at, part};
 use crate::verb::{Verb, tell_verbs};
-use crate::words::tell_marked;
+use crate::words::{tell_marked, tell_name};
+use explain_places::tell_not_ascii;
 use smi_lines::LONGEST_LINE;
 use sml_domain::Domain;
 use sml_text::{Sink, tell, tell_u64};
@@ -15,6 +16,12 @@ use sml_tree::MAX_ARGUMENTS;
 const NOT_ASCII: &[u8] = b"only ASCII may stand in a line, in comments too";
 
 const BYTE_ORDER_MARK: &[u8] = b"the text begins with a byte order mark: save it without";
+
+const UTF16: &[u8] = b"this looks like UTF-16: save it as ASCII";
+
+const MERGE: &[u8] = b"this looks like a mark of a merge: keep one of the two versions";
+
+const ACTION_FIRST: &[u8] = b" is a state: the action stands first";
 
 const EMPTY_ARGUMENTS: &[u8] = b"an empty list of arguments: leave the brackets out";
 
@@ -30,7 +37,10 @@ pub(crate) fn tell_fault<W: Sink>(
     let at = fault.at;
     match fault.cause {
         Cause::TooLong | Cause::TooManyArguments => tell_most(writer, failed, fault.cause),
-        Cause::NotAscii => tell_not_ascii(writer, failed, line, at),
+        Cause::NotAscii => tell_byte(writer, failed, line, at),
+        Cause::NoToken | Cause::NoVerb if is_mark_of_merge(line, at) => {
+            tell(writer, failed, MERGE);
+        }
         Cause::NoToken => tell_no_token(writer, failed, line, at),
         Cause::Comment => tell(writer, failed, b"a comment begins with `!`"),
         Cause::NoVerb => tell_verbs(writer, failed, kind, line, at),
@@ -58,11 +68,21 @@ fn tell_most<W: Sink>(writer: &mut W, failed: &mut bool, cause: Cause) {
 }
 
 // Writes that a byte is above 0x7F.
-fn tell_not_ascii<W: Sink>(writer: &mut W, failed: &mut bool, line: &[u8], at: usize) {
+fn tell_byte<W: Sink>(writer: &mut W, failed: &mut bool, line: &[u8], at: usize) {
     match from(line, at) {
         [0xEF, 0xBB, 0xBF, ..] if at == 0 => tell(writer, failed, BYTE_ORDER_MARK),
-        _ => tell(writer, failed, NOT_ASCII),
+        [0xFF, 0xFE, ..] | [0xFE, 0xFF, ..] if at == 0 => tell(writer, failed, UTF16),
+        bytes => tell_not_ascii(writer, failed, bytes, NOT_ASCII),
     }
+}
+
+// Whether a line begins at a place with what a merge of two versions writes between them.
+fn is_mark_of_merge(line: &[u8], at: usize) -> bool {
+    at == 0
+        && (line.starts_with(b"<<<<<<<")
+            || line.starts_with(b"=======")
+            || line.starts_with(b">>>>>>>")
+            || line.starts_with(b"|||||||"))
 }
 
 // Writes what says the same in the kind of lines that lacks a verb.
@@ -142,6 +162,10 @@ fn tell_unknown<W: Sink>(
         return;
     };
     match fault.cause {
+        Cause::UnknownAction if domain.state(&name).is_some() => {
+            tell_name(writer, failed, &name);
+            tell(writer, failed, ACTION_FIRST);
+        }
         Cause::UnknownAction => tell_no_action(writer, failed, domain, &name),
         Cause::UnknownState => tell_no_state(writer, failed, domain, &name),
         _ => tell_no_object(writer, failed, domain, &name),

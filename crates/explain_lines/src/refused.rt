@@ -1,7 +1,9 @@
 //! Why a step of a schedule was refused.
 
 use crate::arguments::{BadArgument, bad_argument, tell_bad_argument};
-use crate::declared::{class_at, tell_no_object, tell_not_a_state, tell_object, tell_undeclared};
+use crate::declared::{
+    class_at, tell_no_object, tell_not_a_state, tell_object, tell_swapped, tell_undeclared,
+};
 use crate::history::{History, Past};
 use crate::open::{tell_already_open, tell_empty, tell_full, tell_killed, tell_not_open};
 use crate::pieces::token_at;
@@ -35,6 +37,7 @@ pub fn explain_refused<W: Sink>(
     tell_front(writer, failed, line, at);
     match domain.object(object_in(step)) {
         Some(o) => tell_at(writer, failed, history, domain, o, step, error),
+        None if tell_swapped(writer, failed, domain, step) => {}
         None => tell_no_object(writer, failed, domain, object_in(step)),
     }
     tell_back(writer, failed, line, at);

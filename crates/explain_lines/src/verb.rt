@@ -1,6 +1,7 @@
 //! The words that lines begin with.
 
 use crate::bad_line::LineKind;
+use crate::foreign::advice_on;
 use crate::pieces::{name_at, name_of};
 use crate::words::tell_marked;
 use explain_places::Nearest;
@@ -130,10 +131,18 @@ pub(crate) fn tell_verbs<W: Sink>(
     tell(writer, failed, b"a line begins with ");
     tell(writer, failed, verbs);
     if let Some(name) = name_at(line, place) {
-        if let Some(verb) = nearest_verb(kind, &name) {
-            tell(writer, failed, b"; did you mean ");
-            tell_marked(writer, failed, verb.word());
-            tell(writer, failed, b"?");
-        }
+        tell_meant(writer, failed, kind, &name);
+    }
+}
+
+// Writes what to write in place of a word that other programs have, or which verb may have been meant.
+fn tell_meant<W: Sink>(writer: &mut W, failed: &mut bool, kind: LineKind, name: &Name) {
+    if let Some(advice) = advice_on(kind, name.as_bytes()) {
+        return tell(writer, failed, advice);
+    }
+    if let Some(verb) = nearest_verb(kind, name) {
+        tell(writer, failed, b"; did you mean ");
+        tell_marked(writer, failed, verb.word());
+        tell(writer, failed, b"?");
     }
 }

@@ -6,10 +6,11 @@ use Rattle.smi_journal_entries.specs.declared.journal.Format.{Format}
 use Rattle.smi_journal.specs.HasText.{HasTextIn}
 use Rattle.smi_journal.specs.JournalText.{journal_text}
 use Rattle.smi_meaning.specs.Legal.{IsLegal}
+use Rattle.smi_interp.specs.declared.cursor.Place.{Place}
 use Rattle.smi_audit_rules.specs.Judged.{IsBrokenAt}
 use Rattle.smi_audit_follower.specs.declared.follower.Expected.{Expected}
 use Rattle.smi_audit_follower.specs.Following.{FollowerView}
-use Rattle.smi_audit_follower.specs.Expecting.{IsExpected}
+use Rattle.smi_audit_follower.specs.Expecting.{IsExpected, WaitsAt}
 use Rattle.smi_audit_follower.specs.Laws.{IsFollowed}
 use Rattle.smi_audit.specs.declared.past.PastError.{PastError}
 use Rattle.smi_audit.specs.declared.past.PastError.TheVariants.{Illegal, Memory}
@@ -33,7 +34,18 @@ pub record PastShows (format : Format) (d : Domain) (J : List Entry) (o : ℕ) (
   pub followed : IsFollowed format d J o follower
   pub expected : IsExpected follower e
 
+-- what runs at an object waits at this place
+pub record PastWaitsAt (format : Format) (d : Domain) (J : List Entry) (o : ℕ) (p : Place) : Type 0 where
+  pub follower : FollowerView
+  pub followed : IsFollowed format d J o follower
+  pub waits : WaitsAt follower p
+
 -- what is followed shows this next
 abbrev pub TrackShows : Option FollowerView → Expected → Type 0
 TrackShows None e = ⊥
 TrackShows (Some f) e = IsExpected f e
+
+-- what is followed waits at this place
+abbrev pub TrackWaitsAt : Option FollowerView → Place → Type 0
+TrackWaitsAt None p = ⊥
+TrackWaitsAt (Some f) p = WaitsAt f p

@@ -4,12 +4,13 @@ ghost use Rattle.std.specs.Arc.{arc_value};
 ghost use Rattle.smi_journal.specs.HasText.{HasText};
 ghost use Rattle.smi_meaning.specs.Legal.{IsLegal};
 ghost use Rattle.smi_meaning.specs.Params.{ParamsAfter, running_at};
-ghost use Rattle.smi_audit.specs.Pasts.{IsNone, IsPastOf, PastShows};
+ghost use Rattle.smi_audit.specs.Pasts.{IsNone, IsPastOf, PastShows, PastWaitsAt};
 
 use crate::judge::Judge;
 use crate::lines::judge_of;
 use smi_audit_follower::Expected;
 use smi_audit_rules::Rule;
+use smi_interp::Place;
 use smi_journal::{Entry, Format, behind_header, laws_of_names};
 use smi_ledger::Books;
 use sml_domain::{Domain, ObjId, Value};
@@ -124,5 +125,16 @@ impl Past {
             (running_at self.now.format self.now.books.domain o self.now.books.journal ≡ None) }
     {
         self.judge.tracks[o.get()].next()
+    }
+
+    /// The place of the instruction by which it shows that, or None if no action runs there: for people to find it in
+    /// the text. The cost is constant.
+    pub fn place(&self, o: ObjId) -> Option<Place>
+        requires { o < length self.now.books.domain.objects }
+        ensures some { IfSome result (PastWaitsAt self.now.format self.now.books.domain self.now.books.journal o) }
+        ensures none { IfNone result
+            (running_at self.now.format self.now.books.domain o self.now.books.journal ≡ None) }
+    {
+        self.judge.tracks[o.get()].place()
     }
 }

@@ -5,13 +5,13 @@ ghost use Rattle.std.specs.List.{filter_map};
 ghost use Rattle.smi_journal_entries.specs.Sets.{AreOf, unchanged};
 ghost use Rattle.smi_journal_entries.specs.Words.{HadNone, Saw, Sent, Turned};
 ghost use Rattle.smi_meaning.specs.Params.{first_value};
-ghost use Rattle.smi_audit.specs.Pasts.{TrackShows};
+ghost use Rattle.smi_audit.specs.Pasts.{TrackShows, TrackWaitsAt};
 ghost use Rattle.smi_audit.specs.Splitting.{IsNextPost, post_expected};
 ghost use Rattle.smi_audit.specs.Tracks as says;
 
 use crate::calls::{Call, Calls};
 use smi_audit_follower::{Expected, Follower, laws_of_following};
-use smi_interp::{ContactNames, Post, Ready};
+use smi_interp::{ContactNames, Place, Post, Ready};
 use smi_journal::{Args, Format, Letter, Members, Reading, Verdict};
 use sml_domain::{ActionId, Domain, ObjId, Param, SetId, StateId, Value};
 use std::alloc::{AllocError, Global};
@@ -143,6 +143,17 @@ impl Track {
     {
         match &self.follower {
             Some(follower) => Some(follower.expected()),
+            None => None,
+        }
+    }
+
+    // The place of the instruction by which it shows that, if something runs.
+    pub(crate) fn place(&self) -> Option<Place>
+        ensures some { IfSome result (TrackWaitsAt self.now.follower) }
+        ensures none { IfNone result (self.now.follower ≡ None) }
+    {
+        match &self.follower {
+            Some(follower) => Some(follower.place()),
             None => None,
         }
     }

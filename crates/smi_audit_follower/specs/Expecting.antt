@@ -1,15 +1,20 @@
 -- What a follower says of its action.
-use Rattle.std.specs.Prelude.{◌≡◌, ◌↔◌, ℕ, List, [], ◌∷◌, Option, Some, None}
+use Rattle.std.specs.Prelude.{◌≡◌, ◌↔◌, ℕ, List, [], ◌∷◌, IfSome, Option, Some, None}
 use Rattle.sml_domain.specs.Program.{Subject, Target, ToOne, ToMembers}
 use Rattle.smi_journal_entries.specs.Sets.{Sets}
 use Rattle.smi_journal_entries.specs.Words.{Item}
 use Rattle.smi_meaning.specs.Items.{Post}
 use Rattle.smi_meaning.specs.Meaning.{Wanted}
 use Rattle.smi_meaning.specs.Shown.{Question, ToPost, ToHave, ToRead, ToChange, question_in, sets_of}
+use Rattle.smi_interp.specs.declared.cursor.Place.{Place}
 use Rattle.smi_interp.specs.Expanded.{objects_by_names, posts_in}
+use Rattle.smi_interp.specs.Task.{IsContactAt, TaskView}
 use Rattle.smi_audit_follower.specs.declared.follower.Ended.{Ended}
 use Rattle.smi_audit_follower.specs.declared.follower.Expected.{Expected}
 use Rattle.smi_audit_follower.specs.declared.follower.Expected.TheVariants as expected
+use Rattle.smi_audit_follower.specs.declared.follower.Begun.{Begun}
+use Rattle.smi_audit_follower.specs.Followers.{seen_by}
+use Rattle.smi_audit_follower.specs.Passing.{ContactStands}
 use Rattle.smi_audit_follower.specs.Following.{FollowerView, Asks, EndsIn, FollowerMayEnd, MayShow, MayTell}
 
 -- what a send asks first, to this target and with these posts: that its first is posted, or that its set has no member
@@ -41,6 +46,14 @@ IsExpected f (expected.Send wanted) = SendsNext f wanted.now
 IsExpected f (expected.Read names) = FollowerReadsNext f names.now
 IsExpected f (expected.Change add member set) = (sets : Sets) → Asks f sets (ToChange add member set)
 IsExpected f (expected.End s) = FollowerMayEnd f s
+
+-- a task that has shown what the action has waits with what comes first at this place, and shows it or ends with it
+pub record WaitsAt (f : FollowerView) (p : Place) : Type 0 where
+  pub task : TaskView
+  pub begun : Option Begun
+  pub is : seen_by f.format task begun ≡ f
+  pub stands : ContactStands f.format task.domain task.pending
+  pub waits : IfSome task.pending (IsContactAt task p)
 
 -- the action ends so, exactly if it may end
 abbrev pub FollowerEnds : FollowerView → Option Ended → Type 0

@@ -12,7 +12,7 @@ ghost use Rattle.smi_audit_follower.specs.Passing.{end_of};
 
 use crate::matching::{are_of, is_post, states_of};
 use crate::passing::settle;
-use smi_interp::{Contact, ContactNames, Post, Ready, Task, Wanted, objects_for, posts_for};
+use smi_interp::{Contact, ContactNames, Place, Post, Ready, Task, Wanted, objects_for, posts_for};
 use smi_journal_entries::{Format, Letter, Members, Reading, Verdict};
 use sml_domain::{ActionId, ObjId, SetId, StateId, Target, Value};
 use std::alloc::{AllocError, Global};
@@ -277,7 +277,7 @@ impl Follower {
     ghost use Rattle.smi_journal_entries.specs.Sets.{AreOf, Sets, unchanged};
     ghost use Rattle.std.specs.Prelude.{[], ◌∷◌, ◌++◌};
     ghost use Rattle.smi_journal_entries.specs.Words.{HadNone, Saw, Sent, Turned};
-    ghost use Rattle.smi_audit_follower.specs.Expecting.{FollowerEnds, IsExpected};
+    ghost use Rattle.smi_audit_follower.specs.Expecting.{FollowerEnds, IsExpected, WaitsAt};
     ghost use Rattle.smi_audit_follower.specs.Followers.{IsOpen, IsInStep};
     ghost use Rattle.smi_audit_follower.specs.Following.{AreTellable, Asks, FollowerGoesOn, MayShow, MayTell, followed, seen_of};
     ghost use Rattle.smi_audit_follower.specs.Passing.{fresh_of};
@@ -377,6 +377,14 @@ impl Follower {
             Some(Contact::End(end)) => Expected::End(state_after(self.task.turn().state, *end)),
             Some(Contact::Local { .. }) | None => unreachable!(),
         }
+    }
+
+    /// The place of the instruction by which the action shows that, or ends: for people to find it in the text. The cost
+    /// is constant.
+    pub fn place(&self) -> Place
+        ensures { WaitsAt self.now result }
+    {
+        self.task.place()
     }
 
     /// Continues with a post, where sets have these members, or returns None if the action may not post this request

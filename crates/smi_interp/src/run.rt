@@ -100,7 +100,8 @@ impl Run {
     /// Begins, with no move made, at the block that a state declares for the action of a letter.
     pub fn open(&mut self, state: StateId, letter: Letter)
         requires blank { IsBlank self.old }
-        requires declared { IsTrue (is_some (block_at (arc_value self.old.domain) self.old.turn.object state letter.action)) }
+        requires declared { IsTrue (is_some (block_at (arc_value self.old.domain) self.old.turn.object state
+            letter.action)) }
         ensures sound { RunIsSound self.new }
         ensures task { task_of self.new ≡ task_begun (arc_value self.old.domain) self.old.turn.object state letter
             self.old.params.items }

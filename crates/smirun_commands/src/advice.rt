@@ -2,6 +2,7 @@
 
 use crate::audit::LONGEST_JOURNAL;
 use crate::fault::Fault;
+use crate::print_check::Difference;
 use crate::requests::{explain_bad_lines, explain_requests};
 use explain_files::{explain_check, explain_good, explain_read};
 use explain_lines::{
@@ -52,6 +53,15 @@ impl Advice {
         if self.is_wanted {
             let mut failed = false;
             explain_good(file, text, &mut self.text, &mut failed);
+        }
+    }
+
+    /// Advises on how the text of a domain file differs from what would be printed of it. The cost is the length of
+    /// the text up to the difference, and of the line in both texts.
+    pub(crate) fn of_difference(&mut self, file: &str, difference: &Difference<'_>) {
+        if self.is_wanted {
+            let mut failed = false;
+            difference.explain(file, &mut self.text, &mut failed);
         }
     }
 

@@ -9,10 +9,10 @@ ghost use Rattle.smirun_commands.specs.declared.audit.TheConstants.{LONGEST_JOUR
 
 use crate::advice::Advice;
 use crate::fault::Fault;
-use crate::loading::load_domain;
+use crate::loading::{LoadedDomain, load_with_text};
 use crate::status::{DONE, ILLEGAL};
 use crate::text::load_prefix;
-use explain_journals::explain;
+use explain_journals::{DomainText, explain};
 use smi_audit::{Judgement, audit};
 use smi_journal::read_journal;
 use sml_domain::Domain;
@@ -52,8 +52,8 @@ pub fn run_audit<'a, R: Files + AllocGlobal, I: Read, W: Write, E: Write>(
 ) -> Result<u8, Fault<'a>>
     ensures { IfOk result (λ status. status ≤ 4) }
 {
-    let domain = match load_domain(rt, input, options.file, advice) {
-        Ok(domain) => domain,
+    let LoadedDomain { domain, text } = match load_with_text(rt, input, options.file, advice) {
+        Ok(loaded) => loaded,
         Err(fault) => return Err(fault),
     };
     let bytes = match load_journal(rt, input, options.journal) {
@@ -63,6 +63,7 @@ pub fn run_audit<'a, R: Files + AllocGlobal, I: Read, W: Write, E: Write>(
     let judged = judge_bytes(
         rt.alloc(),
         &domain,
+        text.as_slice(),
         options,
         bytes.as_slice(),
         output,
@@ -72,19 +73,22 @@ pub fn run_audit<'a, R: Files + AllocGlobal, I: Read, W: Write, E: Write>(
         advice.of_journal(&domain, options.journal, bytes.as_slice(), fault);
     }
     drop(domain);
+    drop(text);
     drop(bytes);
     judged
 }
 
 /// Judges the bytes of a journal by a domain, writes the line of what the judge says to its end, and returns the exit
-/// status. If the options ask for it, the explanation of an illegal line then goes to `errors`. If memory runs out for
-/// that, this is told there too, and the status stays that of the journal, as its line is written.
+/// status. If the options ask for it, the explanation of an illegal line then goes to `errors`, with the place in the
+/// domain's text that it is about. If memory runs out for that, this is told there too, and the status stays that of the
+/// journal, as its line is written.
 ///
 /// The cost is that of judging, and once more if it is explained. The error is the fault of the journal, by its
 /// path, `Output` or `Memory`.
 pub fn judge_bytes<'a, W: Write, E: Write>(
     heap: Global,
     domain: &Arc<Domain>,
+    text: &[u8],
     options: &AuditOptions<'a>,
     bytes: &[u8],
     output: &mut W,
@@ -105,7 +109,11 @@ pub fn judge_bytes<'a, W: Write, E: Write>(
         return Err(fault);
     }
     if options.explain {
-        tell_against(heap, domain, bytes, judgement, errors);
+        let text = DomainText {
+            file: options.file,
+            bytes: text,
+        };
+        tell_against(heap, domain, text, bytes, judgement, errors);
     }
     Ok(status_of(judgement))
 }
@@ -125,26 +133,29 @@ fn status_of(judgement: Judgement) -> u8
 fn tell_against<E: Write>(
     heap: Global,
     domain: &Arc<Domain>,
+    text: DomainText<'_>,
     bytes: &[u8],
     judgement: Judgement,
     errors: &mut E,
 ) {
-    if explain_judgement(heap, domain, bytes, judgement, errors).is_err() {
+    if explain_judgement(heap, domain, Some(text), bytes, judgement, errors).is_err() {
         let _ = Fault::Memory.tell(errors);
     }
 }
 
-// Writes the explanation of the illegal line, if there is one. A fault of the writer changes nothing.
+// Writes the explanation of the illegal line, if there is one, with its place in the domain's text if that is there. A
+// fault of the writer changes nothing.
 pub(crate) fn explain_judgement<E: Sink>(
     heap: Global,
     domain: &Arc<Domain>,
+    text: Option<DomainText<'_>>,
     bytes: &[u8],
     judgement: Judgement,
     errors: &mut E,
 ) -> Result<(), AllocError> {
-    let Judgement::Illegal { line, rule } = judgement else {
+    if judgement == Judgement::Legal {
         return Ok(());
-    };
+    }
     let Ok((format, journal)) = read_journal(heap, domain, bytes) else {
         return Err(AllocError);
     };
@@ -154,9 +165,9 @@ pub(crate) fn explain_judgement<E: Sink>(
         heap,
         format,
         shared,
+        text,
         journal.entries(),
-        line,
-        rule,
+        judgement,
         errors,
         &mut failed,
     )

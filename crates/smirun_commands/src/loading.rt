@@ -27,6 +27,30 @@ pub fn load_domain<'a, R: Files + AllocGlobal, I: Read>(
     }
 }
 
+/// A domain that was loaded, and its text.
+#[derive(Drop)]
+pub(crate) struct LoadedDomain {
+    pub domain: Arc<Domain>,
+    pub text: Vec<u8>,
+}
+
+/// The domain of a file as of `load_domain`, with its text.
+pub(crate) fn load_with_text<'a, R: Files + AllocGlobal, I: Read>(
+    rt: &R,
+    input: &mut I,
+    file: &'a str,
+    advice: &mut Advice,
+) -> Result<LoadedDomain, Fault<'a>> {
+    let text = match load_text(rt, input, file) {
+        Ok(text) => text,
+        Err(error) => return Err(Fault::of_input(file, &error)),
+    };
+    match advised_domain(rt.alloc(), file, text.as_slice(), advice) {
+        Ok(domain) => Ok(LoadedDomain { domain, text }),
+        Err(fault) => Err(fault),
+    }
+}
+
 // The domain of the text of a file. What is advised on a fault goes to the advice.
 fn advised_domain<'a>(
     heap: Global,

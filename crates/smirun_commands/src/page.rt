@@ -90,7 +90,7 @@ fn texts_of(
     judgement: Judgement,
 ) -> Result<Texts, AllocError> {
     let mut reason = Vec::new(heap);
-    explain_judgement(heap, domain, bytes, judgement, &mut reason)?;
+    explain_judgement(heap, domain, None, bytes, judgement, &mut reason)?;
     let mut list = Vec::new(heap);
     let mut failed = false;
     tell_list(&mut list, &mut failed, domain);

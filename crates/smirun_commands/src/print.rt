@@ -1,5 +1,5 @@
 //! The command `print`: a domain file goes in, and its canonical text comes out.
-ghost use Rattle.std.specs.Prelude.{◌≡◌, ◌≢◌, Err, IfErr, List, OnErr, OnOk};
+ghost use Rattle.std.specs.Prelude.{◌≡◌, ◌≢◌, ◌≤◌, Err, IfErr, IfOk, List, OnErr, OnOk};
 ghost use Rattle.sml_text.specs.Written.{Wrote, WroteFront};
 ghost use Rattle.sml_tree.specs.Syntax.{ItemData};
 ghost use Rattle.sml_read.specs.Promise.{IsFileOf};
@@ -8,6 +8,9 @@ ghost use Rattle.smirun_commands.specs.Refused.{IsTextFault};
 
 use crate::advice::Advice;
 use crate::fault::Fault;
+use crate::print_check::check_print;
+use crate::print_kept::print_kept;
+use crate::status::DONE;
 use crate::text::load_text;
 use bumpalo::Bump;
 use sml_print::{PrintFault, write_to};
@@ -15,35 +18,78 @@ use std::alloc::{Allocator, Global};
 use std::fs::Files;
 use std::io::{BufWriter, Read, Write};
 
-/// Prints the canonical text of a domain file, which is read and not checked. At a fault of the
-/// output a prefix of the text is written. What is read is passed to `print_text`, and the advice on it goes to
+/// What `print` is asked to write. The text is a word of a command line.
+#[derive(Drop)]
+pub struct PrintOptions<'a> {
+    /// The path of the domain file, or `-`.
+    pub file: &'a str,
+    /// Whether it is explained why the text is refused, or how it differs from what would be printed.
+    pub explain: bool,
+    /// Whether the text is compared with what would be printed, and nothing is printed.
+    pub check: bool,
+    /// Whether the comments and the blank lines of the text are printed too.
+    pub keep: bool,
+}
+
+/// Prints the canonical text of a domain file, which is read and not checked, and returns the exit status. At a fault
+/// of the output a prefix of the text is written. What is read is passed to `print_text`, and the advice on it goes to
 /// `advice`.
+///
+/// With `check` a text that differs from what would be printed is told in a line, with the status of a refused one.
 pub fn run_print<'a, R: Files + AllocGlobal, I: Read, W: Write>(
     rt: &R,
-    file: &'a str,
+    options: &PrintOptions<'a>,
     input: &mut I,
     output: &mut W,
     advice: &mut Advice,
-) -> Result<(), Fault<'a>> {
-    match load_text(rt, input, file) {
-        Ok(text) => print_advised(rt.alloc(), file, text.as_slice(), output, advice),
-        Err(error) => Err(Fault::of_input(file, &error)),
+) -> Result<u8, Fault<'a>>
+    ensures { IfOk result (λ status. status ≤ 1) }
+{
+    match load_text(rt, input, options.file) {
+        Ok(text) => print_advised(rt.alloc(), options, text.as_slice(), output, advice),
+        Err(error) => Err(Fault::of_input(options.file, &error)),
     }
 }
 
-// Prints the text to its end. The advice on a fault of it goes to `advice`.
+// Does what is asked with the text. The advice on a fault of it goes to `advice`.
 fn print_advised<'a, W: Write>(
     heap: Global,
-    file: &'a str,
+    options: &PrintOptions<'a>,
     text: &[u8],
     output: &mut W,
     advice: &mut Advice,
-) -> Result<(), Fault<'a>> {
-    let printed = print_all(heap, file, text, output);
-    if let Err(fault) = &printed {
-        advice.of_domain(heap, file, text, fault);
+) -> Result<u8, Fault<'a>>
+    ensures { IfOk result (λ status. status ≤ 1) }
+{
+    let done = print_asked(heap, options, text, output, advice);
+    if let Err(fault) = &done {
+        advice.of_domain(heap, options.file, text, fault);
     }
-    printed
+    done
+}
+
+// Does what is asked with the text.
+fn print_asked<'a, W: Write>(
+    heap: Global,
+    options: &PrintOptions<'a>,
+    text: &[u8],
+    output: &mut W,
+    advice: &mut Advice,
+) -> Result<u8, Fault<'a>>
+    ensures { IfOk result (λ status. status ≤ 1) }
+{
+    if options.check {
+        return check_print(heap, options, text, output, advice);
+    }
+    let printed = if options.keep {
+        print_kept(heap, options.file, text, output)
+    } else {
+        print_all(heap, options.file, text, output)
+    };
+    match printed {
+        Ok(()) => Ok(DONE),
+        Err(fault) => Err(fault),
+    }
 }
 
 // Prints the text to its end.
@@ -65,8 +111,8 @@ fn print_all<'a, W: Write>(
     }
 }
 
-// Prints the text of a tree in an arena.
-fn print_in_arena<'a, W: Write>(
+/// Prints the text of a tree in an arena, as `print_text` does.
+pub(crate) fn print_in_arena<'a, W: Write>(
     heap: Global,
     file: &'a str,
     text: &[u8],

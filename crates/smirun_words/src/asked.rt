@@ -3,16 +3,27 @@ ghost use Rattle.std.specs.Prelude.{◌≡◌, ◌≢◌, ◌≤◌, IfErr, IfOk
 ghost use Rattle.std.specs.IoError.{error_kind};
 ghost use Rattle.smirun_commands.specs.Status.{fault_status};
 
+use crate::shown::Shown;
 use crate::traced::TracedWriter;
+use show_json::JsonKind;
 use smirun_commands::{
-    Advice, AuditOptions, DONE, Fault, GraphOptions, PageOptions, StatesOptions, StepOptions,
-    WRONG_WORDS, run_audit, run_check, run_graph, run_list, run_page, run_print, run_states,
-    run_step,
+    Advice, AuditOptions, DONE, Fault, GraphOptions, PageOptions, PrintOptions, StatesOptions,
+    StepOptions, WRONG_WORDS, run_audit, run_check, run_graph, run_list, run_page, run_print,
+    run_states, run_step,
 };
 use smirun_live::{LiveHost, LiveOptions, run_live, run_live_as_lines_come};
 use smirun_run::{CheckOptions, Host, RunOptions, run_check_lines, run_run};
 use std::io;
 use std::io::{ErrorKind, Read, Write};
+
+/// A command, and how its output is written.
+#[derive(Drop)]
+pub struct Asked<'a> {
+    /// What is asked for.
+    pub command: AskedCommand<'a>,
+    /// Of which kind the lines of its output are, if each is to be written as a line of JSON.
+    pub json: Option<JsonKind>,
+}
 
 /// What the program is asked to do.
 #[derive(Drop)]
@@ -33,11 +44,8 @@ pub enum AskedCommand<'a> {
     Run(RunOptions<'a>),
     /// To run a manager on a domain, which other programs talk to.
     Live(LiveOptions<'a>),
-    /// To print the canonical text of the domain file of this path, or to say why it is refused, if that is asked for.
-    Print {
-        file: &'a str,
-        explain: bool,
-    },
+    /// To print the canonical text of a domain file, or to compare the file with it.
+    Print(PrintOptions<'a>),
     /// To list what the domain file of this path declares, or to say why it is refused, if that is asked for.
     List {
         file: &'a str,
@@ -57,13 +65,13 @@ impl AskedCommand<'_> {
     // Whether it is asked to say why a text or a line is refused.
     fn explain(&self) -> bool {
         match self {
-            AskedCommand::Check { explain, .. } | AskedCommand::Print { explain, .. } => *explain,
+            AskedCommand::Check { explain, .. } | AskedCommand::List { explain, .. } => *explain,
             AskedCommand::CheckLines { options, .. } => options.explain,
             AskedCommand::Step(options) => options.explain,
             AskedCommand::Run(options) => options.explain,
             AskedCommand::Live(options) => options.explain,
             AskedCommand::Audit(options) => options.explain,
-            AskedCommand::List { explain, .. } => *explain,
+            AskedCommand::Print(options) => options.explain,
             AskedCommand::Graph(options) => options.explain,
             AskedCommand::States(options) => options.explain,
             AskedCommand::Page(_) => false,
@@ -79,16 +87,18 @@ impl AskedCommand<'_> {
 /// nothing, since there is no place left to tell it.
 pub fn perform<R: Host + LiveHost, I: Read, W: Write, E: Write>(
     rt: &R,
-    asked: &AskedCommand<'_>,
+    asked: &Asked<'_>,
     input: &mut I,
     output: &mut W,
     errors: &mut E,
 ) -> u8
     ensures { result ≤ 4 }
 {
-    let mut advice = Advice::new(rt.alloc(), asked.explain());
-    let mut traced = TracedWriter::new(output);
-    let status = perform_advised(rt, asked, input, &mut traced, errors, &mut advice);
+    let command = &asked.command;
+    let mut advice = Advice::new(rt.alloc(), command.explain());
+    let mut shown = Shown::new(rt.alloc(), output, asked.json);
+    let mut traced = TracedWriter::new(&mut shown);
+    let status = perform_advised(rt, command, input, &mut traced, errors, &mut advice);
     traced.tell(errors);
     advice.tell(errors);
     status
@@ -109,7 +119,7 @@ fn perform_advised<R: Host + LiveHost, I: Read, W: Write, E: Write>(
     match asked {
         AskedCommand::Check { files, explain } => check(rt, files, *explain, input, output, errors),
         AskedCommand::CheckLines { options, .. } => check_lines(rt, options, input, output, errors),
-        AskedCommand::Print { file, .. } => print(rt, file, input, output, errors, advice),
+        AskedCommand::Print(options) => print(rt, options, input, output, errors, advice),
         AskedCommand::List { file, .. } => list(rt, file, input, output, errors, advice),
         AskedCommand::Graph(options) => graph(rt, options, input, output, errors, advice),
         AskedCommand::Page(options) => page(rt, options, input, output, errors, advice),
@@ -170,10 +180,10 @@ fn check_lines<R: Host + LiveHost, I: Read, W: Write, E: Write>(
     status_of(&outcome, errors)
 }
 
-// Prints the canonical text of a domain file.
+// Prints the canonical text of a domain file, or compares the file with it.
 fn print<R: Host + LiveHost, I: Read, W: Write, E: Write>(
     rt: &R,
-    file: &str,
+    options: &PrintOptions<'_>,
     input: &mut I,
     output: &mut W,
     errors: &mut E,
@@ -181,8 +191,8 @@ fn print<R: Host + LiveHost, I: Read, W: Write, E: Write>(
 ) -> u8
     ensures { result ≤ 4 }
 {
-    let outcome = run_print(rt, file, input, output, advice);
-    ended(&outcome, errors)
+    let outcome = run_print(rt, options, input, output, advice);
+    status_of(&outcome, errors)
 }
 
 // Lists what a domain file declares.

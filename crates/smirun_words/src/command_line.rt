@@ -1,11 +1,13 @@
 //! The command line.
 
-use crate::asked::AskedCommand;
+use crate::asked::{Asked, AskedCommand};
 use crate::grammar::smirun_command;
 use clap::error::ErrorKind;
 use clap::{ArgMatches, Command, Error};
+use show_json::JsonKind;
 use smirun_commands::{
-    AuditOptions, GraphOptions, PageOptions, STANDARD_INPUT, StatesOptions, StepOptions,
+    AuditOptions, GraphOptions, PageOptions, PrintOptions, STANDARD_INPUT, StatesOptions,
+    StepOptions,
 };
 use smirun_live::LiveOptions;
 use smirun_run::{CheckOptions, RunNumbers, RunOptions};
@@ -17,7 +19,7 @@ pub fn parse<'a>(
     alloc: Global,
     words: &'a [String],
     is_terminal: bool,
-) -> Result<AskedCommand<'a>, Error> {
+) -> Result<Asked<'a>, Error> {
     let mut command = smirun_command(alloc)?;
     read_words(alloc, &mut command, words, is_terminal)
 }
@@ -27,15 +29,36 @@ fn read_words<'a>(
     command: &mut Command<'a>,
     words: &'a [String],
     is_terminal: bool,
-) -> Result<AskedCommand<'a>, Error> {
+) -> Result<Asked<'a>, Error> {
     let matches = command.try_get_matches_from_mut(words)?;
     let Some(asked) = asked_of(alloc, &matches, is_terminal)? else {
         return Err(command.error(ErrorKind::MissingSubcommand, "no command is given")?);
     };
     match conflict_of(&asked) {
         Some(told) => Err(command.error(ErrorKind::ArgumentConflict, told)?),
-        None => Ok(asked),
+        None => Ok(Asked {
+            command: asked,
+            json: json_asked(&matches),
+        }),
     }
+}
+
+// The commands that write lines of JSON where that is asked for, with the kinds of their lines.
+const IN_JSON: [(&str, JsonKind); 4] = [
+    ("step", JsonKind::Steps),
+    ("run", JsonKind::Summary),
+    ("audit", JsonKind::Judgement),
+    ("list", JsonKind::Declarations),
+];
+
+// Of which kind the lines are that are to be written as JSON, if they are.
+fn json_asked(matches: &ArgMatches<'_>) -> Option<JsonKind> {
+    for (name, kind) in IN_JSON {
+        if let Some(command) = matches.subcommand_matches(name) {
+            return command.get_flag("json").then_some(kind);
+        }
+    }
+    None
 }
 
 // Why paths of a command line do not go together, if they do not.
@@ -80,7 +103,8 @@ fn inputs(asked: &AskedCommand<'_>) -> usize {
                 .saturating_add(inputs_in(options.scripts.as_slice()))
                 .saturating_add(inputs_in(options.schedules.as_slice()))
         }
-        AskedCommand::Print { file, .. } | AskedCommand::List { file, .. } => inputs_in(&[file]),
+        AskedCommand::Print(options) => inputs_in(&[options.file]),
+        AskedCommand::List { file, .. } => inputs_in(&[file]),
         AskedCommand::Graph(options) => inputs_in(&[options.file, options.journal.unwrap_or("")]),
         AskedCommand::Page(options) => inputs_in(&[options.file, options.journal]),
         AskedCommand::States(options) => inputs_in(&[options.file, options.journal]),
@@ -163,10 +187,12 @@ fn files_to_check<'a>(
 }
 
 fn file_to_print<'a>(print: &ArgMatches<'a>) -> Option<AskedCommand<'a>> {
-    Some(AskedCommand::Print {
+    Some(AskedCommand::Print(PrintOptions {
         file: print.get_str("FILE")?,
         explain: print.get_flag("explain"),
-    })
+        check: print.get_flag("check"),
+        keep: print.get_flag("keep"),
+    }))
 }
 
 fn file_to_list<'a>(list: &ArgMatches<'a>) -> Option<AskedCommand<'a>> {

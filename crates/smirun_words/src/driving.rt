@@ -29,10 +29,12 @@ pub fn drive<
 {
     let is_terminal = errors.is_terminal();
     match parse(rt.alloc(), words, is_terminal) {
-        Ok(AskedCommand::Live(options)) if !options.in_turn => {
-            perform_live(rt, &options, input, output, errors)
-        }
-        Ok(asked) => perform(rt, &asked, &mut input, output, errors),
+        Ok(asked) => match &asked.command {
+            AskedCommand::Live(options) if !options.in_turn => {
+                perform_live(rt, options, input, output, errors)
+            }
+            _ => perform(rt, &asked, &mut input, output, errors),
+        },
         Err(error) => answer(&error, output, errors),
     }
 }

@@ -7,7 +7,7 @@ use crate::help::graph::{COUNT, DRAWN_JOURNAL, FROM, GRAPH, GRAPH_MORE, MEMBERS,
 use crate::help::list::{LIST, LIST_MORE};
 use crate::help::live::{IN_TURN, KEPT_LOG, LIVE, LIVE_FILE, LIVE_MORE, RESUME};
 use crate::help::page::{PAGE, PAGE_MORE, SHOWN_JOURNAL};
-use crate::help::print::{PRINT, PRINT_MORE};
+use crate::help::print::{COMPARE, KEEP, PRINT, PRINT_MORE, WHY_DIFFERS};
 use crate::help::run::{
     PROGRESS, RUN, RUN_JOURNAL, RUN_MORE, RUN_STATES, RUN_STRICT, SCRIPT, WORKERS,
 };
@@ -15,7 +15,7 @@ use crate::help::states::{AT, STATES_COMMAND, STATES_MORE, TOLD_JOURNAL, WITH};
 use crate::help::step::{
     CAPACITY, KEPT_JOURNAL, SCHEDULE, STARTS, STATES, STEP, STEP_MORE, STRICT,
 };
-use crate::help::{WHY_LINES, WHY_REFUSED, WHY_TEXTS};
+use crate::help::{JSON, WHY_LINES, WHY_REFUSED, WHY_TEXTS};
 use clap::{Arg, ArgAction, Command, value_parser};
 use smirun_commands::{LONGEST_JOURNAL, MAX_CAPACITY, MAX_STARTS};
 use smirun_run::MAX_WORKERS;
@@ -66,7 +66,9 @@ fn print_command<'a>(alloc: Global) -> Result<Command<'a>, AllocError> {
         .about(PRINT)
         .after_help(PRINT_MORE)
         .arg(file(alloc))?
-        .arg(explain(alloc, WHY_REFUSED))
+        .arg(compared(alloc))?
+        .arg(keep(alloc))?
+        .arg(explain(alloc, WHY_DIFFERS))
 }
 
 fn list_command<'a>(alloc: Global) -> Result<Command<'a>, AllocError> {
@@ -74,7 +76,8 @@ fn list_command<'a>(alloc: Global) -> Result<Command<'a>, AllocError> {
         .about(LIST)
         .after_help(LIST_MORE)
         .arg(file(alloc))?
-        .arg(explain(alloc, WHY_REFUSED))
+        .arg(explain(alloc, WHY_REFUSED))?
+        .arg(json(alloc))
 }
 
 fn graph_command<'a>(alloc: Global) -> Result<Command<'a>, AllocError> {
@@ -120,7 +123,8 @@ fn step_command<'a>(alloc: Global) -> Result<Command<'a>, AllocError> {
         .arg(kept_journal(alloc))?
         .arg(explain(alloc, WHY_LINES))?
         .arg(strict(alloc, STRICT))?
-        .arg(states(alloc, STATES))
+        .arg(states(alloc, STATES))?
+        .arg(json(alloc))
 }
 
 fn run_command<'a>(alloc: Global) -> Result<Command<'a>, AllocError> {
@@ -136,7 +140,8 @@ fn run_command<'a>(alloc: Global) -> Result<Command<'a>, AllocError> {
         .arg(progress(alloc))?
         .arg(explain(alloc, WHY_LINES))?
         .arg(strict(alloc, RUN_STRICT))?
-        .arg(states(alloc, RUN_STATES))
+        .arg(states(alloc, RUN_STATES))?
+        .arg(json(alloc))
 }
 
 fn live_command<'a>(alloc: Global) -> Result<Command<'a>, AllocError> {
@@ -158,7 +163,8 @@ fn audit_command<'a>(alloc: Global) -> Result<Command<'a>, AllocError> {
         .after_help(AUDIT_MORE)
         .arg(file(alloc))?
         .arg(journal(alloc))?
-        .arg(explain(alloc, EXPLAIN))
+        .arg(explain(alloc, EXPLAIN))?
+        .arg(json(alloc))
 }
 
 fn file<'a>(alloc: Global) -> Arg<'a> {
@@ -204,6 +210,27 @@ fn states<'a>(alloc: Global, help: &'static str) -> Arg<'a> {
         .long("states")
         .action(ArgAction::SetTrue)
         .help(help)
+}
+
+fn json<'a>(alloc: Global) -> Arg<'a> {
+    Arg::new(alloc, "json")
+        .long("json")
+        .action(ArgAction::SetTrue)
+        .help(JSON)
+}
+
+fn compared<'a>(alloc: Global) -> Arg<'a> {
+    Arg::new(alloc, "check")
+        .long("check")
+        .action(ArgAction::SetTrue)
+        .help(COMPARE)
+}
+
+fn keep<'a>(alloc: Global) -> Arg<'a> {
+    Arg::new(alloc, "keep")
+        .long("keep")
+        .action(ArgAction::SetTrue)
+        .help(KEEP)
 }
 
 fn drawn_journal<'a>(alloc: Global) -> Arg<'a> {

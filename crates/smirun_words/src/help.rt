@@ -37,6 +37,9 @@ that is not legal.";
 
 pub const FILE: &str = "The domain file, or - for standard input";
 
+pub const JSON: &str =
+    "Writes each line of standard output as a JSON object on a line, with the words as its fields";
+
 pub const WHY_REFUSED: &str =
     "Say on standard error why a file is refused: line, column, and what could stand there instead";
 

@@ -6,6 +6,7 @@ mod command_line;
 mod driving;
 mod grammar;
 mod help;
+mod shown;
 mod traced;
 
 pub use asked::refuse_words;

@@ -139,7 +139,8 @@ impl NameTables {
         requires classes { (q : List ℕ) → get (pointwise nat_eq) self.old.classes q ≡ None }
         requires objects { (q : List ℕ) → get (pointwise nat_eq) self.old.objects q ≡ None }
         requires groups { (q : List ℕ) → get (pointwise nat_eq) self.old.groups q ≡ None }
-        ensures { OnOk result (HasTables (map item_content items.now) self.new.classes self.new.objects self.new.groups) }
+        ensures { OnOk result (HasTables (map item_content items.now) self.new.classes self.new.objects
+            self.new.groups) }
     {
         note_items(&mut self.classes, ItemKind::Class, items)?;
         note_items(&mut self.objects, ItemKind::Object, items)?;

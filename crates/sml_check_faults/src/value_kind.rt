@@ -151,7 +151,8 @@ impl<'a, A: Allocator + Clone> Tables<'a, A> {
         param: &Name,
         object: &Name,
     ) -> bool
-        ensures { result ≡ faults.other_kind_there (file_content self.now.file.now) action.now kind param.now object.now }
+        ensures { result ≡ faults.other_kind_there (file_content self.now.file.now) action.now kind param.now
+            object.now }
     {
         match self.action_of(action, object) {
             Some(called) => match action_param(called, param) {

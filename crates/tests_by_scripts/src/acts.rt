@@ -5,6 +5,7 @@ use crate::explained::compare;
 use crate::limits::tell_untold;
 use crate::outcomes::tell_run;
 use crate::place::Place;
+use crate::rebuilt::rebuild;
 use smirun_live::LiveHost;
 use smirun_run::Host;
 use std::alloc::AllocError;
@@ -37,6 +38,8 @@ pub fn perform<R: Host + LiveHost>(rt: &R, line: &str, place: &mut Place) -> io:
         "~" => call_with_no_memory(rt, rest, place),
         // performs two command lines, and tells it if their results differ: LINE | LINE
         "=" => compare(rt, rest, place),
+        // performs a command line, and again with `--json`: tells whether that has all of its text
+        "{" => rebuild(rt, rest, place),
         // does something with a file
         "@" => handle(rt, rest, place),
         _ => Ok(()),

@@ -8,6 +8,7 @@ mod explained;
 mod limits;
 mod outcomes;
 mod place;
+mod rebuilt;
 mod rows;
 mod writers;
 

@@ -20,15 +20,16 @@ fn told_of(alloc: Global, setting: Setting, text: &[u8], place: Place) -> Option
     let domain = domain_of(alloc, text_of(setting)).ok()?;
     let (format, journal) = read_journal(alloc, &domain, text).ok()?;
     let (line, rule) = place;
+    let judgement = Judgement::Illegal { line, rule };
     let mut told = Vec::new(alloc);
     let mut failed = false;
     explain(
         alloc,
         format,
         domain,
+        None,
         journal.entries(),
-        line,
-        rule,
+        judgement,
         &mut told,
         &mut failed,
     )

@@ -6,7 +6,7 @@ Judges a journal: whether each of its lines may stand where it stands, or which 
 pub const JOURNAL: &str = "The journal: a text as `step --journal` writes it; - is standard input";
 
 pub const EXPLAIN: &str =
-    "Say on standard error what stands against an illegal line, and which earlier line";
+    "Say on standard error what stands against an illegal line, and which earlier line or instruction";
 
 pub const AUDIT_MORE: &str = "\
 FILE, the domain file, has at most 1048576 bytes, and JOURNAL at most 67108864, both ASCII without a
@@ -15,6 +15,8 @@ byte order mark. What is written to standard output is one line:
   Legal              each entry of the journal may follow those before it, by the domain
   Illegal LINE RULE  LINE is the first line whose entry may not, and RULE the first rule that it
                      breaks; lines count from 1, and the first is the header
+
+With `--json` this line is {\"line\":\"Legal\"}, or {\"line\":\"Illegal\",\"at\":LINE,\"rule\":\"RULE\"}.
 
 The first line of a journal is `smi-journal 2`, or `smi-journal 1` in journals of earlier versions. Each
 further line is an entry; it has one blank between words, names in capitals, numbers without leading zeros,
@@ -72,7 +74,8 @@ mailbox has room for, so that `refused full` is not judged; a second line `wait 
   seen RUN HV=OFF
 
 is told as `Illegal 4 Busy`: HV has not ended what it was sent. With `--explain` standard error then has the
-line, what stands against it, and the earlier line that this rests on:
+line, what stands against it, where it is about the next instruction of an action (Split and Meaning) the place
+of this in FILE, and the earlier line that this rests on:
 
   line 4: seen RUN HV=OFF
   what RUN sent to HV has not ended.

@@ -22,6 +22,13 @@ For example, `smirun list FILE | grep '^action PSU '` finds what a supply may be
   action PSU OFF SWITCH_ON (int VOLTS, int RAMP = 10)
   action PSU ON SWITCH_OFF
 
+With `--json` each line is an object of JSON, on a line of its own: its field `line` is the first word, and the
+others are `class`, `state`, `action`, `object`, `set`, `name`, `kind`, `value`; `associated`, `initial` and
+`dead`, which are true or false; `parameters`, a list of objects with `kind`, `name`, and `value` where there is a
+default; and `objects`, a list of names. For example:
+
+  {\"line\":\"state\",\"class\":\"PSU\",\"state\":\"OFF\",\"initial\":true,\"dead\":false}
+
 A file that is refused is told on standard error, by FILE and one of: `read NO KIND at OFFSET`, `check NO
 KIND NAME` (`smirun check --help` has the kinds), `unreadable`. `output fault` says that the output
 cannot be written, `memory` that there is not enough memory.

@@ -90,6 +90,12 @@ accepted wait for it, and how many objects have an open action:
 With `--states` these lines are written behind the summary, as `smirun step --help` has them: `param` for every
 parameter, `open` for every open action with what it waits for, and `member` for sets that changed.
 
+With `--json` each of these lines is an object of JSON, on a line of its own: its field `line` is the first word,
+and the others are `end`, `object`, `state`, `sender` and `count`; those of `param`, `open` and `member` are as
+`smirun step --help` has them. For example:
+
+  {\"line\":\"accepted\",\"sender\":\"RUN\",\"object\":\"HV\",\"count\":1}
+
 With `--journal PATH` the file PATH is made, or what stands there is deleted, once the summary is written, and
 the journal of the run is written to it: what was started, sent, seen, put into sets, taken out of them,
 ended and killed, in its order.

@@ -143,6 +143,16 @@ With `--states` these lines follow what the schedule writes:
   member SET OBJECT1 ..           the members of SET, where they are not the declared ones; SET alone where
                                   there are none
 
+With `--json` each of these lines is an object of JSON, on a line of its own. Its field `line` is the first word,
+and the others are, in the order of the text: `object`, `sender`, `number`, `action` and `args`, a list of objects
+with `name` and `value`; of a post `target`, and `refused` in place of `number`; of `set` and `param` `name` and
+`value`; of `seen` `read`, a list of objects with `object` and `state`; `state`, or `skipped`, which is true; `set`
+and `member`; of a kill `by`; of `refused` `kind`; of `open` `waits`, a list of names, or `device`, which is true;
+`count`; and of `member` `set` and `objects`. Ints and numbers are numbers, all other words strings. For example:
+
+  {\"line\":\"set\",\"object\":\"RUN\",\"name\":\"TRIES\",\"value\":1}
+  {\"line\":\"seen\",\"object\":\"RUN\",\"read\":[{\"object\":\"HV\",\"state\":\"ON\"}]}
+
 With `--explain` standard error has why, behind the line of each refused step: the place in SCHEDULE as
 SCHEDULE:LINE:COLUMN, both counted from 1, one sentence, the line and a caret under the place. With `--strict`
 the exit status is 1 where a line was refused, so that a schedule can be a test.

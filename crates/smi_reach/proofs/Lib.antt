@@ -1,0 +1,6 @@
+pub mod Falls
+pub mod Stays
+pub mod Spots
+pub mod Tables
+pub mod Lists
+pub mod Spread

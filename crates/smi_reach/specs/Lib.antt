@@ -1,0 +1,5 @@
+pub mod Falling
+pub mod States
+pub mod Places
+pub mod Ways
+pub mod Found
