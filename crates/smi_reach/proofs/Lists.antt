@@ -8,16 +8,16 @@ use Rattle.std.proofs.lemmas.List.Edits.{length-remove, get_or-remove_below, get
 use Rattle.sml_domain.specs.Domain.{Domain, Action}
 use Rattle.sml_domain.specs.Lookups.{tree_of_block}
 use Rattle.smi_reach.specs.Falling.{ends_of}
-use Rattle.smi_reach.specs.Found.{Adds, AddsEnds}
+use Rattle.smi_reach.specs.Found.{AddsMissing, AddsEnds}
 
 pub in_none : {X : Type 0} (x : X) → Contains [] x → ⊥
 in_none x h = let lt = h.1 in omega arith
 
-pub adds_none : (old : List ℕ) → Adds old [] old
+pub adds_none : (old : List ℕ) → AddsMissing old [] old
 adds_none old = record { keeps = λ s h. h; adds = λ s h. absurd (in_none s h); only = λ s h. inl h }
 
 -- one that is there already
-pub adds_there : (old front l : List ℕ) (x : ℕ) → Adds old front l → Contains l x → Adds old (front ++ x ∷ []) l
+pub adds_there : (old front l : List ℕ) (x : ℕ) → AddsMissing old front l → Contains l x → AddsMissing old (front ++ x ∷ []) l
 adds_there old front l x k has = record {
   keeps = k.keeps;
   adds = λ s h. ⊎_elim (k.adds s) (λ e. subst (Contains l) e has) (Contains-push_cases front x s h);
@@ -25,7 +25,7 @@ adds_there old front l x k has = record {
 }
 
 -- one that is not
-pub adds_new : (old front l : List ℕ) (x : ℕ) → Adds old front l → Adds old (front ++ x ∷ []) (l ++ x ∷ [])
+pub adds_new : (old front l : List ℕ) (x : ℕ) → AddsMissing old front l → AddsMissing old (front ++ x ∷ []) (l ++ x ∷ [])
 adds_new old front l x k = record {
   keeps = λ s h. Contains-append_left l (x ∷ []) s (k.keeps s h);
   adds = λ s h. ⊎_elim (λ g. Contains-append_left l (x ∷ []) s (k.adds s g)) (λ e. subst (Contains (l ++ x ∷ [])) e (Contains-push l x)) (Contains-push_cases front x s h);
@@ -37,7 +37,7 @@ pub ends_none : (d : Domain) (old : List ℕ) → AddsEnds d [] old old
 ends_none d old = record { keeps = λ s h. h; adds = λ s h. absurd (in_none h.0 h.1); only = λ s h. inl h }
 
 -- one more action
-pub ends_more : (d : Domain) (front : List Action) (a : Action) (old l new : List ℕ) → AddsEnds d front old l → Adds l (ends_of (tree_of_block d a.block)) new → AddsEnds d (front ++ a ∷ []) old new
+pub ends_more : (d : Domain) (front : List Action) (a : Action) (old l new : List ℕ) → AddsEnds d front old l → AddsMissing l (ends_of (tree_of_block d a.block)) new → AddsEnds d (front ++ a ∷ []) old new
 ends_more d front a old l new k m = record {
   keeps = λ s h. m.keeps s (k.keeps s h);
   adds = λ s h. ⊎_elim (λ g. m.keeps s (k.adds s (h.0, g, h.2))) (λ e. m.adds s (subst (λ y. Contains (ends_of (tree_of_block d y.block)) s) (sym e) h.2)) (Contains-push_cases front a h.0 h.1);

@@ -18,7 +18,7 @@ use Rattle.smi_meaning.specs.Quiet.{to_some, quiet, said_of_block}
 use Rattle.smi_meaning.specs.Steps.{with_rest, After, Leads}
 use Rattle.smi_meaning.proofs.Quieted.{quiet_rest}
 use Rattle.smi_reach.specs.Falling.{falls_through}
-use Rattle.smi_reach.specs.Places.{is_passed, IsInstrAt, IsReached, first, next, branch, other, is_nobody, is_silent, IsAtInstr, MovesLeadToThem}
+use Rattle.smi_reach.specs.Places.{is_instr_passed, IsInstrAt, IsPlaceReached, first, next, branch, other, is_nobody, is_silent, IsAtInstr, MovesLeadToThem}
 use Rattle.smi_reach.proofs.Falls.{both_true, left_or, right_or}
 
 -- a place, and the places behind the `if`s that are under way, the innermost first
@@ -41,13 +41,13 @@ behind d (p ∷ ps) = with_rest (left d p) (behind d ps)
 -- where the block at a place falls through, the next place is reached, and so on
 abbrev Follow : Domain → ℕ → Spot → List Spot → Type 0
 Follow d root p [] = Unit {0}
-Follow d root p (q ∷ qs) = falls_through (left d p) ≡ true → IsReached d root q.block q.index × Follow d root q qs
+Follow d root p (q ∷ qs) = falls_through (left d p) ≡ true → IsPlaceReached d root q.block q.index × Follow d root q qs
 
 -- where an action is
 record Stands (format : Format) (d : Domain) (root : ℕ) (b : Program) : Type 0 where
   here : Spot
   later : List Spot
-  reached : IsReached d root here.block here.index
+  reached : IsPlaceReached d root here.block here.index
   follow : Follow d root here later
   is : b ≡ said_of_block format d (with_rest (left d here) (behind d later))
 
@@ -55,7 +55,7 @@ record Stands (format : Format) (d : Domain) (root : ℕ) (b : Program) : Type 0
 record StandsAt (format : Format) (d : Domain) (root : ℕ) (b : Program) : Type 0 where
   here : Spot
   later : List Spot
-  reached : IsReached d root here.block here.index
+  reached : IsPlaceReached d root here.block here.index
   follow : Follow d root here later
   instr : Instruction
   there : IsInstrAt d here.block here.index instr
@@ -100,7 +100,7 @@ silent_said One d (Waits names) rest k e = absurd (cc e)
 silent_said One d (Changes add o set) rest k e = absurd (cc e)
 
 -- so is one that goes on to the next place, where nothing else follows
-silent_passes : (format : Format) (d : Domain) (instr : Instruction) → is_silent format d instr ≡ true → is_passed d instr ≡ true
+silent_passes : (format : Format) (d : Domain) (instr : Instruction) → is_silent format d instr ≡ true → is_instr_passed d instr ≡ true
 silent_passes Two d instr e = absurd (cc e)
 silent_passes One d (Assigns p v) e = refl
 silent_passes One d (Sends t a args) e = refl
@@ -116,7 +116,7 @@ second_true true b e = e
 second_true false b e = absurd (cc e)
 
 -- a block that falls through behind an instruction that is passed falls through before it
-falls_before : (d : Domain) (instr : Instruction) (rest : Program) → is_passed d instr ≡ true → falls_through rest ≡ true → falls_through (with_instr (trees_of d.blocks) instr rest) ≡ true
+falls_before : (d : Domain) (instr : Instruction) (rest : Program) → is_instr_passed d instr ≡ true → falls_through rest ≡ true → falls_through (with_instr (trees_of d.blocks) instr rest) ≡ true
 falls_before d (Assigns p v) rest e h = h
 falls_before d (Sends t a args) rest e h = h
 falls_before d (SendsToNone set) rest e h = h
@@ -127,14 +127,14 @@ falls_before d (Waits names) rest e h = h
 falls_before d (Changes add o set) rest e h = h
 
 -- what follows a place follows the next
-follow_on : (d : Domain) (root b i : ℕ) (instr : Instruction) (later : List Spot) → IsInstrAt d b i instr → is_passed d instr ≡ true → Follow d root (at b i) later → Follow d root (at b (i + 1)) later
+follow_on : (d : Domain) (root b i : ℕ) (instr : Instruction) (later : List Spot) → IsInstrAt d b i instr → is_instr_passed d instr ≡ true → Follow d root (at b i) later → Follow d root (at b (i + 1)) later
 follow_on d root b i instr [] there e h = tt
 follow_on d root b i instr (q ∷ qs) there e h =
     λ falls. h (ap falls_through (left_here d b i instr there) ∙ falls_before d instr (left d (at b (i + 1))) e falls)
 
 -- and a branch, behind which the next place follows
-follow_in : (d : Domain) (root b i : ℕ) (f : Formula) (p q x : ℕ) (later : List Spot) → IsInstrAt d b i (Chooses f p q) → IsReached d root b i
-    → (falls_through (left d (at x 0)) ≡ true → is_passed d (Chooses f p q) ≡ true) → Follow d root (at b i) later → Follow d root (at x 0) (at b (i + 1) ∷ later)
+follow_in : (d : Domain) (root b i : ℕ) (f : Formula) (p q x : ℕ) (later : List Spot) → IsInstrAt d b i (Chooses f p q) → IsPlaceReached d root b i
+    → (falls_through (left d (at x 0)) ≡ true → is_instr_passed d (Chooses f p q) ≡ true) → Follow d root (at b i) later → Follow d root (at x 0) (at b (i + 1) ∷ later)
 follow_in d root b i f p q x later there reached passes h =
     λ falls. (next d root b i (Chooses f p q) reached there (passes falls), follow_on d root b i (Chooses f p q) later there (passes falls) h)
 
@@ -143,7 +143,7 @@ follow_in d root b i f p q x later there reached passes h =
 -- the place behind is reached, and what follows it
 abbrev Popped : Domain → ℕ → List Spot → Type 0
 Popped d root [] = Unit {0}
-Popped d root (q ∷ qs) = IsReached d root q.block q.index × Follow d root q qs
+Popped d root (q ∷ qs) = IsPlaceReached d root q.block q.index × Follow d root q qs
 
 popped : (d : Domain) (root : ℕ) (p : Spot) (later : List Spot) → left d p ≡ Nothing → Follow d root p later → Popped d root later
 popped d root p [] e h = tt
@@ -165,7 +165,7 @@ get_here (y ∷ ys) (suc i) x rest e = get_here ys i x rest e
 
 -- from a place on whose block has these instructions left
 walk : (format : Format) (d : Domain) (root b : ℕ) (later : List Spot) (prog : Program) → (prog ≡ said_of_block format d (behind d later) → Popped d root later → Result format d root prog)
-    → (is : List Instruction) (i : ℕ) → is ≡ drop i (instrs_at d.blocks b) → IsReached d root b i → Follow d root (at b i) later
+    → (is : List Instruction) (i : ℕ) → is ≡ drop i (instrs_at d.blocks b) → IsPlaceReached d root b i → Follow d root (at b i) later
     → prog ≡ said_of_block format d (with_rest (left d (at b i)) (behind d later)) → Result format d root prog
 walk format d root b later prog over [] i e reached follow is =
     let none = nothing_here d b i (get_none (instrs_at d.blocks b) i e) in
@@ -201,7 +201,7 @@ said_nothing One d = refl
 said_nothing Two d = refl
 
 -- where an action stands, or that nothing is left of it
-settle : (format : Format) (d : Domain) (root : ℕ) (later : List Spot) (p : Spot) (prog : Program) → IsReached d root p.block p.index → Follow d root p later
+settle : (format : Format) (d : Domain) (root : ℕ) (later : List Spot) (p : Spot) (prog : Program) → IsPlaceReached d root p.block p.index → Follow d root p later
     → prog ≡ said_of_block format d (with_rest (left d p) (behind d later)) → Result format d root prog
 settle format d root [] p prog reached follow is =
     walk format d root p.block [] prog (λ e h. inl (e ∙ said_nothing format d)) (drop p.index (instrs_at d.blocks p.block)) p.index refl reached follow is
@@ -213,7 +213,7 @@ settle format d root (q ∷ qs) p prog reached follow is =
 -- what a move leaves: what is behind the instruction, or a branch of it and then that
 abbrev Leaves : Format → Domain → Instruction → Program → Program → Type 0
 Leaves format d instr rest b =
-    ((b ≡ said_of_block format d rest) × (is_passed d instr ≡ true))
+    ((b ≡ said_of_block format d rest) × (is_instr_passed d instr ≡ true))
     ⊎ ((f : Formula) × (p q x : ℕ) × (instr ≡ Chooses f p q) × ((x ≡ p) ⊎ (x ≡ q)) × (b ≡ said_of_block format d (with_rest (tree_of_block d x) rest)))
 
 quiet_branch : (d : Domain) (t : Bool) (p q rest : Program) → with_rest (if t then quiet d p else quiet d q) (quiet d rest) ≡ quiet d (with_rest (if t then p else q) rest)
@@ -274,11 +274,11 @@ step format d root prog env m b env1 sound s h = go (after format d s.instr (wit
     begins : prog ≡ said_of_block format d (with_instr (trees_of d.blocks) s.instr (with_rest (left d there) (behind d s.later)))
     begins = s.is ∙ ap (said_of_block format d) (instr_rest d s.instr (left d there) (behind d s.later))
 
-    reached_in : (f : Formula) (p q x : ℕ) → s.instr ≡ Chooses f p q → (x ≡ p) ⊎ (x ≡ q) → IsReached d root x 0
-    reached_in f p q x is (inl e) = subst (λ y. IsReached d root y 0) (sym e) (branch d root s.here.block s.here.index f p q s.reached (s.there ∙ ap Some is))
-    reached_in f p q x is (inr e) = subst (λ y. IsReached d root y 0) (sym e) (other d root s.here.block s.here.index f p q s.reached (s.there ∙ ap Some is))
+    reached_in : (f : Formula) (p q x : ℕ) → s.instr ≡ Chooses f p q → (x ≡ p) ⊎ (x ≡ q) → IsPlaceReached d root x 0
+    reached_in f p q x is (inl e) = subst (λ y. IsPlaceReached d root y 0) (sym e) (branch d root s.here.block s.here.index f p q s.reached (s.there ∙ ap Some is))
+    reached_in f p q x is (inr e) = subst (λ y. IsPlaceReached d root y 0) (sym e) (other d root s.here.block s.here.index f p q s.reached (s.there ∙ ap Some is))
 
-    passes : (f : Formula) (p q x : ℕ) → (x ≡ p) ⊎ (x ≡ q) → falls_through (left d (at x 0)) ≡ true → is_passed d (Chooses f p q) ≡ true
+    passes : (f : Formula) (p q x : ℕ) → (x ≡ p) ⊎ (x ≡ q) → falls_through (left d (at x 0)) ≡ true → is_instr_passed d (Chooses f p q) ≡ true
     passes f p q x (inl e) falls = left_or (falls_through (tree_of_block d p)) (falls_through (tree_of_block d q)) (ap (λ y. falls_through (tree_of_block d y)) (sym e) ∙ ap falls_through (sym (left_of_sound d sound x)) ∙ falls)
     passes f p q x (inr e) falls = right_or (falls_through (tree_of_block d p)) (falls_through (tree_of_block d q)) (ap (λ y. falls_through (tree_of_block d y)) (sym e) ∙ ap falls_through (sym (left_of_sound d sound x)) ∙ falls)
 

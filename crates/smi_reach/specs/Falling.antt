@@ -14,7 +14,8 @@ falls_through (IfThen f p q rest) = (falls_through p || falls_through q) && fall
 falls_through (WaitThen names rest) = falls_through rest
 falls_through (ChangeThen add member set rest) = falls_through rest
 
--- the states in which ways through a block end; what follows an `if` counts only if one of its branches comes to its end
+-- the states in which ways through a block end
+-- what follows an `if` counts only if one of its branches comes to its end
 abbrev pub ends_of : Program → List ℕ
 ends_of Nothing = []
 ends_of (EndIn s) = s ∷ []

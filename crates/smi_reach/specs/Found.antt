@@ -6,7 +6,7 @@ use Rattle.smi_reach.specs.Falling.{ends_of}
 use Rattle.smi_reach.specs.States.{MayBeIn}
 
 -- to a list those of another were added that were not there
-pub record Adds (old more new : List ℕ) : Type 0 where
+pub record AddsMissing (old more new : List ℕ) : Type 0 where
   pub keeps : (s : ℕ) → Contains old s → Contains new s
   pub adds : (s : ℕ) → Contains more s → Contains new s
   pub only : (s : ℕ) → Contains new s → Contains old s ⊎ Contains more s

@@ -15,15 +15,15 @@ use Rattle.smi_meaning.specs.Steps.{Leads}
 use Rattle.smi_reach.specs.Falling.{falls_through}
 
 -- whether an action may come behind an instruction: behind an `if` only if one of its branches comes to its end
-abbrev pub is_passed : Domain → Instruction → Bool
-is_passed d (Assigns p v) = true
-is_passed d (Sends t a args) = true
-is_passed d (SendsToNone set) = true
-is_passed d (Chooses f p q) = falls_through (tree_of_block d p) || falls_through (tree_of_block d q)
-is_passed d (Moves s) = false
-is_passed d (Terminates s) = false
-is_passed d (Waits names) = true
-is_passed d (Changes add member set) = true
+abbrev pub is_instr_passed : Domain → Instruction → Bool
+is_instr_passed d (Assigns p v) = true
+is_instr_passed d (Sends t a args) = true
+is_instr_passed d (SendsToNone set) = true
+is_instr_passed d (Chooses f p q) = falls_through (tree_of_block d p) || falls_through (tree_of_block d q)
+is_instr_passed d (Moves s) = false
+is_instr_passed d (Terminates s) = false
+is_instr_passed d (Waits names) = true
+is_instr_passed d (Changes add member set) = true
 
 -- the instruction at a place of a block
 abbrev pub IsInstrAt : Domain → ℕ → ℕ → Instruction → Type 0
@@ -31,14 +31,14 @@ IsInstrAt d b i instr = slice_get (instrs_at d.blocks b) i ≡ Some instr
 
 -- the places to which an action may come that begins in a block: its beginning, what is behind an instruction that is
 -- passed, and the beginnings of the branches of an `if`
-pub data IsReached : Domain → ℕ → ℕ → ℕ → Type 0 where
-  first : (d : Domain) (root : ℕ) → IsReached d root root 0
-  next : (d : Domain) (root b i : ℕ) (instr : Instruction) → IsReached d root b i → IsInstrAt d b i instr →
-      is_passed d instr ≡ true → IsReached d root b (i + 1)
-  branch : (d : Domain) (root b i : ℕ) (f : Formula) (p q : ℕ) → IsReached d root b i → IsInstrAt d b i (Chooses f p q) →
-      IsReached d root p 0
-  other : (d : Domain) (root b i : ℕ) (f : Formula) (p q : ℕ) → IsReached d root b i → IsInstrAt d b i (Chooses f p q) →
-      IsReached d root q 0
+pub data IsPlaceReached : Domain → ℕ → ℕ → ℕ → Type 0 where
+  first : (d : Domain) (root : ℕ) → IsPlaceReached d root root 0
+  next : (d : Domain) (root b i : ℕ) (instr : Instruction) → IsPlaceReached d root b i → IsInstrAt d b i instr →
+      is_instr_passed d instr ≡ true → IsPlaceReached d root b (i + 1)
+  branch : (d : Domain) (root b i : ℕ) (f : Formula) (p q : ℕ) → IsPlaceReached d root b i →
+      IsInstrAt d b i (Chooses f p q) → IsPlaceReached d root p 0
+  other : (d : Domain) (root b i : ℕ) (f : Formula) (p q : ℕ) → IsPlaceReached d root b i →
+      IsInstrAt d b i (Chooses f p q) → IsPlaceReached d root q 0
 
 -- whether there is nobody
 abbrev pub is_nobody : List ℕ → Bool
@@ -56,7 +56,7 @@ pub record IsAtInstr (format : Format) (d : Domain) (root : ℕ) (left : Program
   pub block : ℕ
   pub index : ℕ
   pub instr : Instruction
-  pub reached : IsReached d root block index
+  pub reached : IsPlaceReached d root block index
   pub there : IsInstrAt d block index instr
   pub heard : is_silent format d instr ≡ false
   pub behind : Program

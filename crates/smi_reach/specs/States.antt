@@ -12,8 +12,8 @@ use Rattle.smi_journal_entries.specs.Words.{is_killed, state_of}
 use Rattle.smi_meaning.specs.Legal.{IsLegal}
 use Rattle.smi_reach.specs.Falling.{ends_of}
 
--- the states in which an object of a class may be that is not killed: the initial one, and those in which an action ends
--- that is declared in such a state
+-- the states in which an object of a class may be that is not killed: the initial one, and those in which an action
+-- ends that is declared in such a state
 pub data MayBeIn : Domain → Class → ℕ → Type 0 where
   begins : (d : Domain) (c : Class) → MayBeIn d c c.initial
   ends : (d : Domain) (c : Class) (x : Stated) (a : Action) (t : ℕ) → Contains c.states x → Contains x.actions a →

@@ -1,6 +1,30 @@
 //! The states in which objects may be.
-ghost use Rattle.std.specs.Prelude.{◌≡◌, ◌<◌, ◌⊎◌, ◌↔◌, ℕ, All, Contains, IfNone, IfOk, IfSome, OnOk, false, length, true};
-ghost use Rattle.smi_reach.specs.Found.{Adds, AddsEnds, AreStatesOf, Finds, HasBlocks, IsBlockOf, IsIn, NoneIsIn};
+ghost use Rattle.std.specs.Prelude.{
+  ◌≡◌,
+  ◌<◌,
+  ◌⊎◌,
+  ◌↔◌,
+  ℕ,
+  All,
+  Contains,
+  IfNone,
+  IfOk,
+  IfSome,
+  OnOk,
+  false,
+  length,
+  true,
+};
+ghost use Rattle.smi_reach.specs.Found.{
+  AddsMissing,
+  AddsEnds,
+  AreStatesOf,
+  Finds,
+  HasBlocks,
+  IsBlockOf,
+  IsIn,
+  NoneIsIn,
+};
 ghost use Rattle.smi_reach.specs.States.{MayBeIn};
 ghost use Rattle.smi_reach.specs.Ways.{AreWays};
 
@@ -8,9 +32,9 @@ use crate::ways::Way;
 use sml_domain::{Class, ClassId, Domain, State, StateId};
 use std::alloc::{AllocError, Global};
 
-// Adds the states that are not there yet.
+// AddsMissing the states that are not there yet.
 fn add_missing(list: &mut Vec<StateId>, more: &[StateId]) -> Result<(), AllocError>
-    ensures { OnOk result (Adds list.old.items more.now list.new.items) }
+    ensures { OnOk result (AddsMissing list.old.items more.now list.new.items) }
 {
     for state in more {
         if !list.contains(state) {
@@ -20,7 +44,7 @@ fn add_missing(list: &mut Vec<StateId>, more: &[StateId]) -> Result<(), AllocErr
     Ok(())
 }
 
-// Adds the states in which the actions of a row end.
+// AddsMissing the states in which the actions of a row end.
 fn add_ends(
     domain: &Domain,
     list: &mut Vec<StateId>,
@@ -91,7 +115,8 @@ fn all_places(alloc: Global, count: usize) -> Result<Vec<usize>, AllocError>
 }
 
 /// The states in which an object of a class may be that is not killed: the initial one, and those in which an action
-/// ends that such a state declares. Each stands there once, the initial one first. What an action of a device may end in
+/// ends that such a state declares. Each stands there once, the initial one first. What an action of a device may
+/// end in
 /// is not among them, so that this says nothing of a class whose actions devices do.
 ///
 /// The ways are those of the blocks of the domain (`ways_of`). The time grows with the actions of the class, and with

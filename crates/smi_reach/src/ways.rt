@@ -73,7 +73,8 @@ fn way_of(alloc: Global, domain: &Domain, block: BlockId, before: &[Way]) -> Res
     Ok(way)
 }
 
-/// The ways of all blocks of a domain, by their numbers. The time and the memory grow with the instructions, and with how
+/// The ways of all blocks of a domain, by their numbers. The time and the memory grow with the instructions, and
+/// with how
 /// deep `if`s stand within one another.
 pub fn ways_of(alloc: Global, domain: &Domain) -> Result<Vec<Way>, AllocError>
     ensures known { IfOk result (λ ways. AreWays domain.now ways.items) }

@@ -5,7 +5,7 @@ use Rattle.sml_domain.specs.Domain.{Action}
 use Rattle.sml_domain.specs.Lookups.{tree_of_block}
 use Rattle.smi_reach.specs.declared.ways.Way.{Way}
 use Rattle.smi_reach.specs.Falling.{ends_of}
-use Rattle.smi_reach.specs.Found.{Adds, AddsEnds}
+use Rattle.smi_reach.specs.Found.{AddsMissing, AddsEnds}
 use Rattle.smi_reach.specs.Ways.{IsWayOf}
 use Rattle.smi_reach.proofs.Lists.{ends_more}
 use Rattle.smi_reach.proofs.states.add_ends.Goals as goal
@@ -25,4 +25,4 @@ loop-action-preserved c =
     let e : c.deref.result.now ≡ ends_of (tree_of_block d a.block) = c.deref.ensures.value ∙ ap (λ y. y.ends.items) (sym c.index-ways-get.is) ∙ way.ends in
     let next : take (k + 1) actions ≡ front ++ a ∷ [] = take_more actions k a lt ∙ ap (λ y. front ++ y ∷ []) (sym at) in
     subst (λ t. AddsEnds d t c.args.list.now.items c.add_missing.new.list.items) (sym next)
-    (ends_more d front a c.args.list.now.items c.loop-action.list.items c.add_missing.new.list.items c.loop-action.invariant (subst (λ m. Adds c.loop-action.list.items m c.add_missing.new.list.items) e c.in_ok-add_missing.ensures))
+    (ends_more d front a c.args.list.now.items c.loop-action.list.items c.add_missing.new.list.items c.loop-action.invariant (subst (λ m. AddsMissing c.loop-action.list.items m c.add_missing.new.list.items) e c.in_ok-add_missing.ensures))

@@ -3,7 +3,7 @@ use Rattle.std.proofs.Common.{◌≡◌, ◌∷◌, ◌++◌, ◌+◌, ℕ, [], 
 use Rattle.std.proofs.lemmas.Bool.{eqb-true, eq-eqb}
 use Rattle.std.proofs.lemmas.List.{take_more}
 use Rattle.std.proofs.lemmas.List.Elements.{Contains-from_at, contains_decides}
-use Rattle.smi_reach.specs.Found.{Adds}
+use Rattle.smi_reach.specs.Found.{AddsMissing}
 use Rattle.smi_reach.proofs.Lists.{adds_there, adds_new}
 use Rattle.smi_reach.proofs.states.add_missing.Goals.{then-not-contains+in_ok-push, else-not-contains}
 use Rattle.smi_reach.proofs.states.add_missing.Goals as goal
@@ -19,6 +19,6 @@ loop-state-preserved c =
     let next : take (k + 1) more ≡ front ++ x ∷ [] = take_more more k x c.loop-state-test.true ∙ ap (λ y. front ++ y ∷ []) (sym c.state-item.is) in
     let there = contains_decides eqb (λ a b. (eqb-true a b, eq-eqb a b)) c.deref.result.now x c.contains.result c.contains.ensures.cases in
     elim c.if-not-contains.branch [
-      | then-not-contains+in_ok-push w ↦ subst (λ t. Adds old t c.if-not-contains.list.items) (sym next) (subst (λ v. Adds old (front ++ x ∷ []) v) (sym (ap (λ v. v.items) w.list-is ∙ w.in_ok-push.ensures.items)) (adds_new old front l x c.loop-state.invariant))
-      | else-not-contains w ↦ subst (λ t. Adds old t c.if-not-contains.list.items) (sym next) (subst (λ v. Adds old (front ++ x ∷ []) v) (sym (ap (λ v. v.items) w.list-is)) (adds_there old front l x c.loop-state.invariant (subst (λ v. Contains v x) c.deref.ensures.value (Contains-from_at c.deref.result.now x (there.0 w.if-not-contains.false)))))
+      | then-not-contains+in_ok-push w ↦ subst (λ t. AddsMissing old t c.if-not-contains.list.items) (sym next) (subst (λ v. AddsMissing old (front ++ x ∷ []) v) (sym (ap (λ v. v.items) w.list-is ∙ w.in_ok-push.ensures.items)) (adds_new old front l x c.loop-state.invariant))
+      | else-not-contains w ↦ subst (λ t. AddsMissing old t c.if-not-contains.list.items) (sym next) (subst (λ v. AddsMissing old (front ++ x ∷ []) v) (sym (ap (λ v. v.items) w.list-is)) (adds_there old front l x c.loop-state.invariant (subst (λ v. Contains v x) c.deref.ensures.value (Contains-from_at c.deref.result.now x (there.0 w.if-not-contains.false)))))
     ]
