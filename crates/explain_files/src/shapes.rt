@@ -90,7 +90,7 @@ pub(crate) fn tell_taken<W: Sink>(out: &mut Teller<'_, W>, trail: &Trail) -> boo
     }
 }
 
-// Says that a word was taken as the object of a `do`, if it is none. Whether it is none.
+// Says that a word was taken as the object of a `do`, if it names no object. Returns whether it said so.
 fn tell_taken_target<W: Sink>(out: &mut Teller<'_, W>, trail: &Trail, word: &Name) -> bool {
     let advice = match quantifier(word.as_bytes()) {
         Some(_) => Advice::Write(b"all_in"),
@@ -103,7 +103,7 @@ fn tell_taken_target<W: Sink>(out: &mut Teller<'_, W>, trail: &Trail, word: &Nam
     true
 }
 
-// Says that a word was taken as the object of a test, if it is none. Whether it is none.
+// Says that a word was taken as the object of a test, if it names no object. Returns whether it said so.
 fn tell_taken_subject<W: Sink>(out: &mut Teller<'_, W>, trail: &Trail, word: &Name) -> bool {
     let advice = match (quantifier(word.as_bytes()), trail.found.kind) {
         (Some(meant), TokenKind::Name) => Advice::Of(meant, trail.found),

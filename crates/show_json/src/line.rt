@@ -7,7 +7,7 @@ use json::Writer;
 use std::alloc::{AllocError, Global};
 use std::str;
 
-// How much room the text of an object has at first.
+// For how many bytes the text of an object has room when it is begun.
 const ROOM: usize = 128;
 
 // Writes the fields of all parts of a form, which are all that is left of a line.

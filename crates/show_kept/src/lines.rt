@@ -65,8 +65,8 @@ impl<'a> Lines<'a> {
         }
     }
 
-    /// Writes the end of the last line. The lines of the canonical text whose tokens have not come are written too;
-    /// there are none where it is that of the text.
+    /// Writes the end of the last line, and the lines of the canonical text whose tokens have not come. All have come
+    /// where the canonical text is that of the text.
     pub(crate) fn end<W: Sink>(&mut self, writer: &mut W, failed: &mut bool) {
         if !self.line.is_empty() {
             self.begin_line(writer, failed);

@@ -7,63 +7,58 @@ pub const BEHIND_JOURNAL: &[u8] = b"</pre>
 const $ = id => document.getElementById(id);
 const linesOf = id => $(id).textContent.split('\\n').filter(line => line);
 
-// The domain: its objects, and the states of each class in the order of declaration.
+// The domain, with the states of each class in their order.
 const classes = new Map(), objects = [], numbers = new Map(), sets = new Map(), states = [{}];
 for (const line of linesOf('list')) {
-  const w = line.split(' '), last = objects.length;
+  const w = line.split(' '), kind = classes.get(w[1]);
   if (w[0] == 'class') classes.set(w[1], {device: w[2] == 'associated', states: new Map()});
   if (w[0] == 'state') {
-    const kind = classes.get(w[1]);
     for (const mark of w.slice(3)) kind[mark] = states.length;
     states.push({name: w[2], color: `var(--c${kind.states.size % 8})`});
     kind.states.set(w[2], states.length - 1);
   }
   if (w[0] == 'object') {
-    numbers.set(w[1], last);
-    objects.push({name: w[1], kind: classes.get(w[2]), of: w[2], depth: 0, sends: []});
+    numbers.set(w[1], objects.length);
+    objects.push({name: w[1], kind: classes.get(w[2]), of: w[2], depth: 0, sends: new Set()});
   }
-  if (w[0] == 'set') sets.set(w[1], w.slice(2));
+  if (w[0] == 'set') sets.set(w[1], w.slice(2).map(o => numbers.get(o)));
 }
 
-// For each object a state, the entries of its open action and of its wait, the requests of objects that wait there,
-// and whether it is killed. Behind these, for each sender and target, what was sent and is not started.
-const OPEN = 1, WAIT = 2, QUEUE = 3, KILLED = 4, CELLS = 5;
-const entries = linesOf('journal').slice(1), pairs = new Map(), asked = new Map();
-const pairOf = (sender, target) => pairs.get(sender * objects.length + target);
-const ownerOf = n => n ? numbers.get(entries[n - 1].split(' ', 2)[1]) : -1;
+// For each object a state, the entry of its open action, whether it is killed, its last entry, and how many requests
+// wait there. Behind these, for each sender and target, what was sent and is not started.
+const OPEN = 1, KILLED = 2, LAST = 3, QUEUE = 4, CELLS = 5;
+const entries = linesOf('journal').slice(1), changes = [], ends = [];
+const wordsOf = (n, most) => n ? entries[n - 1].split(' ', most) : [], ownerOf = n => numbers.get(wordsOf(n, 2)[1]);
+const sentAt = (sender, target) => objects.length * (CELLS + sender) + target;
 
-// First all pairs are found, and for each wait the line by which it ends.
-const ends = [];
+// First, for each entry, the `seen` that is the next of its object, but for waits: -1 if these do not end.
+const reads = new Int32Array(entries.length + 1);
 for (let n = entries.length; n; n--) {
-  const w = entries[n - 1].split(' ', 4), o = numbers.get(w[1]), target = numbers.get(w[2]);
-  if (w[0] == 'post' && pairOf(o, target) === undefined) {
-    pairs.set(o * objects.length + target, objects.length * CELLS + pairs.size);
-    objects[o].sends.push(target);
-  }
-  if (w[0] == 'wait') asked.set(n, ends[o]);
-  else if (w[0] != 'post') ends[o] = w[0] == 'seen' ? n : 0;
+  const w = wordsOf(n, 4), o = numbers.get(w[1]), target = numbers.get(w[2]);
+  const verb = {insert: 'add', remove: 'delete'}[w[0]];
+  if (verb) changes.push([n, [...sets.keys()].indexOf(w[3]), verb, target]);
+  if (w[0] == 'post') objects[o].sends.add(target);
+  reads[n] = ends[o];
+  ends[o] = w[0] == 'seen' ? n : w[0] == 'wait' && (ends[o] || -1);
 }
+changes.reverse();
 
 function change(cells, n) {
-  const w = entries[n - 1].split(' ', 4), o = numbers.get(w[1]), at = o * CELLS, other = numbers.get(w[2]);
+  const w = wordsOf(n, 4), o = numbers.get(w[1]), at = o * CELLS, other = numbers.get(w[2]);
+  cells[at + LAST] = n;
   if (w[0] == 'start') {
     cells[at + OPEN] = n;
-    if (w[2][0] != '@') { cells[at + QUEUE]--; cells[pairOf(other, o)]--; }
+    if (w[2][0] != '@') { cells[at + QUEUE]--; cells[sentAt(other, o)]--; }
   } else if (w[0] == 'end') {
-    if (w[2] != 'skipped') {
-      cells[at] = objects[o].kind.states.get(w[2]) ?? states.findIndex(state => state.name == w[2]);
-    }
-    cells[at + OPEN] = cells[at + WAIT] = 0;
+    cells[at] = objects[o].kind.states.get(w[2]) ?? cells[at];
+    cells[at + OPEN] = 0;
   } else if (w[0] == 'kill') {
-    cells.set([objects[o].kind.dead, 0, 0], at);
-    cells[at + KILLED] = 1;
-  } else if (w[0] == 'post' && w[3] != 'refused') { cells[other * CELLS + QUEUE]++; cells[pairOf(o, other)]++; }
-  else if (w[0] == 'wait') cells[at + WAIT] = n;
-  else if (w[0] == 'seen') cells[at + WAIT] = 0;
+    cells.set([objects[o].kind.dead, 0, 1], at);
+  } else if (w[0] == 'post' && w[3] != 'refused') { cells[other * CELLS + QUEUE]++; cells[sentAt(o, other)]++; }
 }
 
 // What is known is kept at some entries, and made from there on for all others.
-const size = objects.length * CELLS + pairs.size, kept = [];
+const size = objects.length * (CELLS + objects.length), kept = [];
 let stride = 4096, cells = new Int32Array(size);
 while (entries.length / stride * size > 2e7) stride *= 2;
 objects.forEach((o, i) => cells[i * CELLS] = o.kind.initial);
@@ -77,13 +72,31 @@ function cellsAt(n) {
   return made;
 }
 
+function membersAt(n) {
+  const made = [...sets.values()].map(set => new Set(set));
+  for (const [at, i, verb, o] of changes) if (at <= n) made[i][verb](o);
+  return made.map(set => [...set]);
+}
+
+// Whom an object asks now, by a `seen` to come, and what FORMATS.md supposes of sets.
+function askedNow(sends, seen) {
+  const read = wordsOf(seen).slice(2).map(word => numbers.get(word.split('=')[0]));
+  const then = membersAt(seen), here = membersAt(now), all = new Set();
+  for (const o of read) {
+    const at = then.findIndex((set, i) => set.includes(o) && set + '' != here[i]
+      && set + '' == read.filter(x => set.includes(x)));
+    (here[at] ?? [o]).forEach(all.add, all);
+  }
+  then.forEach((set, i) => set[0] ?? (here[i].every(o => sends.has(o)) && here[i].forEach(all.add, all)));
+  return [...all];
+}
+
 function waitsFor(a) {
-  const wait = cells[a * CELLS + WAIT], seen = asked.get(wait);
-  if (!wait) return objects[a].kind.device ? 'device' : '';
-  const all = seen ? entries[seen - 1].split(' ').slice(2).map(r => numbers.get(r.split('=')[0])) : objects[a].sends;
-  const busy = all.filter(o => !cells[o * CELLS + KILLED] && (cells[o * CELLS + OPEN] || cells[pairOf(a, o)] > 0));
-  if (!busy.length) return seen ? '' : 'waits';
-  return 'waits for ' + busy.map(o => objects[o].name).join(', ');
+  const {kind, sends} = objects[a], seen = reads[cells[a * CELLS + LAST]];
+  if (!seen) return kind.device ? 'device' : '';
+  const busy = (seen > 0 ? askedNow(sends, seen) : [...sends]).filter(
+    o => !cells[o * CELLS + KILLED] && (cells[o * CELLS + OPEN] || cells[sentAt(a, o)] > 0));
+  return busy.map(o => objects[o].name).join(', ') || (seen > 0 ? '' : 'not told');
 }
 
 function piece(parent, name, text) {
@@ -93,7 +106,7 @@ function piece(parent, name, text) {
   return made;
 }
 
-// A list of which only the rows in sight are made. A browser has no room for all rows of a long one: it is squeezed.
+// A list of which the rows in sight are made. A browser has no room for all rows of a long one: it is squeezed.
 const HEIGHT = 22;
 function listIn(box, fill) {
   const sheet = piece(box, 'sheet', ''), list = {count: 0, show, reach};
@@ -122,11 +135,11 @@ function listIn(box, fill) {
 }
 
 let now = 0, shown = [], order = objects.map((_, i) => i), timer, pause;
-const ruling = $('ruling').textContent.split(' '), illegal = ruling[0] == 'Legal' ? Infinity : ruling[1] - 1;
-const why = ' \\u25c0 ' + $('ruling').textContent + ' ' + $('why').textContent.split('\\n').slice(1).join(' ');
+const ruling = $('ruling').textContent.split(' '), illegal = ruling[1] - 1;
+const why = ' \\u25c0 ' + ruling.join(' ') + ' ' + $('why').textContent.split('\\n').slice(1).join(' ');
 const table = listIn($('objects'), (row, i) => {
-  const o = objects[order[i]], at = order[i] * CELLS, open = cells[at + OPEN], state = states[cells[at]];
-  const w = open ? entries[open - 1].split(' ') : [];
+  const o = objects[order[i]], at = order[i] * CELLS, open = cells[at + OPEN], w = wordsOf(open);
+  const state = states[cells[at]];
   row.className += ' object' + (cells[at + KILLED] ? ' killed' : '') + (ownerOf(now) == order[i] ? ' now' : '');
   piece(row, '', '\\u2003'.repeat(o.depth) + o.name);
   piece(row, 'faint', o.of);
@@ -165,8 +178,8 @@ function step(by) {
 
 function choose() {
   const words = $('filter').value.toUpperCase().match(/\\w+/g), text = $('search').value.toUpperCase();
-  const wanted = new Set((words || []).flatMap(word => numbers.has(word) ? word : sets.get(word)
-    || objects.map(o => o.name).filter(name => name.includes(word))));
+  const wanted = new Set(words?.flatMap(word => numbers.has(word) ? word
+    : objects.filter((o, i) => sets.get(word)?.includes(i) ?? o.name.includes(word)).map(o => o.name)));
   shown = [];
   entries.forEach((line, k) => {
     const w = words && line.split(' ', 3);
@@ -178,14 +191,19 @@ function choose() {
   go(now);
 }
 
-// Puts the objects in the order of declaration, or of sends: each below the first that sends to it.
+function chooseSoon() {
+  clearTimeout(pause);
+  pause = setTimeout(choose, 150);
+}
+
+// The objects as declared, or by sends: each below the first that sends to it.
 function arrange() {
-  const below = new Set(objects.flatMap(o => o.sends)), all = objects.map((_, i) => i);
+  const below = new Set(objects.flatMap(o => [...o.sends])), all = objects.map((_, i) => i);
   const visit = (i, depth) => {
     if (order.includes(i)) return;
     objects[i].depth = depth;
     order.push(i);
-    objects[i].sends.sort((a, b) => a - b).forEach(target => visit(target, depth + 1));
+    [...objects[i].sends].sort((a, b) => a - b).forEach(target => visit(target, depth + 1));
   };
   objects.forEach(o => o.depth = 0);
   order = $('order').value == 'sends' ? [] : all;
@@ -195,14 +213,9 @@ function arrange() {
 
 document.title = $('domain').textContent + ', ' + $('run').textContent;
 $('ruling').className = ruling[0];
-$('count').textContent = entries.length + ' entries, ' + objects.length + ' objects';
+$('count').textContent = `${entries.length} entries, ${objects.length} objects`;
 $('slider').max = entries.length;
 table.count = objects.length;
-$('slider').oninput = $('number').onchange = event => go(+event.target.value);
-$('back').onclick = () => step(-1);
-$('on').onclick = () => step(1);
-$('search').oninput = $('filter').oninput = () => { clearTimeout(pause); pause = setTimeout(choose, 150); };
-$('order').onchange = arrange;
 onresize = onafterprint = () => go(now);
 onhashchange = () => go(+location.hash.slice(1));
 onbeforeprint = () => {
@@ -218,7 +231,7 @@ onkeydown = event => {
   if (/INPUT|SELECT/.test(field.tagName) && field.type != 'range') return key == 'Escape' && field.blur();
   if (action) { action(); event.preventDefault(); }
 };
-now = location.hash ? +location.hash.slice(1) : illegal < Infinity ? illegal : 0;
+now = location.hash ? +location.hash.slice(1) : illegal;
 choose();
 </script>
 ";

@@ -11,7 +11,9 @@ use Rattle.smi_audit_rules.specs.declared.rule.Rule.{Rule}
 use Rattle.smi_audit_rules.specs.Rules.{Breaks}
 use Rattle.smi_audit_rules.specs.Judged.{IsBrokenAt}
 use Rattle.smi_audit.specs.declared.judge.Judge.{Judge}
-use Rattle.smi_audit.specs.Judges.{AddsLegal, JudgeIsKept, Judges}
+use Rattle.smi_audit.specs.Judges.{AddsLegal, JudgeIsKept, JudgeIsLegal, Judges}
+use Rattle.smi_audit.specs.Pasts.{PastGoesOn}
+use Rattle.smi_audit.specs.Views.{PastView}
 
 -- the entries before one, the one, and those behind
 split_at : (xs : List Entry) (i : ℕ) (e : Entry) → i < length xs → e ≡ get_or xs i e
@@ -71,3 +73,37 @@ goes_on format d entries j k i e x lt is same domain journal legal h none =
           ∙ sym (take_more entries i e lt);
       legal = subst (IsLegal format d) (sym a.added.journal) (legal_more format d j.books.journal e legal at);
     }
+
+-- ---- of a past, which is one of a legal journal
+
+legal_behind : (j k : Judge) (e : Entry) → JudgeIsLegal j → AddsLegal j k e
+    → IsLegal k.format k.books.domain k.books.journal
+legal_behind j k e l a =
+    subst (λ f. IsLegal f k.books.domain k.books.journal) (sym a.added.format)
+    (subst (λ d. IsLegal j.format d k.books.journal) (sym a.added.domain)
+    (subst (IsLegal j.format j.books.domain) (sym a.added.journal)
+    (legal_more j.format j.books.domain j.books.journal e l.legal a.legal)))
+
+-- a judge that took an entry is still that of a legal journal
+pub entered_legal : (j k : Judge) (e : Entry) (x : Option Rule) → x ≡ None → JudgeIsLegal j → Judges j k e x
+    → JudgeIsLegal k
+entered_legal j k e x none l h =
+    let a = adds_as j k e x none h in
+    record { kept = a.added.kept; legal = legal_behind j k e l a }
+
+-- the past of a judge
+abbrev pub past_of : Judge → PastView
+past_of j = record { format = j.format; books = j.books }
+
+-- its past is that of before with the entry
+pub past_entered : (p : PastView) (j k : Judge) (e : Entry) (x : Option Rule) → x ≡ None → past_of j ≡ p
+    → JudgeIsLegal j → Judges j k e x → PastGoesOn p (past_of k) e
+past_entered p j k e x none is l h =
+    let a = adds_as j k e x none h in
+    subst (λ q. PastGoesOn q (past_of k) e) is (record {
+      legal = a.legal;
+      whole = legal_behind j k e l a;
+      journal = a.added.journal;
+      domain = a.added.domain;
+      format = a.added.format;
+    })

@@ -6,7 +6,7 @@ use Rattle.smi_journal_entries.specs.declared.entry.Entry.{Entry}
 use Rattle.smi_journal_entries.specs.declared.journal.Format.{Format}
 use Rattle.smi_journal_entries.specs.Sets.{AreOf, sets_after, unchanged}
 use Rattle.smi_journal_entries.specs.Words.{object_of}
-use Rattle.smi_meaning.specs.Legal.{IsLegalAt, MayFollow}
+use Rattle.smi_meaning.specs.Legal.{IsLegal, IsLegalAt, MayFollow}
 use Rattle.smi_audit_follower.specs.Following.{MayTell}
 use Rattle.smi_audit_rules.specs.declared.rule.Rule.{Rule}
 use Rattle.smi_audit_rules.specs.Rules.{Breaks, BreaksFirst, own_rules}
@@ -25,6 +25,11 @@ pub record JudgeIsKept (j : Judge) : Type 0 where
   pub tells : MayTell j.format j.books.domain (sets_after j.books.domain j.books.journal)
   pub declared : j.declared ≡ unchanged j.books.domain
   pub are : AreOf j.books.domain (unchanged j.books.domain)
+
+-- all this, and the journal is legal
+pub record JudgeIsLegal (j : Judge) : Type 0 where
+  pub kept : JudgeIsKept j
+  pub legal : IsLegal j.format j.books.domain j.books.journal
 
 -- the entry was added
 pub record IsAdded (old new : Judge) (e : Entry) : Type 0 where

@@ -14,7 +14,7 @@ mod tracks;
 
 pub use auditing::audit;
 pub use judgement::Judgement;
-pub use past::{Past, PastError};
+pub use past::{EntryError, Past, PastError};
 pub use smi_audit_follower::Expected;
 pub use smi_audit_rules::Rule;
 pub use smi_journal::JournalError;

@@ -1,10 +1,10 @@
 //! What legal entries leave behind: their books, the parameters of objects, and what each open action shows next.
-ghost use Rattle.std.specs.Prelude.{◌≡◌, ◌<◌, ◌+◌, ◌^◌, All, IfErr, IfNone, IfOk, IfSome, None, length};
+ghost use Rattle.std.specs.Prelude.{◌≡◌, ◌<◌, ◌+◌, ◌^◌, [], All, IfErr, IfNone, IfOk, IfSome, None, length};
 ghost use Rattle.std.specs.Arc.{arc_value};
 ghost use Rattle.smi_journal.specs.HasText.{HasText};
 ghost use Rattle.smi_meaning.specs.Legal.{IsLegal};
 ghost use Rattle.smi_meaning.specs.Params.{ParamsAfter, running_at};
-ghost use Rattle.smi_audit.specs.Pasts.{IsNone, IsPastOf, PastShows, PastWaitsAt};
+ghost use Rattle.smi_audit.specs.Pasts.{IsNone, IsNotEntered, IsPastOf, PastGoesOn, PastShows, PastWaitsAt};
 
 use crate::judge::Judge;
 use crate::lines::judge_of;
@@ -14,7 +14,7 @@ use smi_interp::Place;
 use smi_journal::{Entry, Format, behind_header, laws_of_names};
 use smi_ledger::Books;
 use sml_domain::{Domain, ObjId, Value};
-use std::alloc::Global;
+use std::alloc::{AllocError, Global};
 use std::marker::Model;
 use std::sync::Arc;
 
@@ -23,6 +23,15 @@ use std::sync::Arc;
 pub enum PastError {
     /// The first illegal line, and the first rule that its entry breaks, as in a `Judgement`.
     Illegal { line: u64, rule: Rule },
+    /// Out of memory.
+    Memory,
+}
+
+/// Why an entry is not entered behind others.
+#[derive(Clone, Copy, Debug, Eq, PartialEq)]
+pub enum EntryError {
+    /// It may not follow them, and this is the first rule that it breaks.
+    Illegal(Rule),
     /// Out of memory.
     Memory,
 }
@@ -38,7 +47,7 @@ pub struct Past {
 impl Model for Past {
     ghost use Rattle.std.specs.Coded.{codes};
     ghost use Rattle.sml_domain.specs.Codes.{formula_code};
-    ghost use Rattle.smi_audit.specs.Judges.{JudgeIsKept};
+    ghost use Rattle.smi_audit.specs.Judges.{JudgeIsLegal};
     ghost use Rattle.smi_audit.specs.Views.{PastView};
 
     ghost Value = { PastView };
@@ -47,10 +56,42 @@ impl Model for Past {
 
     ghost view = { λ p. record { format = p.judge.format; books = p.judge.books } };
 
-    ghost invariant = { λ p. JudgeIsKept p.judge };
+    ghost invariant = { λ p. JudgeIsLegal p.judge };
 }
 
 impl Past {
+    /// The past of a journal that has no entries yet. The cost is the square of the count of objects.
+    pub fn new(alloc: Global, format: Format, domain: Arc<Domain>) -> Result<Past, AllocError>
+        ensures format { IfOk result (λ p. p.format ≡ format) }
+        ensures journal { IfOk result (λ p. p.books.journal ≡ []) }
+        ensures domain { IfOk result (λ p. p.books.domain ≡ arc_value domain) }
+    {
+        let judge = Judge::new(alloc, format, domain)?;
+        Ok(Past { judge })
+    }
+
+    /// Enters one more entry, if it may follow those that were entered. The past is given up if it may not, or if
+    /// memory runs out: its open action may have gone on by then.
+    ///
+    /// The time is that of the entry and of what its action does behind it, and memory is taken for what the books keep
+    /// of it.
+    pub fn enter(self, entry: &Entry) -> Result<Past, EntryError>
+        requires text { HasText self.books.domain entry.now }
+        ensures entered { IfOk result (λ p. PastGoesOn self p entry.now) }
+        ensures refused { IfErr result (IsNotEntered self entry.now) }
+    {
+        let Past { judge } = self;
+        let mut judge = judge;
+        let broken = match judge.take(entry) {
+            Ok(broken) => broken,
+            Err(_) => return Err(EntryError::Memory),
+        };
+        match broken {
+            Some(rule) => Err(EntryError::Illegal(rule)),
+            None => Ok(Past { judge }),
+        }
+    }
+
     /// Enters entries, one after another, as a journal of a format has them. The time grows with their count and
     /// with what their actions do, and the memory with their count. The square of the count of objects is spent
     /// once.

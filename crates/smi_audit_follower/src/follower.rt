@@ -379,8 +379,8 @@ impl Follower {
         }
     }
 
-    /// The place of the instruction by which the action shows that, or ends: for people to find it in the text. The cost
-    /// is constant.
+    /// The place of the instruction by which the action shows that, or ends: for people to find it in the text. The
+    /// cost is constant.
     pub fn place(&self) -> Place
         ensures { WaitsAt self.now result }
     {

@@ -4,3 +4,5 @@ pub mod Spots
 pub mod Tables
 pub mod Lists
 pub mod Spread
+pub mod Begun
+pub mod Left

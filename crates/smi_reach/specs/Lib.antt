@@ -3,3 +3,5 @@ pub mod States
 pub mod Places
 pub mod Ways
 pub mod Found
+pub mod Reach
+pub mod Unreached

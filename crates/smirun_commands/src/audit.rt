@@ -80,8 +80,8 @@ pub fn run_audit<'a, R: Files + AllocGlobal, I: Read, W: Write, E: Write>(
 
 /// Judges the bytes of a journal by a domain, writes the line of what the judge says to its end, and returns the exit
 /// status. If the options ask for it, the explanation of an illegal line then goes to `errors`, with the place in the
-/// domain's text that it is about. If memory runs out for that, this is told there too, and the status stays that of the
-/// journal, as its line is written.
+/// domain's text that it is about. If memory runs out for that, this is told there too, and the status stays that of
+/// the journal, as its line is written.
 ///
 /// The cost is that of judging, and once more if it is explained. The error is the fault of the journal, by its
 /// path, `Output` or `Memory`.
@@ -130,7 +130,7 @@ fn status_of(judgement: Judgement) -> u8
 }
 
 // Writes the explanation of the illegal line, if there is one, or that there is no memory for it.
-fn tell_against<E: Write>(
+pub(crate) fn tell_against<E: Write>(
     heap: Global,
     domain: &Arc<Domain>,
     text: DomainText<'_>,

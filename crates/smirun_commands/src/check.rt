@@ -107,8 +107,8 @@ fn tell_files<R: Files + AllocGlobal, I: Read, W: Write, E: Write>(
     Ok(worst)
 }
 
-// Writes the line of a file that was judged so.
-fn tell_judgement<W: Sink>(
+/// Writes the line of a file that was judged so.
+pub(crate) fn tell_judgement<W: Sink>(
     heap: Global,
     file: &str,
     judgement: FileOutcome,
@@ -126,8 +126,14 @@ fn tell_judgement<W: Sink>(
     }
 }
 
-// Writes the advice on a text that was judged so.
-fn advise<E: Sink>(heap: Global, file: &str, text: &[u8], judgement: FileOutcome, errors: &mut E) {
+/// Writes the advice on a text that was judged so.
+pub(crate) fn advise<E: Sink>(
+    heap: Global,
+    file: &str,
+    text: &[u8],
+    judgement: FileOutcome,
+    errors: &mut E,
+) {
     let mut advice = Advice::new(heap, true);
     match judgement {
         FileOutcome::Good => advice.of_good_domain(file, text),
@@ -144,9 +150,9 @@ fn advise<E: Sink>(heap: Global, file: &str, text: &[u8], judgement: FileOutcome
     advice.tell(errors);
 }
 
-// Judges the file of a path, and puts its text into `text`. The error is out of memory, while the text is read
-// (`FileOutcome::of_input`) or judged.
-fn judge_file<R: Files + AllocGlobal, A: Allocator + Clone, I: Read, E: Write>(
+/// Judges the file of a path, and puts its text into `text`. The error is out of memory, while the text is read
+/// (`FileOutcome::of_input`) or judged.
+pub(crate) fn judge_file<R: Files + AllocGlobal, A: Allocator + Clone, I: Read, E: Write>(
     rt: &R,
     alloc: A,
     file: &str,

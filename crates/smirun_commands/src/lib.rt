@@ -1,15 +1,18 @@
-//! The commands of the state manager that need no threads: to check domains, to print, list or draw one, to run a
-//! schedule on one, and to judge, draw or show a journal of one, or to tell
-//! how all stood behind its lines. Each is a function over a runtime, what it is asked
-//! and the streams that it writes.
+//! The commands of the state manager that need no threads: to check domains, to tell what is senseless in them, to
+//! print, list or draw one, to run a schedule on one, and to judge, draw or show a journal of one, or to tell how all
+//! stood behind its lines, and what journals have exercised. Each is a function over a runtime, what it is asked and
+//! the streams that it writes.
 #![tactic(auto)]
 
 mod advice;
 mod audit;
 mod check;
+mod cover;
 mod fault;
 mod graph;
 mod judgement;
+mod kept_journal;
+mod lint;
 mod list;
 mod loading;
 mod notes;
@@ -29,10 +32,12 @@ mod traced;
 pub use advice::Advice;
 pub use audit::{AuditOptions, LONGEST_JOURNAL, judge_bytes, run_audit};
 pub use check::{check_domain, run_check};
+pub use cover::{CoverOptions, run_cover};
 pub use explain_lines::LineKind;
 pub use fault::{Fault, tell_cause};
 pub use graph::{GraphOptions, run_graph};
 pub use judgement::{FileOutcome, judge};
+pub use lint::{LintOptions, run_lint};
 pub use list::run_list;
 pub use loading::{domain_of_bytes, load_domain};
 pub use page::{PageOptions, run_page};

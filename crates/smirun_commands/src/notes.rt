@@ -9,14 +9,23 @@ use sml_text::{Sink, put};
 use std::alloc::{AllocError, Global};
 use std::sync::Arc;
 
+/// A lookout that keeps what the lines of a schedule did.
+pub(crate) trait Recording: Lookout {
+    /// The domain.
+    fn domain(&self) -> &Arc<Domain>;
+
+    /// What the lines did.
+    fn history(&self) -> &History;
+}
+
 /// What a schedule is run for, whether a line of it was refused, and what its lines did, if that is asked for.
 #[derive(Drop)]
 pub(crate) struct Notes<'n, 'a, E> {
     pub(crate) options: &'n StepOptions<'a>,
-    pub(crate) domain: &'n Arc<Domain>,
+    domain: &'n Arc<Domain>,
     pub(crate) is_refused: bool,
     /// What the lines did. It stays empty if it is asked neither why a line was refused nor how all stands.
-    pub(crate) history: History,
+    history: History,
     errors: &'n mut E,
     // The text about one line, so that it is written in one piece.
     text: Vec<u8>,
@@ -103,5 +112,15 @@ impl<E: Sink> Lookout for Notes<'_, '_, E> {
             );
             self.write_told();
         }
+    }
+}
+
+impl<E: Sink> Recording for Notes<'_, '_, E> {
+    fn domain(&self) -> &Arc<Domain> {
+        self.domain
+    }
+
+    fn history(&self) -> &History {
+        &self.history
     }
 }

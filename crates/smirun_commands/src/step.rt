@@ -3,8 +3,8 @@
 //! From the file of a domain to what is written it goes through these functions, in this order: `run_step` loads the
 //! core, `run_in` opens the schedule, `run_traced` keeps why it cannot be read, `run_by_lines` or `run_file` lay a
 //! buffer before the output, `run_opened` makes the file of the journal, `run_kept` writes the journal to it in the
-//! end, `run_all` writes out the output, and `run_and_tell` runs the steps and tells how all stands. They are as many
-//! as things are opened: what is opened in one is closed when it returns.
+//! end or `run_keeping` as the run goes, `run_all` writes out the output, and `run_and_tell` runs the steps and tells
+//! how all stands. They are as many as things are opened: what is opened in one is closed when it returns.
 ghost use Rattle.std.specs.Prelude.{◌≡◌, ◌≢◌, ◌≤◌, ◌⊎◌, ℕ, List, Option, Err, None, IfErr, IfOk, IfSome, OnErr, OnOk};
 ghost use Rattle.std.specs.Arc.{arc_value};
 ghost use Rattle.std.specs.Io.KnownBytes.{Appends};
@@ -20,8 +20,9 @@ ghost use Rattle.smirun_commands.specs.Paths.{IsReadAs};
 
 use crate::advice::Advice;
 use crate::fault::Fault;
+use crate::kept_journal::{HeldOutput, Keeping, KeptInput, KeptNotes, flushed, lost_fault};
 use crate::loading::domain_of_bytes;
-use crate::notes::Notes;
+use crate::notes::{Notes, Recording};
 use crate::same_file::is_one_read;
 use crate::status::{DONE, REFUSED};
 use crate::text::{STANDARD_INPUT, load_text};
@@ -32,6 +33,7 @@ use smi_journal::write_journal;
 use sml_domain::Domain;
 use sml_text::{Sink, WriteFault, put};
 use std::alloc::{AllocError, Global};
+use std::cell::RefCell;
 use std::fs;
 use std::fs::Files;
 use std::io::{BufWriter, LineWriter, Read, Write};
@@ -280,12 +282,44 @@ fn run_opened<'a, R: Files + AllocGlobal, I: Read, W: Write, E: Write>(
     writer: &mut W,
     notes: &mut Notes<'_, 'a, E>,
 ) -> Result<(), Fault<'a>> {
-    let Some(path) = notes.options.journal else {
-        return run_all(rt.alloc(), core, reader, writer, notes);
+    let options = notes.options;
+    let Some(path) = options.journal else {
+        return run_all(rt.alloc(), core, options, reader, writer, notes);
     };
-    match fs::create(rt, path) {
-        Ok(mut file) => run_kept(rt.alloc(), core, reader, writer, notes, path, &mut file),
-        Err(error) => Err(Fault::JournalUnwritten(path, Some(error))),
+    let mut file = match fs::create(rt, path) {
+        Ok(file) => file,
+        Err(error) => return Err(Fault::JournalUnwritten(path, Some(error))),
+    };
+    if options.schedule == STANDARD_INPUT {
+        return run_keeping(rt.alloc(), core, reader, writer, notes, path, &mut file);
+    }
+    run_kept(rt.alloc(), core, reader, writer, notes, path, &mut file)
+}
+
+// Runs the schedule of standard input. The file of the journal has the entries of each step before its line is told.
+fn run_keeping<'a, I: Read, W: Write, E: Write, J: Write>(
+    heap: Global,
+    core: &mut Core,
+    reader: &mut I,
+    writer: &mut W,
+    notes: &mut Notes<'_, 'a, E>,
+    path: &'a str,
+    file: &mut J,
+) -> Result<(), Fault<'a>> {
+    let Ok(kept) = BufWriter::new(heap, &mut *file) else {
+        return Err(Fault::Memory);
+    };
+    let options = notes.options;
+    let mut keeping = Keeping::new(heap, kept, writer);
+    keeping.begin(core.domain());
+    let keeping = RefCell::new(keeping);
+    let mut input = KeptInput::new(reader, &keeping);
+    let mut output = HeldOutput::new(&keeping);
+    let mut noted = KeptNotes::new(notes, &keeping);
+    let ran = run_all(heap, core, options, &mut input, &mut output, &mut noted);
+    match lost_fault(&keeping, path) {
+        Some(fault) => Err(fault),
+        None => ran,
     }
 }
 
@@ -302,21 +336,22 @@ fn run_kept<'a, I: Read, W: Write, E: Write, J: Write>(
     let Ok(mut kept) = BufWriter::new(heap, &mut *file) else {
         return Err(Fault::Memory);
     };
-    match run_all(heap, core, reader, writer, notes) {
+    match run_all(heap, core, notes.options, reader, writer, notes) {
         Ok(()) => write_all_of(core, path, &mut kept),
         Err(fault) => Err(fault),
     }
 }
 
 // Runs a schedule, and writes out all that it writes, and behind it how all stands, if that is asked for.
-fn run_all<'a, I: Read, W: Write, E: Write>(
+fn run_all<'a, I: Read, W: Write, N: Recording>(
     heap: Global,
     core: &mut Core,
+    options: &StepOptions<'a>,
     reader: &mut I,
     writer: &mut W,
-    notes: &mut Notes<'_, 'a, E>,
+    notes: &mut N,
 ) -> Result<(), Fault<'a>> {
-    let ran = run_and_tell(heap, core, notes.options, reader, writer, notes);
+    let ran = run_and_tell(heap, core, options, reader, writer, notes);
     // After a fault too: what was done before it is told.
     let flushed = writer.flush();
     match ran {
@@ -328,13 +363,13 @@ fn run_all<'a, I: Read, W: Write, E: Write>(
 
 // Runs a schedule, and writes behind its output how all stands, if that is asked for. After a fault of the schedule
 // nothing more is written.
-fn run_and_tell<'a, I: Input, W: Sink, E: Sink>(
+fn run_and_tell<'a, I: Input, W: Sink, N: Recording>(
     heap: Global,
     core: &mut Core,
     options: &StepOptions<'a>,
     reader: &mut I,
     writer: &mut W,
-    notes: &mut Notes<'_, 'a, E>,
+    notes: &mut N,
 ) -> Result<(), Fault<'a>>
     ensures ok { OnOk result ((mid : Option (List ℕ)) × PerformsAll (I.remaining reader.old)
         (I.remaining reader.new) (W.contents writer.old) mid core.old core.new
@@ -354,10 +389,10 @@ fn run_and_tell<'a, I: Input, W: Sink, E: Sink>(
 }
 
 // Writes how all stands. It is a text in memory before it is written.
-fn tell_states<'a, W: Sink, E>(
+fn tell_states<'a, W: Sink, N: Recording>(
     heap: Global,
     core: &Core,
-    notes: &Notes<'_, 'a, E>,
+    notes: &N,
     writer: &mut W,
 ) -> Result<(), Fault<'a>>
     ensures { (more : List ℕ) × Appends (W.contents writer.old) (W.contents writer.new) more }
@@ -372,18 +407,18 @@ fn tell_states<'a, W: Sink, E>(
 }
 
 // The text of how all stands.
-fn standing_text<E>(
+fn standing_text<N: Recording>(
     heap: Global,
     core: &Core,
-    notes: &Notes<'_, '_, E>,
+    notes: &N,
 ) -> Result<Vec<u8>, AllocError> {
     let mut text = Vec::new(heap);
     let mut failed = false;
     tell_standing(
         heap,
-        notes.domain,
+        notes.domain(),
         core,
-        &notes.history,
+        notes.history(),
         &mut text,
         &mut failed,
     )?;
@@ -421,11 +456,9 @@ pub fn run_steps<'a, I: Input, W: Sink, L: Lookout>(
 // Writes the journal to the file of this path, to its end.
 fn write_all_of<'a, J: Write>(core: &Core, path: &'a str, kept: &mut J) -> Result<(), Fault<'a>> {
     let written = write_run(core, kept);
-    // After a fault too: this says its cause.
-    match kept.flush() {
-        Ok(()) if written.is_ok() => Ok(()),
-        Ok(()) => Err(Fault::JournalUnwritten(path, None)),
-        Err(error) => Err(Fault::JournalUnwritten(path, Some(error))),
+    match flushed(kept, written.is_err()) {
+        Ok(()) => Ok(()),
+        Err(cause) => Err(Fault::JournalUnwritten(path, cause)),
     }
 }
 

@@ -3,16 +3,19 @@ ghost use Rattle.std.specs.Prelude.{◌≡◌, ◌≢◌, ◌≤◌, IfErr, IfOk
 ghost use Rattle.std.specs.IoError.{error_kind};
 ghost use Rattle.smirun_commands.specs.Status.{fault_status};
 
+use crate::completing::run_completions;
 use crate::shown::Shown;
 use crate::traced::TracedWriter;
+use show_completions::CompletionFile;
 use show_json::JsonKind;
 use smirun_commands::{
-    Advice, AuditOptions, DONE, Fault, GraphOptions, PageOptions, PrintOptions, StatesOptions,
-    StepOptions, WRONG_WORDS, run_audit, run_check, run_graph, run_list, run_page, run_print,
-    run_states, run_step,
+    Advice, AuditOptions, CoverOptions, DONE, Fault, GraphOptions, LintOptions, PageOptions,
+    PrintOptions, StatesOptions, StepOptions, WRONG_WORDS, run_audit, run_check, run_cover,
+    run_graph, run_lint, run_list, run_page, run_print, run_states, run_step,
 };
 use smirun_live::{LiveHost, LiveOptions, run_live, run_live_as_lines_come};
 use smirun_run::{CheckOptions, Host, RunOptions, run_check_lines, run_run};
+use std::alloc::Global;
 use std::io;
 use std::io::{ErrorKind, Read, Write};
 
@@ -38,8 +41,13 @@ pub enum AskedCommand<'a> {
         options: CheckOptions<'a>,
         has_more: bool,
     },
-    /// To run a schedule on a domain.
-    Step(StepOptions<'a>),
+    /// To tell what is senseless in domain files.
+    Lint(LintOptions<'a>),
+    /// To run a schedule on a domain, and to say why the domain is refused, if that is asked for.
+    Step {
+        options: StepOptions<'a>,
+        explain: bool,
+    },
     /// To run a script on a domain, in threads.
     Run(RunOptions<'a>),
     /// To run a manager on a domain, which other programs talk to.
@@ -57,24 +65,31 @@ pub enum AskedCommand<'a> {
     Page(PageOptions<'a>),
     /// To tell how all stood behind a line of a journal.
     States(StatesOptions<'a>),
+    /// To tell what journals have exercised.
+    Cover(CoverOptions<'a>),
     /// To judge a journal by a domain.
     Audit(AuditOptions<'a>),
+    /// To write the completions of a shell, or the manual page.
+    Completions(CompletionFile),
 }
 
 impl AskedCommand<'_> {
     // Whether it is asked to say why a text or a line is refused.
     fn explain(&self) -> bool {
         match self {
-            AskedCommand::Check { explain, .. } | AskedCommand::List { explain, .. } => *explain,
+            AskedCommand::Check { explain, .. }
+            | AskedCommand::List { explain, .. }
+            | AskedCommand::Step { explain, .. } => *explain,
             AskedCommand::CheckLines { options, .. } => options.explain,
-            AskedCommand::Step(options) => options.explain,
+            AskedCommand::Lint(options) => options.explain,
             AskedCommand::Run(options) => options.explain,
             AskedCommand::Live(options) => options.explain,
             AskedCommand::Audit(options) => options.explain,
             AskedCommand::Print(options) => options.explain,
             AskedCommand::Graph(options) => options.explain,
             AskedCommand::States(options) => options.explain,
-            AskedCommand::Page(_) => false,
+            AskedCommand::Cover(options) => options.explain,
+            AskedCommand::Page(_) | AskedCommand::Completions(_) => false,
         }
     }
 }
@@ -119,15 +134,18 @@ fn perform_advised<R: Host + LiveHost, I: Read, W: Write, E: Write>(
     match asked {
         AskedCommand::Check { files, explain } => check(rt, files, *explain, input, output, errors),
         AskedCommand::CheckLines { options, .. } => check_lines(rt, options, input, output, errors),
+        AskedCommand::Lint(options) => lint(rt, options, input, output, errors),
         AskedCommand::Print(options) => print(rt, options, input, output, errors, advice),
         AskedCommand::List { file, .. } => list(rt, file, input, output, errors, advice),
         AskedCommand::Graph(options) => graph(rt, options, input, output, errors, advice),
         AskedCommand::Page(options) => page(rt, options, input, output, errors, advice),
         AskedCommand::States(options) => states(rt, options, input, output, errors, advice),
-        AskedCommand::Step(options) => step(rt, options, input, output, errors, advice),
+        AskedCommand::Cover(options) => cover(rt, options, input, output, errors, advice),
+        AskedCommand::Step { options, .. } => step(rt, options, input, output, errors, advice),
         AskedCommand::Run(options) => run(rt, options, input, output, errors, advice),
         AskedCommand::Live(options) => live(rt, options, input, output, errors, advice),
         AskedCommand::Audit(options) => audit(rt, options, input, output, errors, advice),
+        AskedCommand::Completions(file) => completions(rt.alloc(), *file, output, errors),
     }
 }
 
@@ -177,6 +195,20 @@ fn check_lines<R: Host + LiveHost, I: Read, W: Write, E: Write>(
     ensures { result ≤ 4 }
 {
     let outcome = run_check_lines(rt, options, input, output, errors);
+    status_of(&outcome, errors)
+}
+
+// Tells what is senseless in domain files.
+fn lint<R: Host + LiveHost, I: Read, W: Write, E: Write>(
+    rt: &R,
+    options: &LintOptions<'_>,
+    input: &mut I,
+    output: &mut W,
+    errors: &mut E,
+) -> u8
+    ensures { result ≤ 4 }
+{
+    let outcome = run_lint(rt, options, input, output, errors);
     status_of(&outcome, errors)
 }
 
@@ -300,6 +332,21 @@ fn states<R: Host + LiveHost, I: Read, W: Write, E: Write>(
     status_of(&outcome, errors)
 }
 
+// Tells what journals have exercised.
+fn cover<R: Host + LiveHost, I: Read, W: Write, E: Write>(
+    rt: &R,
+    options: &CoverOptions<'_>,
+    input: &mut I,
+    output: &mut W,
+    errors: &mut E,
+    advice: &mut Advice,
+) -> u8
+    ensures { result ≤ 4 }
+{
+    let outcome = run_cover(rt, options, input, output, errors, advice);
+    status_of(&outcome, errors)
+}
+
 // Judges a journal.
 fn audit<R: Host + LiveHost, I: Read, W: Write, E: Write>(
     rt: &R,
@@ -313,6 +360,19 @@ fn audit<R: Host + LiveHost, I: Read, W: Write, E: Write>(
 {
     let outcome = run_audit(rt, options, input, output, errors, advice);
     status_of(&outcome, errors)
+}
+
+// Writes the completions of a shell, or the manual page.
+fn completions<W: Write, E: Write>(
+    alloc: Global,
+    file: CompletionFile,
+    output: &mut W,
+    errors: &mut E,
+) -> u8
+    ensures { result ≤ 4 }
+{
+    let outcome = run_completions(alloc, file, output);
+    ended(&outcome, errors)
 }
 
 // The status that a command returns, or that of its fault, which is told.

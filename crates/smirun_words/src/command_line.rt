@@ -2,12 +2,15 @@
 
 use crate::asked::{Asked, AskedCommand};
 use crate::grammar::smirun_command;
+use crate::maker::HelpLength;
+use crate::terminals::Terminals;
 use clap::error::ErrorKind;
 use clap::{ArgMatches, Command, Error};
+use show_completions::CompletionFile;
 use show_json::JsonKind;
 use smirun_commands::{
-    AuditOptions, GraphOptions, PageOptions, PrintOptions, STANDARD_INPUT, StatesOptions,
-    StepOptions,
+    AuditOptions, CoverOptions, GraphOptions, LintOptions, PageOptions, PrintOptions,
+    STANDARD_INPUT, StatesOptions, StepOptions,
 };
 use smirun_live::LiveOptions;
 use smirun_run::{CheckOptions, RunNumbers, RunOptions};
@@ -18,20 +21,33 @@ use std::alloc::{AllocError, Global};
 pub fn parse<'a>(
     alloc: Global,
     words: &'a [String],
-    is_terminal: bool,
+    terminals: Terminals,
 ) -> Result<Asked<'a>, Error> {
-    let mut command = smirun_command(alloc)?;
-    read_words(alloc, &mut command, words, is_terminal)
+    let mut command = smirun_command(alloc, help_length(words))?;
+    read_words(alloc, &mut command, words, terminals)
+}
+
+// Of which length help is, if the words ask for it: the first of them that does says so.
+fn help_length(words: &[String]) -> HelpLength {
+    for word in words {
+        if word.as_str() == "--help" {
+            return HelpLength::Full;
+        }
+        if word.starts_with("-h") {
+            return HelpLength::Short;
+        }
+    }
+    HelpLength::Full
 }
 
 fn read_words<'a>(
     alloc: Global,
     command: &mut Command<'a>,
     words: &'a [String],
-    is_terminal: bool,
+    terminals: Terminals,
 ) -> Result<Asked<'a>, Error> {
     let matches = command.try_get_matches_from_mut(words)?;
-    let Some(asked) = asked_of(alloc, &matches, is_terminal)? else {
+    let Some(asked) = asked_of(alloc, &matches, terminals)? else {
         return Err(command.error(ErrorKind::MissingSubcommand, "no command is given")?);
     };
     match conflict_of(&asked) {
@@ -41,6 +57,19 @@ fn read_words<'a>(
             json: json_asked(&matches),
         }),
     }
+}
+
+// Whether a command is to say why something is refused: by a word, or where standard error is a terminal and no word is
+// against it.
+fn explains(command: &ArgMatches<'_>, terminals: Terminals) -> bool {
+    command.get_flag("explain") || (terminals.errors && !command.get_flag("no-explain"))
+}
+
+// Whether `step` is to explain the lines of a schedule. That has each line of output written out before the next is
+// read, so without a word it is done only where a person reads both streams, or gives the lines.
+fn explains_lines(step: &ArgMatches<'_>, schedule: &str, terminals: Terminals) -> bool {
+    let is_read = terminals.output || schedule == STANDARD_INPUT;
+    step.get_flag("explain") || (is_read && explains(step, terminals))
 }
 
 // The commands that write lines of JSON where that is asked for, with the kinds of their lines.
@@ -79,7 +108,7 @@ fn conflict_of(asked: &AskedCommand<'_>) -> Option<&'static str> {
 // The path of the journal or of the log that is to be written, if there is one.
 fn written<'a>(asked: &AskedCommand<'a>) -> Option<&'a str> {
     match asked {
-        AskedCommand::Step(options) => options.journal,
+        AskedCommand::Step { options, .. } => options.journal,
         AskedCommand::Run(options) => options.journal,
         AskedCommand::Live(options) => options.log,
         _ => None,
@@ -103,14 +132,19 @@ fn inputs(asked: &AskedCommand<'_>) -> usize {
                 .saturating_add(inputs_in(options.scripts.as_slice()))
                 .saturating_add(inputs_in(options.schedules.as_slice()))
         }
+        AskedCommand::Lint(options) => inputs_in(options.files.as_slice()),
         AskedCommand::Print(options) => inputs_in(&[options.file]),
         AskedCommand::List { file, .. } => inputs_in(&[file]),
         AskedCommand::Graph(options) => inputs_in(&[options.file, options.journal.unwrap_or("")]),
         AskedCommand::Page(options) => inputs_in(&[options.file, options.journal]),
         AskedCommand::States(options) => inputs_in(&[options.file, options.journal]),
-        AskedCommand::Step(options) => inputs_in(&[options.file, options.schedule]),
+        AskedCommand::Cover(options) => {
+            inputs_in(&[options.file]).saturating_add(inputs_in(options.journals.as_slice()))
+        }
+        AskedCommand::Step { options, .. } => inputs_in(&[options.file, options.schedule]),
         AskedCommand::Run(options) => inputs_in(&[options.file, options.script]),
         AskedCommand::Live(_) => 1,
+        AskedCommand::Completions(_) => 0,
         AskedCommand::Audit(options) => inputs_in(&[options.file, options.journal]),
     }
 }
@@ -122,51 +156,40 @@ fn inputs_in(files: &[&str]) -> usize {
 fn asked_of<'a>(
     alloc: Global,
     matches: &ArgMatches<'a>,
-    is_terminal: bool,
+    terminals: Terminals,
 ) -> Result<Option<AskedCommand<'a>>, AllocError> {
-    if let Some(check) = matches.subcommand_matches("check") {
-        return files_to_check(alloc, check);
-    }
-    if let Some(step) = matches.subcommand_matches("step") {
-        return Ok(schedule_to_run(step));
-    }
-    if let Some(run) = matches.subcommand_matches("run") {
-        return Ok(script_to_run(run, is_terminal));
-    }
-    if let Some(live) = matches.subcommand_matches("live") {
-        return Ok(manager_to_run(live));
-    }
-    if let Some(audit) = matches.subcommand_matches("audit") {
-        return Ok(journal_to_judge(audit));
-    }
-    if let Some(list) = matches.subcommand_matches("list") {
-        return Ok(file_to_list(list));
-    }
-    if let Some(graph) = matches.subcommand_matches("graph") {
-        return Ok(what_to_draw(graph));
-    }
-    if let Some(page) = matches.subcommand_matches("page") {
-        return Ok(run_to_show(page));
-    }
-    if let Some(states) = matches.subcommand_matches("states") {
-        return Ok(states_to_tell(states));
-    }
-    match matches.subcommand_matches("print") {
-        Some(print) => Ok(file_to_print(print)),
-        None => Ok(None),
+    let Some((name, command)) = matches.subcommand() else {
+        return Ok(None);
+    };
+    match name {
+        "check" => files_to_check(alloc, command, terminals),
+        "lint" => files_to_lint(alloc, command, terminals),
+        "print" => Ok(file_to_print(command, terminals)),
+        "list" => Ok(file_to_list(command, terminals)),
+        "graph" => Ok(what_to_draw(command, terminals)),
+        "page" => Ok(run_to_show(command)),
+        "states" => Ok(states_to_tell(command, terminals)),
+        "cover" => journals_to_count(alloc, command, terminals),
+        "step" => Ok(schedule_to_run(command, terminals)),
+        "run" => Ok(script_to_run(command, terminals)),
+        "live" => Ok(manager_to_run(command, terminals)),
+        "audit" => Ok(journal_to_judge(command, terminals)),
+        "completions" => Ok(file_to_complete(command)),
+        _ => Ok(None),
     }
 }
 
 fn files_to_check<'a>(
     alloc: Global,
     check: &ArgMatches<'a>,
+    terminals: Terminals,
 ) -> Result<Option<AskedCommand<'a>>, AllocError> {
     let Some(files) = check.get_strs("FILE") else {
         return Ok(None);
     };
     let scripts = check.get_strs("script").unwrap_or(&[]);
     let schedules = check.get_strs("schedule").unwrap_or(&[]);
-    let explain = check.get_flag("explain");
+    let explain = explains(check, terminals);
     match files.first() {
         Some(file) if scripts.len() > 0 || schedules.len() > 0 => {
             Ok(Some(AskedCommand::CheckLines {
@@ -186,23 +209,39 @@ fn files_to_check<'a>(
     }
 }
 
-fn file_to_print<'a>(print: &ArgMatches<'a>) -> Option<AskedCommand<'a>> {
+fn files_to_lint<'a>(
+    alloc: Global,
+    lint: &ArgMatches<'a>,
+    terminals: Terminals,
+) -> Result<Option<AskedCommand<'a>>, AllocError> {
+    let Some(files) = lint.get_strs("FILE") else {
+        return Ok(None);
+    };
+    Ok(Some(AskedCommand::Lint(LintOptions {
+        files: files.to_vec(alloc)?,
+        all: lint.get_flag("all"),
+        strict: lint.get_flag("strict"),
+        explain: explains(lint, terminals),
+    })))
+}
+
+fn file_to_print<'a>(print: &ArgMatches<'a>, terminals: Terminals) -> Option<AskedCommand<'a>> {
     Some(AskedCommand::Print(PrintOptions {
         file: print.get_str("FILE")?,
-        explain: print.get_flag("explain"),
+        explain: explains(print, terminals),
         check: print.get_flag("check"),
         keep: print.get_flag("keep"),
     }))
 }
 
-fn file_to_list<'a>(list: &ArgMatches<'a>) -> Option<AskedCommand<'a>> {
+fn file_to_list<'a>(list: &ArgMatches<'a>, terminals: Terminals) -> Option<AskedCommand<'a>> {
     Some(AskedCommand::List {
         file: list.get_str("FILE")?,
-        explain: list.get_flag("explain"),
+        explain: explains(list, terminals),
     })
 }
 
-fn what_to_draw<'a>(graph: &ArgMatches<'a>) -> Option<AskedCommand<'a>> {
+fn what_to_draw<'a>(graph: &ArgMatches<'a>, terminals: Terminals) -> Option<AskedCommand<'a>> {
     Some(AskedCommand::Graph(GraphOptions {
         file: graph.get_str("FILE")?,
         journal: graph.get_str("JOURNAL"),
@@ -210,7 +249,7 @@ fn what_to_draw<'a>(graph: &ArgMatches<'a>) -> Option<AskedCommand<'a>> {
         members: graph.get_flag("members"),
         from: graph.get_one::<usize>("from")?,
         count: graph.get_one::<usize>("count")?,
-        explain: graph.get_flag("explain"),
+        explain: explains(graph, terminals),
     }))
 }
 
@@ -221,30 +260,54 @@ fn run_to_show<'a>(page: &ArgMatches<'a>) -> Option<AskedCommand<'a>> {
     }))
 }
 
-fn states_to_tell<'a>(states: &ArgMatches<'a>) -> Option<AskedCommand<'a>> {
+fn states_to_tell<'a>(states: &ArgMatches<'a>, terminals: Terminals) -> Option<AskedCommand<'a>> {
     Some(AskedCommand::States(StatesOptions {
         file: states.get_str("FILE")?,
         journal: states.get_str("JOURNAL")?,
         at: states.get_one::<usize>("at"),
         with: states.get_one::<usize>("with"),
-        explain: states.get_flag("explain"),
+        explain: explains(states, terminals),
     }))
 }
 
-fn schedule_to_run<'a>(step: &ArgMatches<'a>) -> Option<AskedCommand<'a>> {
-    Some(AskedCommand::Step(StepOptions {
+fn journals_to_count<'a>(
+    alloc: Global,
+    cover: &ArgMatches<'a>,
+    terminals: Terminals,
+) -> Result<Option<AskedCommand<'a>>, AllocError> {
+    let Some(file) = cover.get_str("FILE") else {
+        return Ok(None);
+    };
+    let Some(journals) = cover.get_strs("JOURNAL") else {
+        return Ok(None);
+    };
+    Ok(Some(AskedCommand::Cover(CoverOptions {
+        file,
+        journals: journals.to_vec(alloc)?,
+        strict: cover.get_flag("strict"),
+        explain: explains(cover, terminals),
+    })))
+}
+
+fn schedule_to_run<'a>(step: &ArgMatches<'a>, terminals: Terminals) -> Option<AskedCommand<'a>> {
+    let schedule = step.get_str("SCHEDULE")?;
+    let options = StepOptions {
         file: step.get_str("FILE")?,
-        schedule: step.get_str("SCHEDULE")?,
+        schedule,
         capacity: step.get_one::<usize>("capacity")?,
         max_starts: step.get_one::<usize>("max-starts")?,
         journal: step.get_str("journal"),
         strict: step.get_flag("strict"),
-        explain: step.get_flag("explain"),
+        explain: explains_lines(step, schedule, terminals),
         states: step.get_flag("states"),
-    }))
+    };
+    Some(AskedCommand::Step {
+        options,
+        explain: explains(step, terminals),
+    })
 }
 
-fn script_to_run<'a>(run: &ArgMatches<'a>, is_terminal: bool) -> Option<AskedCommand<'a>> {
+fn script_to_run<'a>(run: &ArgMatches<'a>, terminals: Terminals) -> Option<AskedCommand<'a>> {
     let numbers = RunNumbers {
         workers: run.get_one::<usize>("workers")?,
         capacity: run.get_one::<usize>("capacity")?,
@@ -255,14 +318,14 @@ fn script_to_run<'a>(run: &ArgMatches<'a>, is_terminal: bool) -> Option<AskedCom
         script: run.get_str("SCRIPT")?,
         numbers,
         journal: run.get_str("journal"),
-        progress: is_terminal && run.get_flag("progress"),
-        explain: run.get_flag("explain"),
+        progress: terminals.errors && run.get_flag("progress"),
+        explain: explains(run, terminals),
         strict: run.get_flag("strict"),
         states: run.get_flag("states"),
     }))
 }
 
-fn manager_to_run<'a>(live: &ArgMatches<'a>) -> Option<AskedCommand<'a>> {
+fn manager_to_run<'a>(live: &ArgMatches<'a>, terminals: Terminals) -> Option<AskedCommand<'a>> {
     Some(AskedCommand::Live(LiveOptions {
         file: live.get_str("FILE")?,
         log: live.get_str("log"),
@@ -270,14 +333,19 @@ fn manager_to_run<'a>(live: &ArgMatches<'a>) -> Option<AskedCommand<'a>> {
         in_turn: live.get_flag("in-turn"),
         capacity: live.get_one::<usize>("capacity")?,
         max_starts: live.get_one::<usize>("max-starts")?,
-        explain: live.get_flag("explain"),
+        explain: explains(live, terminals),
     }))
 }
 
-fn journal_to_judge<'a>(audit: &ArgMatches<'a>) -> Option<AskedCommand<'a>> {
+fn journal_to_judge<'a>(audit: &ArgMatches<'a>, terminals: Terminals) -> Option<AskedCommand<'a>> {
     Some(AskedCommand::Audit(AuditOptions {
         file: audit.get_str("FILE")?,
         journal: audit.get_str("JOURNAL")?,
-        explain: audit.get_flag("explain"),
+        explain: explains(audit, terminals),
     }))
+}
+
+fn file_to_complete<'a>(completions: &ArgMatches<'a>) -> Option<AskedCommand<'a>> {
+    let file = CompletionFile::named(completions.get_str("SHELL")?)?;
+    Some(AskedCommand::Completions(file))
 }

@@ -3,12 +3,15 @@ ghost use Rattle.std.specs.Prelude.{◌≡◌, ◌≢◌, ◌≤◌, ◌⊎◌};
 ghost use Rattle.clap.specs.Values.{kind_of};
 
 use crate::asked::{AskedCommand, perform, perform_live};
+use crate::coloured::Coloured;
 use crate::command_line::parse;
+use crate::terminals::Terminals;
 use crate::traced::STANDARD_OUTPUT;
 use clap::error::ErrorKind;
 use smirun_commands::{DONE, Fault, WRONG_WORDS, tell_cause};
 use smirun_live::LiveHost;
 use smirun_run::Host;
+use std::env::Env;
 use std::io::{IsTerminal, Read, Write};
 
 /// Does what the words ask for, and returns the exit status.
@@ -18,43 +21,45 @@ use std::io::{IsTerminal, Read, Write};
 /// exit statuses") and what is wrong with a command line go to `errors`. A fault of `errors` changes nothing,
 /// since there is no place left to tell it.
 ///
-/// Standard input is `input`. If a manager is to take lines as they come, another thread reads it.
+/// Standard input is `input`. If a manager is to take lines as they come, another thread reads it. What is said to a
+/// person depends on which of `output` and `errors` are terminals, and on the variable `NO_COLOR` ([`Terminals`]).
 pub fn drive<
-    R: Host + LiveHost + 'static,
+    R: Host + LiveHost + Env + 'static,
     I: Read + Send + Drop + 'static,
-    W: Write,
+    W: Write + IsTerminal,
     E: Write + IsTerminal,
 >(rt: &R, words: &[String], mut input: I, output: &mut W, errors: &mut E) -> u8
     ensures { result ≤ 4 }
 {
-    let is_terminal = errors.is_terminal();
-    match parse(rt.alloc(), words, is_terminal) {
+    let terminals = Terminals::of(rt, output, errors);
+    let mut errors = Coloured::new(rt.alloc(), errors, terminals.colours);
+    match parse(rt.alloc(), words, terminals) {
         Ok(asked) => match &asked.command {
             AskedCommand::Live(options) if !options.in_turn => {
-                perform_live(rt, options, input, output, errors)
+                perform_live(rt, options, input, output, &mut errors)
             }
-            _ => perform(rt, &asked, &mut input, output, errors),
+            _ => perform(rt, &asked, &mut input, output, &mut errors),
         },
-        Err(error) => answer(&error, output, errors),
+        Err(error) => answer(&error, output, &mut errors),
     }
 }
 
-/// As [`drive`], with another reader in place of standard input. `is_terminal` says whether `errors` is a terminal:
-/// only then is it told how far a run is. A manager takes the lines of such a reader in turn, whether that is asked for
-/// or not.
+/// As [`drive`], with another reader in place of standard input, and with what `terminals` says of `output` and
+/// `errors`. A manager takes the lines of such a reader in turn, whether that is asked for or not.
 pub fn drive_from<R: Host + LiveHost, I: Read, W: Write, E: Write>(
     rt: &R,
     words: &[String],
     input: &mut I,
     output: &mut W,
     errors: &mut E,
-    is_terminal: bool,
+    terminals: Terminals,
 ) -> u8
     ensures { result ≤ 4 }
 {
-    match parse(rt.alloc(), words, is_terminal) {
-        Ok(asked) => perform(rt, &asked, input, output, errors),
-        Err(error) => answer(&error, output, errors),
+    let mut errors = Coloured::new(rt.alloc(), errors, terminals.colours);
+    match parse(rt.alloc(), words, terminals) {
+        Ok(asked) => perform(rt, &asked, input, output, &mut errors),
+        Err(error) => answer(&error, output, &mut errors),
     }
 }
 

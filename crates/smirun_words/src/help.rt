@@ -1,8 +1,11 @@
-//! The texts of `--help`.
+//! The texts of `-h` and of `--help`, from which completions and the manual page are made too.
 
 pub mod audit;
 pub mod check;
+pub mod completions;
+pub mod cover;
 pub mod graph;
+pub mod lint;
 pub mod list;
 pub mod live;
 pub mod page;
@@ -10,6 +13,19 @@ pub mod print;
 pub mod run;
 pub mod states;
 pub mod step;
+
+/// What help says of an argument.
+#[derive(Clone, Copy)]
+pub struct ArgumentHelp {
+    /// A few words: for `-h`, and for completions.
+    pub short: &'static str,
+    /// A line: for `--help`, and for the manual page.
+    pub full: &'static str,
+}
+
+pub const EXAMPLES: &str = "\
+Runs state manager domains. `smirun --help` has all, and `smirun COMMAND -h` what a command does. For example
+  smirun check --explain detector.sml; smirun run detector.sml switch_on.script --journal run.journal";
 
 pub const ABOUT: &str = "\
 Runs state manager domains.
@@ -31,20 +47,39 @@ which stands once on a command line; a file of that name is `./-`.
 Where a file is `unreadable`, or the journal of `step` or `run` or the log of `live` cannot be written, a further
 line on standard error has why, in the words of the system.
 
+Where standard error is a terminal, it has what `--explain` asks for unasked, in colours unless the environment
+has NO_COLOR; with `--no-explain` it does not. Of `--explain` and `--no-explain` the last one counts.
+
 Exit status: 0 done, also where single steps or requests were refused; 1 an input was refused, or a file
 could not be read or the output not be written; 2 a wrong command line; 3 not enough memory; 4 a journal
 that is not legal.";
 
-pub const FILE: &str = "The domain file, or - for standard input";
+pub const FILE: ArgumentHelp = ArgumentHelp {
+    short: "The domain file, or - for standard input",
+    full: "The domain file, or - for standard input",
+};
 
-pub const JSON: &str =
-    "Writes each line of standard output as a JSON object on a line, with the words as its fields";
+pub const JSON: ArgumentHelp = ArgumentHelp {
+    short: "Write each line as a JSON object",
+    full: "Writes each line of standard output as a JSON object on a line, with the words as its fields",
+};
 
-pub const WHY_REFUSED: &str =
-    "Say on standard error why a file is refused: line, column, and what could stand there instead";
+pub const WHY_REFUSED: ArgumentHelp = ArgumentHelp {
+    short: "Say on standard error why a file is refused",
+    full: "Say on standard error why a file is refused: line, column, and what could stand there instead",
+};
 
-pub const WHY_TEXTS: &str =
-    "Say on standard error why FILE or JOURNAL is refused: line, column, and what could stand there instead";
+pub const WHY_TEXTS: ArgumentHelp = ArgumentHelp {
+    short: "Say on standard error why FILE or JOURNAL is refused",
+    full: "Say on standard error why FILE or JOURNAL is refused: line, column, and what could stand there instead",
+};
 
-pub const WHY_LINES: &str =
-    "Say on standard error why a file or a line is refused: line, column, and what could stand there instead";
+pub const WHY_LINES: ArgumentHelp = ArgumentHelp {
+    short: "Say on standard error why a file or a line is refused",
+    full: "Say on standard error why a file or a line is refused: line, column, and what could stand there instead",
+};
+
+pub const NO_EXPLAIN: ArgumentHelp = ArgumentHelp {
+    short: "Do not say why, on a terminal either",
+    full: "Says nothing of why; without it, what --explain says is said wherever standard error is a terminal",
+};

@@ -2,12 +2,17 @@
 #![tactic(auto)]
 
 mod asked;
+mod coloured;
 mod command_line;
+mod completing;
 mod driving;
 mod grammar;
 mod help;
+mod maker;
 mod shown;
+mod terminals;
 mod traced;
 
 pub use asked::refuse_words;
 pub use driving::{drive, drive_from};
+pub use terminals::Terminals;

@@ -1,6 +1,8 @@
 //! The lines of a script: their first byte tells what they do.
 
-use crate::calls::{ask, call, call_cut_off, call_in_vain, call_with_no_memory, tell_no_words};
+use crate::calls::{
+    ask, call, call_at_terminal, call_cut_off, call_in_vain, call_with_no_memory, tell_no_words,
+};
 use crate::explained::compare;
 use crate::limits::tell_untold;
 use crate::outcomes::tell_run;
@@ -72,6 +74,14 @@ fn handle<R: Host + LiveHost>(rt: &R, line: &str, place: &mut Place) -> io::Resu
         "symlink" => point(rt, rest),
         "remove" => fs::remove_file(rt, rest),
         "show" => show(rt, rest, place),
+        // tells whether the last output is that of a file
+        "same" => tell_same(rt, rest, place),
+        // tells whether the last output has no more lines, and no longer ones: LINES COLUMNS
+        "fits" => tell_fit(rest, place),
+        // performs a command line as where both outputs are a terminal
+        "terminal" => call_at_terminal(rt, rest, true, place),
+        // performs a command line as where standard error alone is a terminal
+        "piped" => call_at_terminal(rt, rest, false, place),
         // tells what the program says if the words of a command line cannot be read
         "no-words" => tell_no_words(rt.alloc(), ErrorKind::InvalidData, place),
         "no-memory" => tell_no_words(rt.alloc(), ErrorKind::OutOfMemory, place),
@@ -173,5 +183,24 @@ fn show<R: Files + AllocGlobal>(rt: &R, path: &str, place: &mut Place) -> io::Re
     }
     place.output = fs::read(rt, path)?;
     place.tell_output()?;
+    Ok(())
+}
+
+// Tells whether the last output has the bytes of a file.
+fn tell_same<R: Files + AllocGlobal>(rt: &R, path: &str, place: &mut Place) -> io::Result<()> {
+    let bytes = fs::read(rt, path)?;
+    let is_same = bytes.as_slice() == place.output.as_slice();
+    place.tell_line("  ", if is_same { "the same" } else { "otherwise" })?;
+    Ok(())
+}
+
+// Tells whether the last output has at most so many lines, and each at most so many bytes.
+fn tell_fit(words: &str, place: &mut Place) -> io::Result<()> {
+    let (lines, columns) = words.split_once(' ').unwrap_or((words, ""));
+    let columns = number(columns)?;
+    let lines = number(lines)?;
+    let text = str::from_utf8(place.output.as_slice()).unwrap_or("");
+    let does_fit = text.lines().count() <= lines && text.lines().all(|line| line.len() <= columns);
+    place.tell_line("  ", if does_fit { "yes" } else { "no" })?;
     Ok(())
 }

@@ -5,10 +5,17 @@ use crate::place::Place;
 use crate::writers::{Fails, FailsLate, NoMemory, TakesNothing, TakesSome};
 use smirun_live::LiveHost;
 use smirun_run::Host;
-use smirun_words::{drive_from, refuse_words};
+use smirun_words::{Terminals, drive_from, refuse_words};
 use std::alloc::{AllocError, Global};
 use std::io;
 use std::io::Write;
+
+// Streams that are files.
+const FILES: Terminals = Terminals {
+    output: false,
+    errors: false,
+    colours: false,
+};
 
 // The words of a line, none if it is empty. (`""` is the word of no bytes.)
 fn words_of(alloc: Global, line: &str) -> Result<Vec<String>, AllocError> {
@@ -32,8 +39,41 @@ pub fn run<R: Host + LiveHost, W: Write>(
     errors: &mut Vec<u8>,
 ) -> Result<u8, AllocError> {
     let words = words_of(rt.alloc(), line)?;
-    let status = drive_from(rt, words.as_slice(), &mut &*text, output, errors, true);
+    let status = drive_from(rt, words.as_slice(), &mut &*text, output, errors, FILES);
     Ok(status)
+}
+
+/// Performs a command line as where standard error is a terminal with colours, and standard output too if `is_output`.
+/// Tells its errors with their colours, its status and its output.
+pub fn call_at_terminal<R: Host + LiveHost>(
+    rt: &R,
+    line: &str,
+    is_output: bool,
+    place: &mut Place,
+) -> io::Result<()> {
+    place.is_open = false;
+    let alloc = rt.alloc();
+    let words = words_of(alloc, line)?;
+    let mut output = Vec::new(alloc);
+    let mut errors = Vec::new(alloc);
+    let mut text = place.text.as_slice();
+    let terminals = Terminals {
+        output: is_output,
+        errors: true,
+        colours: true,
+    };
+    let status = drive_from(
+        rt,
+        words.as_slice(),
+        &mut text,
+        &mut output,
+        &mut errors,
+        terminals,
+    );
+    place.output = output;
+    tell(alloc, place, status, errors.as_slice())?;
+    place.tell_output()?;
+    Ok(())
 }
 
 /// Tells a status, and what was written for errors. (What the parser says about wrong words is no part of a

@@ -54,7 +54,7 @@ fn journal_of<R: Host + LiveHost>(rt: &R, line: &str) -> Vec<u8> {
 // Whether a command line asks for a command that explains what it refuses, and whose result is the same each time.
 fn can_explain(line: &str) -> bool {
     match line.split(' ').nth(1) {
-        Some(command) => ["check", "print", "step", "audit"].contains(&command),
+        Some(command) => ["check", "lint", "print", "step", "audit", "cover"].contains(&command),
         None => false,
     }
 }

@@ -165,7 +165,7 @@ fn add_field(
     }
 }
 
-// The text of an object. That of an object which is none of a line is empty.
+// The text of the line of an object. It is empty where the object is not that of a line.
 fn text_of(alloc: Global, object: &Value) -> Result<String, AllocError> {
     let word = object.get("line").and_then(Value::as_str).unwrap_or("");
     let mut text = String::new(alloc);

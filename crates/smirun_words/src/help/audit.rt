@@ -1,12 +1,24 @@
-//! The texts of `audit --help`.
+//! The texts of help on `audit`.
+
+use crate::help::ArgumentHelp;
 
 pub const AUDIT: &str = "\
 Judges a journal: whether each of its lines may stand where it stands, or which is the first that may not.";
 
-pub const JOURNAL: &str = "The journal: a text as `step --journal` writes it; - is standard input";
+pub const JOURNAL: ArgumentHelp = ArgumentHelp {
+    short: "The journal, or - for standard input",
+    full: "The journal: a text as `step --journal` writes it; - is standard input",
+};
 
-pub const EXPLAIN: &str =
-    "Say on standard error what stands against an illegal line, and which earlier line or instruction";
+pub const EXPLAIN: ArgumentHelp = ArgumentHelp {
+    short: "Say on standard error what stands against an illegal line",
+    full: "Say on standard error what stands against an illegal line, and which earlier line or instruction",
+};
+
+pub const AUDIT_EXAMPLES: &str = "\
+`smirun audit --help` has all. Examples:
+  smirun audit detector.sml run.journal
+  smirun audit --explain first.sml broken.journal";
 
 pub const AUDIT_MORE: &str = "\
 FILE, the domain file, has at most 1048576 bytes, and JOURNAL at most 67108864, both ASCII without a

@@ -1,15 +1,29 @@
-//! The texts of `check --help`.
+//! The texts of help on `check`.
+
+use crate::help::ArgumentHelp;
 
 pub const CHECK: &str = "\
 Tells of domain files whether they are well-formed, one line a file.";
 
-pub const FILES: &str = "The domain files; - is standard input";
+pub const FILES: ArgumentHelp = ArgumentHelp {
+    short: "The domain files; - is standard input",
+    full: "The domain files; - is standard input",
+};
 
-pub const CHECKED_SCRIPT: &str =
-    "Look at the lines of this script of FILE too, and run nothing; may stand more than once";
+pub const CHECKED_SCRIPT: ArgumentHelp = ArgumentHelp {
+    short: "Look at the lines of this script of FILE too",
+    full: "Look at the lines of this script of FILE too, and run nothing; may stand more than once",
+};
 
-pub const CHECKED_SCHEDULE: &str =
-    "Look at the lines of this schedule of FILE too, and run nothing; may stand more than once";
+pub const CHECKED_SCHEDULE: ArgumentHelp = ArgumentHelp {
+    short: "Look at the lines of this schedule of FILE too",
+    full: "Look at the lines of this schedule of FILE too, and run nothing; may stand more than once",
+};
+
+pub const CHECK_EXAMPLES: &str = "\
+`smirun check --help` has all. Examples:
+  smirun check detector.sml
+  smirun check --explain detector.sml --script switch_on.script";
 
 pub const CHECK_MORE: &str = "\
 A domain file has at most 1048576 bytes of ASCII, without a byte order mark. It is well-formed where

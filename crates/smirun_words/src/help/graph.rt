@@ -1,19 +1,39 @@
-//! The texts of `graph --help`.
+//! The texts of help on `graph`.
+
+use crate::help::ArgumentHelp;
 
 pub const GRAPH: &str = "\
 Draws a domain as a graph of its states, or, with a journal, the run that this is of.";
 
-pub const DRAWN_JOURNAL: &str =
-    "The journal of the run to draw: a text as `step --journal` writes it; - is standard input";
+pub const DRAWN_JOURNAL: ArgumentHelp = ArgumentHelp {
+    short: "The journal of the run to draw, or -",
+    full: "The journal of the run to draw: a text as `step --journal` writes it; - is standard input",
+};
 
-pub const OBJECTS: &str =
-    "Draw the objects and sets too, who sends what to whom, and who reads whom";
+pub const OBJECTS: ArgumentHelp = ArgumentHelp {
+    short: "Draw who sends what to whom, and who reads whom",
+    full: "Draw the objects and sets too, who sends what to whom, and who reads whom",
+};
 
-pub const MEMBERS: &str = "With --objects, draw each member of sets with more than eight too";
+pub const MEMBERS: ArgumentHelp = ArgumentHelp {
+    short: "With --objects, draw each member of large sets too",
+    full: "With --objects, draw each member of sets with more than eight too",
+};
 
-pub const FROM: &str = "The first entry of the journal to draw; the first of all is 1";
+pub const FROM: ArgumentHelp = ArgumentHelp {
+    short: "The first entry of the journal to draw",
+    full: "The first entry of the journal to draw; the first of all is 1",
+};
 
-pub const COUNT: &str = "How many entries of the journal to draw at most";
+pub const COUNT: ArgumentHelp = ArgumentHelp {
+    short: "How many entries of the journal to draw at most",
+    full: "How many entries of the journal to draw at most",
+};
+
+pub const GRAPH_EXAMPLES: &str = "\
+`smirun graph --help` has all. Examples:
+  smirun graph detector.sml | dot -Tsvg > detector.svg
+  smirun graph detector.sml run.journal | dot -Tsvg > run.svg";
 
 pub const GRAPH_MORE: &str = "\
 FILE, the domain file, has at most 1048576 bytes, and JOURNAL at most 67108864, both ASCII without a

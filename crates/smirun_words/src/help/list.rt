@@ -1,7 +1,12 @@
-//! The texts of `list --help`.
+//! The texts of help on `list`.
 
 pub const LIST: &str = "\
 Lists what a domain declares, one thing a line: for searching, and for editors.";
+
+pub const LIST_EXAMPLES: &str = "\
+`smirun list --help` has all. Examples:
+  smirun list detector.sml
+  smirun list detector.sml | grep '^action '";
 
 pub const LIST_MORE: &str = "\
 FILE, the domain file, has at most 1048576 bytes of ASCII, without a byte order mark. It is read and

@@ -1,17 +1,34 @@
-//! The texts of `live --help`.
+//! The texts of help on `live`.
+
+use crate::help::ArgumentHelp;
 
 pub const LIVE: &str = "\
 Runs a manager of a domain, which other programs talk to by lines.";
 
-pub const LIVE_FILE: &str = "The domain file; standard input has the lines, so - is refused";
+pub const LIVE_FILE: ArgumentHelp = ArgumentHelp {
+    short: "The domain file",
+    full: "The domain file; standard input has the lines, so - is refused",
+};
 
-pub const KEPT_LOG: &str =
-    "Writes each line that is made to this file, which is not there yet or empty; FILE is refused";
+pub const KEPT_LOG: ArgumentHelp = ArgumentHelp {
+    short: "Write each line that is made to this file",
+    full: "Writes each line that is made to this file, which is not there yet or empty; FILE is refused",
+};
 
-pub const RESUME: &str = "Makes the lines of the log again first, and goes on behind them";
+pub const RESUME: ArgumentHelp = ArgumentHelp {
+    short: "Make the lines of the log again first, and go on",
+    full: "Makes the lines of the log again first, and goes on behind them",
+};
 
-pub const IN_TURN: &str =
-    "Takes a line only when nothing else is left to do, so that the same lines give the same output";
+pub const IN_TURN: ArgumentHelp = ArgumentHelp {
+    short: "Take a line only when nothing else is left to do",
+    full: "Takes a line only when nothing else is left to do, so that the same lines give the same output",
+};
+
+pub const LIVE_EXAMPLES: &str = "\
+`smirun live --help` has all. Examples:
+  smirun live detector.sml --log detector.log
+  smirun live detector.sml --log detector.log --resume";
 
 pub const LIVE_MORE: &str = "\
 FILE is a domain file, as `smirun step --help` has it. The manager makes all `start` and `go` steps by itself,

@@ -1,10 +1,19 @@
-//! The texts of `page --help`.
+//! The texts of help on `page`.
+
+use crate::help::ArgumentHelp;
 
 pub const PAGE: &str = "\
 Writes a page of a run: one file of HTML, by which the run is gone through in a browser.";
 
-pub const SHOWN_JOURNAL: &str =
-    "The journal of the run: a text as `step --journal` writes it; - is standard input";
+pub const SHOWN_JOURNAL: ArgumentHelp = ArgumentHelp {
+    short: "The journal of the run, or - for standard input",
+    full: "The journal of the run: a text as `step --journal` writes it; - is standard input",
+};
+
+pub const PAGE_EXAMPLES: &str = "\
+`smirun page --help` has all. Examples:
+  smirun page detector.sml run.journal > run.html
+  smirun page detector.sml - < run.journal > run.html";
 
 pub const PAGE_MORE: &str = "\
 FILE, the domain file, has at most 1048576 bytes, and JOURNAL at most 67108864, both ASCII without a

@@ -1,15 +1,29 @@
-//! The texts of `print --help`.
+//! The texts of help on `print`.
+
+use crate::help::ArgumentHelp;
 
 pub const PRINT: &str = "\
 Prints the canonical text of a domain: the one spelling that every domain has.";
 
-pub const COMPARE: &str =
-    "Print nothing, and tell the first place where FILE differs from what would be printed";
+pub const COMPARE: ArgumentHelp = ArgumentHelp {
+    short: "Tell the first place where FILE differs",
+    full: "Print nothing, and tell the first place where FILE differs from what would be printed",
+};
 
-pub const KEEP: &str = "Print the comments too, and blank lines where FILE has some";
+pub const KEEP: ArgumentHelp = ArgumentHelp {
+    short: "Print comments and blank lines too",
+    full: "Print the comments too, and blank lines where FILE has some",
+};
 
-pub const WHY_DIFFERS: &str =
-    "Say on standard error why FILE is refused, or what is expected where it differs: line and column";
+pub const WHY_DIFFERS: ArgumentHelp = ArgumentHelp {
+    short: "Say on standard error why FILE is refused or differs",
+    full: "Say on standard error why FILE is refused, or what is expected where it differs: line and column",
+};
+
+pub const PRINT_EXAMPLES: &str = "\
+`smirun print --help` has all. Examples:
+  smirun print detector.sml
+  smirun print --keep --check detector.sml";
 
 pub const PRINT_MORE: &str = "\
 FILE, the domain file, has at most 1048576 bytes of ASCII, without a byte order mark. It is read and

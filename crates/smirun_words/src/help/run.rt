@@ -1,24 +1,44 @@
-//! The texts of `run --help`.
+//! The texts of help on `run`.
+
+use crate::help::ArgumentHelp;
 
 pub const RUN: &str = "\
 Runs a script on a domain, with operators' sessions and workers in threads, and writes a summary.";
 
-pub const SCRIPT: &str =
-    "The script: what the operators do and the devices answer; - is standard input";
+pub const SCRIPT: ArgumentHelp = ArgumentHelp {
+    short: "The script, or - for standard input",
+    full: "The script: what the operators do and the devices answer; - is standard input",
+};
 
-pub const WORKERS: &str = "How many workers perform actions, 1 to 8";
+pub const WORKERS: ArgumentHelp = ArgumentHelp {
+    short: "How many workers perform actions, 1 to 8",
+    full: "How many workers perform actions, 1 to 8",
+};
 
-pub const RUN_JOURNAL: &str =
-    "Writes the journal to this file, behind the summary; a file that is read is refused";
+pub const RUN_JOURNAL: ArgumentHelp = ArgumentHelp {
+    short: "Write the journal to this file",
+    full: "Writes the journal to this file, behind the summary; a file that is read is refused",
+};
 
-pub const PROGRESS: &str =
-    "Tell on standard error how far the run is, if that is a terminal and the run takes over two seconds";
+pub const PROGRESS: ArgumentHelp = ArgumentHelp {
+    short: "Tell on a terminal how far the run is",
+    full: "Tell on standard error how far the run is, if that is a terminal and the run takes over two seconds",
+};
 
-pub const RUN_STRICT: &str =
-    "Ends with status 1 where a request was refused, an object waits, requests are left, or a device failed";
+pub const RUN_STRICT: ArgumentHelp = ArgumentHelp {
+    short: "End with status 1 where not all was done",
+    full: "Ends with status 1 where a request was refused, an object waits, requests are left, or a device failed",
+};
 
-pub const RUN_STATES: &str =
-    "Writes behind the summary every parameter, what is open, and changed sets, as `smirun step --states` does";
+pub const RUN_STATES: ArgumentHelp = ArgumentHelp {
+    short: "Write behind the summary how all stands",
+    full: "Writes behind the summary every parameter, what is open, and changed sets, as `smirun step --states` does",
+};
+
+pub const RUN_EXAMPLES: &str = "\
+`smirun run --help` has all. Examples:
+  smirun run detector.sml switch_on.script
+  smirun run detector.sml switch_on.script --workers 4 --journal run.journal";
 
 pub const RUN_MORE: &str = "\
 FILE is a domain file, as `smirun step --help` has it. SCRIPT has at most 16777216 bytes of ASCII. Each line

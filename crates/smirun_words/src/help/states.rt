@@ -1,14 +1,29 @@
-//! The texts of `states --help`.
+//! The texts of help on `states`.
+
+use crate::help::ArgumentHelp;
 
 pub const STATES_COMMAND: &str = "\
 Tells how all stood behind a line of a journal, or what differs between two lines.";
 
-pub const TOLD_JOURNAL: &str =
-    "The journal of the run: a text as `step --journal` writes it; - is standard input";
+pub const TOLD_JOURNAL: ArgumentHelp = ArgumentHelp {
+    short: "The journal of the run, or - for standard input",
+    full: "The journal of the run: a text as `step --journal` writes it; - is standard input",
+};
 
-pub const AT: &str = "The line behind which it is told: the header is line 1 [default: the last]";
+pub const AT: ArgumentHelp = ArgumentHelp {
+    short: "The line of the journal [default: the last]",
+    full: "The line behind which it is told: the header is line 1 [default: the last]",
+};
 
-pub const WITH: &str = "Tell only what differs between line N and line N2";
+pub const WITH: ArgumentHelp = ArgumentHelp {
+    short: "Tell only what differs between line N and line N2",
+    full: "Tell only what differs between line N and line N2",
+};
+
+pub const STATES_EXAMPLES: &str = "\
+`smirun states --help` has all. Examples:
+  smirun states detector.sml run.journal --at 40
+  smirun states detector.sml run.journal --at 40 --with 41";
 
 pub const STATES_MORE: &str = "\
 FILE, the domain file, has at most 1048576 bytes, and JOURNAL at most 67108864, both ASCII without a

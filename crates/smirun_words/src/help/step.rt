@@ -1,21 +1,44 @@
-//! The texts of `step --help`.
+//! The texts of help on `step`.
+
+use crate::help::ArgumentHelp;
 
 pub const STEP: &str = "\
 Runs a schedule on a domain, and writes what each of its steps does.";
 
-pub const SCHEDULE: &str = "The schedule: a text with one step a line; - is standard input";
+pub const SCHEDULE: ArgumentHelp = ArgumentHelp {
+    short: "The schedule, or - for standard input",
+    full: "The schedule: a text with one step a line; - is standard input",
+};
 
-pub const CAPACITY: &str = "How many requests wait at an object at most, 1 to 1024";
+pub const CAPACITY: ArgumentHelp = ArgumentHelp {
+    short: "How many requests wait at an object at most",
+    full: "How many requests wait at an object at most, 1 to 1024",
+};
 
-pub const STARTS: &str = "How many actions are started at most, 1 to 1000000";
+pub const STARTS: ArgumentHelp = ArgumentHelp {
+    short: "How many actions are started at most",
+    full: "How many actions are started at most, 1 to 1000000",
+};
 
-pub const KEPT_JOURNAL: &str =
-    "Writes the journal to this file, when the schedule is done; a file that is read is refused";
+pub const KEPT_JOURNAL: ArgumentHelp = ArgumentHelp {
+    short: "Write the journal to this file",
+    full: "Writes the journal to this file, of standard input step by step; a file that is read is refused",
+};
 
-pub const STRICT: &str = "Ends with status 1 where a line was refused";
+pub const STRICT: ArgumentHelp = ArgumentHelp {
+    short: "End with status 1 where a line was refused",
+    full: "Ends with status 1 where a line was refused",
+};
 
-pub const STATES: &str =
-    "Writes behind the schedule the state and the parameters of each object, and what is open or waits";
+pub const STATES: ArgumentHelp = ArgumentHelp {
+    short: "Write in the end how all stands",
+    full: "Writes behind the schedule the state and the parameters of each object, and what is open or waits",
+};
+
+pub const STEP_EXAMPLES: &str = "\
+`smirun step --help` has all. Examples:
+  smirun step first.sml first.schedule
+  smirun step first.sml - --journal first.journal";
 
 pub const STEP_MORE: &str = "\
 FILE, the domain file, has at most 1048576 bytes of ASCII, without a byte order mark. `!` begins a
@@ -128,9 +151,10 @@ With the domain above, the schedule on the left writes what is on the right:
 
 With `--journal PATH` the file PATH is made, or what stands there is deleted, before the first step; the
 journal is written to it when the whole schedule is done: the line `smi-journal 2`, and then the lines
-above but `accept`, `set`, `still` and `refused`. `smirun audit FILE PATH` judges it. A journal over 67108864
-bytes is written, and `audit` and `graph` refuse it. Where PATH is FILE or SCHEDULE, by this path or another, or
-is -, the command line is a wrong one, and nothing is read or written.
+above but `accept`, `set`, `still` and `refused`. Where SCHEDULE is -, the first line is written before the first
+step, and the lines of each step before they go to standard output. `smirun audit FILE PATH` judges it. A journal
+over 67108864 bytes is written, and `audit` and `graph` refuse it. Where PATH is FILE or SCHEDULE, by this path or
+another, or is -, the command line is a wrong one, and nothing is read or written.
 
 With `--states` these lines follow what the schedule writes:
 
@@ -157,15 +181,20 @@ With `--explain` standard error has why, behind the line of each refused step: t
 SCHEDULE:LINE:COLUMN, both counted from 1, one sentence, the line and a caret under the place. With `--strict`
 the exit status is 1 where a line was refused, so that a schedule can be a test.
 
+With `--explain` each line of output is written out before the next is read, so that what explains a line stands
+behind it; that takes longer. So where it is not asked for, and standard error is a terminal, lines are explained
+only where standard output is a terminal too, or SCHEDULE is -.
+
 Where SCHEDULE is -, what the lines that were read write is written before more is read. Ctrl-D ends them. Ctrl-C
-ends the program at once, and its journal is then empty.
+ends the program at once; its journal has all that was told, and `audit` takes it.
 
 A file that is refused is told on standard error, by FILE and one of: `read NO KIND at OFFSET` (no text
 of the language), `check NO KIND NAME` (not well-formed; `smirun check --help` has the kinds),
 `unreadable` (a second line has why), `too long` (the schedule). `output fault` says that the output cannot
 be written, or that the journal cannot be made or written (then a second line has PATH and why), `memory`
 that there is not enough memory. What the steps before a fault write is written, and nothing of the
-journal. No step is made where the journal cannot be made.
+journal, but what it has already where SCHEDULE is -. No step is made where the journal cannot be made. Where that
+of standard input cannot be written any more, no further step is told, and the schedule ends.
 
 The time grows with the length of the schedule and of what it writes: a million steps take about a second.
 No step looks through the journal. A `request` costs what its arguments and the parameters of its action
