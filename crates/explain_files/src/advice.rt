@@ -25,7 +25,7 @@ pub(crate) enum Advice {
 }
 
 /// Writes behind a sentence what to write instead.
-pub(crate) fn tell_advice<W: Sink>(out: &mut Teller<'_, W>, advice: Advice) {
+pub(crate) fn tell_advice<W: Sink>(out: &mut Teller<'_, '_, W>, advice: Advice) {
     match advice {
         Advice::Write(words) => tell_meant(out, words, None, b""),
         Advice::Say(sentence) => {
@@ -45,7 +45,12 @@ pub(crate) fn tell_advice<W: Sink>(out: &mut Teller<'_, W>, advice: Advice) {
 }
 
 // What may have been meant: words, a piece of the text, and more words.
-fn tell_meant<W: Sink>(out: &mut Teller<'_, W>, words: &[u8], piece: Option<Piece>, behind: &[u8]) {
+fn tell_meant<W: Sink>(
+    out: &mut Teller<'_, '_, W>,
+    words: &[u8],
+    piece: Option<Piece>,
+    behind: &[u8],
+) {
     out.say(b"; did you mean `");
     out.say(words);
     if let Some(piece) = piece {
@@ -57,7 +62,7 @@ fn tell_meant<W: Sink>(out: &mut Teller<'_, W>, words: &[u8], piece: Option<Piec
 }
 
 // Two states as a list.
-fn tell_states<W: Sink>(out: &mut Teller<'_, W>, first: Piece, second: Piece) {
+fn tell_states<W: Sink>(out: &mut Teller<'_, '_, W>, first: Piece, second: Piece) {
     out.say(b": a list of states stands in braces, as in `{ ");
     out.piece(first);
     out.say(b", ");
@@ -66,7 +71,7 @@ fn tell_states<W: Sink>(out: &mut Teller<'_, W>, first: Piece, second: Piece) {
 }
 
 // A `do` of an action at an object, or at a set that is not told.
-fn tell_do<W: Sink>(out: &mut Teller<'_, W>, action: Piece, object: Piece) {
+fn tell_do<W: Sink>(out: &mut Teller<'_, '_, W>, action: Piece, object: Piece) {
     out.say(b"; did you mean `do ");
     out.piece(action);
     out.say(b" ");

@@ -37,7 +37,7 @@ fn byte_before(text: &[u8], offset: usize) -> Option<u8> {
 }
 
 /// Says which rule of tokens is broken at a place, which is that of the trail.
-pub(crate) fn tell_bad_token<W: Sink>(out: &mut Teller<'_, W>, trail: &Trail, offset: usize) {
+pub(crate) fn tell_bad_token<W: Sink>(out: &mut Teller<'_, '_, W>, trail: &Trail, offset: usize) {
     let text = out.text;
     if text.starts_with(JOURNAL) {
         out.say(b"this looks like a journal, and not like a domain: is the order FILE JOURNAL?");
@@ -61,7 +61,7 @@ pub(crate) fn tell_bad_token<W: Sink>(out: &mut Teller<'_, W>, trail: &Trail, of
 }
 
 // A word that is too long.
-fn tell_long_word<W: Sink>(out: &mut Teller<'_, W>, rest: &[u8]) {
+fn tell_long_word<W: Sink>(out: &mut Teller<'_, '_, W>, rest: &[u8]) {
     out.say(b"a name has at most ");
     out.number(LONGEST_NAME as u64);
     out.say(b" bytes, and this word has ");
@@ -69,7 +69,7 @@ fn tell_long_word<W: Sink>(out: &mut Teller<'_, W>, rest: &[u8]) {
 }
 
 // An int that is too large, or a number with letters.
-fn tell_int<W: Sink>(out: &mut Teller<'_, W>, trail: &Trail, rest: &[u8]) {
+fn tell_int<W: Sink>(out: &mut Teller<'_, '_, W>, trail: &Trail, rest: &[u8]) {
     let digits = rest
         .iter()
         .take_while(|b| b.is_ascii_digit() || **b == b'-')
@@ -83,7 +83,7 @@ fn tell_int<W: Sink>(out: &mut Teller<'_, W>, trail: &Trail, rest: &[u8]) {
 }
 
 // A number with letters: a value that is written otherwise, a time, or a name.
-fn tell_letters<W: Sink>(out: &mut Teller<'_, W>, trail: &Trail, rest: &[u8]) {
+fn tell_letters<W: Sink>(out: &mut Teller<'_, '_, W>, trail: &Trail, rest: &[u8]) {
     let length = rest
         .iter()
         .take_while(|b| is_word_byte(*b) || **b == b'-')
@@ -99,7 +99,7 @@ fn tell_letters<W: Sink>(out: &mut Teller<'_, W>, trail: &Trail, rest: &[u8]) {
 }
 
 // A minus without digits, or with too many of them.
-fn tell_minus<W: Sink>(out: &mut Teller<'_, W>, trail: &Trail, rest: &[u8], before: u8) {
+fn tell_minus<W: Sink>(out: &mut Teller<'_, '_, W>, trail: &Trail, rest: &[u8], before: u8) {
     if is_word_byte(&before) {
         out.say(MINUS);
         out.say(DOMAINS);
@@ -114,7 +114,7 @@ fn tell_minus<W: Sink>(out: &mut Teller<'_, W>, trail: &Trail, rest: &[u8], befo
 }
 
 // A sign of other languages.
-fn tell_sign<W: Sink>(out: &mut Teller<'_, W>, rest: &[u8], sign: ForeignSign) {
+fn tell_sign<W: Sink>(out: &mut Teller<'_, '_, W>, rest: &[u8], sign: ForeignSign) {
     out.quoted(rest.split_at(sign.length.min(rest.len())).0);
     out.say(NO_SIGN);
     tell_advice(out, Advice::Say(sign.sentence));
@@ -137,7 +137,7 @@ fn string_fault(rest: &[u8]) -> StringFault {
 }
 
 // What begins as a string and is not one.
-fn tell_string<W: Sink>(out: &mut Teller<'_, W>, rest: &[u8]) {
+fn tell_string<W: Sink>(out: &mut Teller<'_, '_, W>, rest: &[u8]) {
     match string_fault(rest) {
         StringFault::TooLong => {
             out.say(b"a string has at most ");
@@ -167,7 +167,7 @@ fn begins_as_domain(text: &[u8]) -> bool {
 }
 
 // A byte that begins no token.
-fn tell_other<W: Sink>(out: &mut Teller<'_, W>, byte: u8, before: u8) {
+fn tell_other<W: Sink>(out: &mut Teller<'_, '_, W>, byte: u8, before: u8) {
     match byte {
         b'\'' => out.say(b"a string stands in `\"`, not in `'` (docs/LANGUAGE.md, \"Tokens\")"),
         b'@' if !begins_as_domain(out.text) => out.say(SCHEDULE),

@@ -1,6 +1,6 @@
 //! The faults of a file that was read.
 ghost use Rattle.std.specs.Prelude.{◌≡◌, ◌<◌, ◌-◌, IfOk, IfSome, min};
-ghost use Rattle.sml_text.specs.Written.{StaysDue, Told};
+ghost use Rattle.sml_writer.specs.Tells.{Tells};
 ghost use Rattle.explain_files.specs.Others.{faults_word, others_text};
 
 use crate::directory::Directory;
@@ -12,8 +12,9 @@ use crate::teller::Teller;
 use crate::tokens::Tokens;
 use crate::walk::{Before, Walk};
 use sml_read::{ReadError, ReadErrorKind, read};
-use sml_text::{Sink, tell, tell_u64};
+use sml_text::Sink;
 use sml_tree::SmlFile;
+use sml_writer::Out;
 use std::alloc::{AllocError, Global};
 
 // How many faults of a file are told.
@@ -29,15 +30,9 @@ pub fn explain_check<W: Sink>(
     alloc: Global,
     file: &str,
     text: &[u8],
-    writer: &mut W,
-    failed: &mut bool,
+    out: &mut Out<'_, W>,
 ) -> Result<(), AllocError> {
-    let mut out = Teller {
-        file,
-        text,
-        writer,
-        failed,
-    };
+    let mut out = Teller { file, text, out };
     match read(alloc, text) {
         Ok(tree) => {
             let told = explain_tree(alloc, &tree, &mut out);
@@ -50,11 +45,11 @@ pub fn explain_check<W: Sink>(
 
 /// Tells of a well-formed text that it has no items, if that is so; else nothing is written. The cost is that of the
 /// blanks and comments before its first token.
-pub fn explain_good<W: Sink>(file: &str, text: &[u8], writer: &mut W, failed: &mut bool) {
+pub fn explain_good<W: Sink>(file: &str, text: &[u8], out: &mut Out<'_, W>) {
     let mut tokens = Tokens::new(text);
     if tokens.take().is_none() {
-        tell(writer, failed, file.as_bytes());
-        tell(writer, failed, b": no items\n");
+        out.say(file.as_bytes());
+        out.say(b": no items\n");
     }
 }
 
@@ -157,7 +152,7 @@ fn find<const MOST: usize>(
 fn explain_tree<W: Sink>(
     alloc: Global,
     tree: &SmlFile<Global>,
-    out: &mut Teller<'_, W>,
+    out: &mut Teller<'_, '_, W>,
 ) -> Result<(), AllocError> {
     let mut directory = Directory::new(alloc, tree);
     let mut spots = Spots::new(alloc);
@@ -178,7 +173,7 @@ fn explain_file<W: Sink>(
     alloc: Global,
     directory: &Directory<'_>,
     spots: &Spots,
-    out: &mut Teller<'_, W>,
+    out: &mut Teller<'_, '_, W>,
 ) -> Result<(), AllocError> {
     let mut findings: Findings<TOLD> = Findings::new(alloc);
     let found = find(alloc, directory, spots, &mut findings);
@@ -187,14 +182,14 @@ fn explain_file<W: Sink>(
         for finding in findings.kept() {
             tell_finding(out, subject, finding);
         }
-        tell_rest(&mut *out.writer, &mut *out.failed, out.file, &findings);
+        tell_rest(&mut *out.out, out.file, &findings);
     }
     drop(findings);
     found
 }
 
 // Explains one fault.
-fn tell_finding<W: Sink>(out: &mut Teller<'_, W>, subject: Subject<'_>, finding: &Finding) {
+fn tell_finding<W: Sink>(out: &mut Teller<'_, '_, W>, subject: Subject<'_>, finding: &Finding) {
     out.begin(finding.at);
     tell_sentence(out, subject, finding);
     out.end(finding.at);
@@ -202,32 +197,29 @@ fn tell_finding<W: Sink>(out: &mut Teller<'_, W>, subject: Subject<'_>, finding:
 
 // How many faults there are behind those that are told one by one, if there are any.
 fn tell_rest<W: Sink, const MOST: usize>(
-    writer: &mut W,
-    failed: &mut bool,
+    out: &mut Out<'_, W>,
     file: &str,
     findings: &Findings<MOST>,
 )
-    ensures told { Told (W.contents writer.old) failed.old (W.contents writer.new) failed.new
+    ensures { Tells W.contents W.has_refused out.old out.new
         (others_text file.now (findings.now.told - findings.now.kept)) }
-    ensures due { StaysDue (W.has_refused writer.old) failed.old (W.has_refused writer.new) failed.new }
 {
     let count = findings.others();
     if count > 0 {
-        tell_others(writer, failed, file, count);
+        tell_others(out, file, count);
     }
 }
 
 // The line of the count of other faults, one at least.
-fn tell_others<W: Sink>(writer: &mut W, failed: &mut bool, file: &str, count: usize)
+fn tell_others<W: Sink>(out: &mut Out<'_, W>, file: &str, count: usize)
     requires { 0 < count }
-    ensures told { Told (W.contents writer.old) failed.old (W.contents writer.new) failed.new
+    ensures { Tells W.contents W.has_refused out.old out.new
         (others_text file.now count) }
-    ensures due { StaysDue (W.has_refused writer.old) failed.old (W.has_refused writer.new) failed.new }
 {
-    tell(writer, failed, file.as_bytes());
-    tell(writer, failed, b": and ");
-    tell_u64(writer, failed, count as u64);
-    tell(writer, failed, faults_word(count));
+    out.say(file.as_bytes());
+    out.say(b": and ");
+    out.number(count as u64);
+    out.say(faults_word(count));
 }
 
 // The end of that line.

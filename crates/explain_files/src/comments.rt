@@ -72,7 +72,7 @@ fn comment_of_condition(text: &[u8], trail: &Trail, offset: usize) -> Option<Rem
 }
 
 /// Says which comment is the cause of a fault, and what to write instead.
-pub(crate) fn tell_remark<W: Sink>(out: &mut Teller<'_, W>, trail: &Trail, remark: Remark) {
+pub(crate) fn tell_remark<W: Sink>(out: &mut Teller<'_, '_, W>, trail: &Trail, remark: Remark) {
     match remark {
         Remark::Foreign(_) => out.say(b"a comment begins with `!`"),
         Remark::Not(_) => out.say(b"`!` begins a comment here: write `not`"),
@@ -81,7 +81,7 @@ pub(crate) fn tell_remark<W: Sink>(out: &mut Teller<'_, W>, trail: &Trail, remar
 }
 
 // The test that was meant with `!=`, with its state if one is behind that.
-fn tell_unequal<W: Sink>(out: &mut Teller<'_, W>, trail: &Trail, at: usize) {
+fn tell_unequal<W: Sink>(out: &mut Teller<'_, '_, W>, trail: &Trail, at: usize) {
     let text = out.text;
     let behind = text.get(at.saturating_add(2)..).unwrap_or(&[]);
     out.say(b"`!` begins a comment here: write `");

@@ -95,7 +95,7 @@ fn is_schedule(text: &[u8], trail: &Trail) -> bool {
 }
 
 /// Says what is left out of the language, if there is such a thing at the place. Whether there is.
-pub(crate) fn tell_left_out<W: Sink>(out: &mut Teller<'_, W>, trail: &Trail) -> bool {
+pub(crate) fn tell_left_out<W: Sink>(out: &mut Teller<'_, '_, W>, trail: &Trail) -> bool {
     let text = out.text;
     if is_schedule(text, trail) {
         out.say(SCHEDULE);

@@ -9,7 +9,7 @@ use sml_tree::{
 };
 
 /// Says which limit the item at the place is beyond.
-pub(crate) fn tell_too_many<W: Sink>(out: &mut Teller<'_, W>, trail: &Trail) {
+pub(crate) fn tell_too_many<W: Sink>(out: &mut Teller<'_, '_, W>, trail: &Trail) {
     let (whole, limit, parts): (&[u8], usize, &[u8]) = match trail.found.kind {
         TokenKind::Class => (b"a file", MAX_CLASSES, b" classes"),
         TokenKind::Object => (b"a file", MAX_OBJECTS, b" objects"),
@@ -39,7 +39,7 @@ fn in_list(trail: &Trail) -> (&'static [u8], usize, &'static [u8]) {
 }
 
 /// Says what is nested too deeply at the place.
-pub(crate) fn tell_too_deep<W: Sink>(out: &mut Teller<'_, W>, trail: &Trail) {
+pub(crate) fn tell_too_deep<W: Sink>(out: &mut Teller<'_, '_, W>, trail: &Trail) {
     if matches!(trail.found.kind, TokenKind::If) {
         out.say(b"an `if` stands inside at most ");
         out.number(u64::from(MAX_IFS));

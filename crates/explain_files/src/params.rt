@@ -12,7 +12,7 @@ use std::alloc::Global;
 
 /// A name that is no parameter's.
 pub(crate) fn tell_param<W: Sink>(
-    out: &mut Teller<'_, W>,
+    out: &mut Teller<'_, '_, W>,
     subject: Subject<'_>,
     finding: &Finding,
 ) {
@@ -54,7 +54,7 @@ pub(crate) fn tell_param<W: Sink>(
 
 // The action of a class that the name at a place of the text calls.
 fn called_at<'s, W: Sink>(
-    out: &Teller<'_, W>,
+    out: &Teller<'_, '_, W>,
     subject: Subject<'s>,
     class: usize,
     call: usize,
@@ -82,7 +82,7 @@ fn own_action<'s>(
 }
 
 // The parameters of an action, and the one of them that may have been meant.
-fn tell_params<W: Sink>(out: &mut Teller<'_, W>, action: &Action<Global>, name: &Name) {
+fn tell_params<W: Sink>(out: &mut Teller<'_, '_, W>, action: &Action<Global>, name: &Name) {
     let mut nearest = Nearest::new(name);
     if action.params.is_empty() {
         return out.say(b", and no other");
@@ -98,7 +98,7 @@ fn tell_params<W: Sink>(out: &mut Teller<'_, W>, action: &Action<Global>, name: 
 }
 
 // The parameters of a class, and the one of them that may have been meant.
-fn tell_class_params<W: Sink>(out: &mut Teller<'_, W>, class: &Class<Global>, name: &Name) {
+fn tell_class_params<W: Sink>(out: &mut Teller<'_, '_, W>, class: &Class<Global>, name: &Name) {
     let mut nearest = Nearest::new(name);
     if class.params.is_empty() {
         return out.say(b", and no other: `set` changes parameters of the class");
@@ -115,7 +115,7 @@ fn tell_class_params<W: Sink>(out: &mut Teller<'_, W>, class: &Class<Global>, na
 
 // A `set` of a name that is no parameter's of the class, but may be one of the action.
 fn tell_set_param<W: Sink>(
-    out: &mut Teller<'_, W>,
+    out: &mut Teller<'_, '_, W>,
     subject: Subject<'_>,
     finding: &Finding,
     class: usize,
@@ -145,7 +145,7 @@ fn tell_set_param<W: Sink>(
 
 // A value that names no parameter of an action or its class.
 fn tell_own<W: Sink>(
-    out: &mut Teller<'_, W>,
+    out: &mut Teller<'_, '_, W>,
     subject: Subject<'_>,
     finding: &Finding,
     class: usize,
@@ -185,7 +185,7 @@ fn other_kind(kind: Kind) -> Kind {
 }
 
 /// A value of another kind than its parameter.
-pub(crate) fn tell_kinds<W: Sink>(out: &mut Teller<'_, W>, finding: &Finding) {
+pub(crate) fn tell_kinds<W: Sink>(out: &mut Teller<'_, '_, W>, finding: &Finding) {
     let Detail::Kinds {
         wanted,
         role,
@@ -216,7 +216,7 @@ pub(crate) fn tell_kinds<W: Sink>(out: &mut Teller<'_, W>, finding: &Finding) {
 
 /// A parameter that gets no value.
 pub(crate) fn tell_missing<W: Sink>(
-    out: &mut Teller<'_, W>,
+    out: &mut Teller<'_, '_, W>,
     subject: Subject<'_>,
     finding: &Finding,
 ) {

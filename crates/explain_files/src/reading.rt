@@ -9,6 +9,7 @@ use crate::unexpected::tell_unexpected;
 use explain_places::{is_utf16, tell_not_ascii};
 use sml_read::{MAX_TEXT, ReadError, ReadErrorKind};
 use sml_text::Sink;
+use sml_writer::Out;
 use std::alloc::{AllocError, Global};
 
 const MARK: &[u8] = b"\xEF\xBB\xBF";
@@ -29,15 +30,9 @@ pub fn explain_read<W: Sink>(
     file: &str,
     text: &[u8],
     error: &ReadError,
-    writer: &mut W,
-    failed: &mut bool,
+    out: &mut Out<'_, W>,
 ) -> Result<(), AllocError> {
-    let mut out = Teller {
-        file,
-        text,
-        writer,
-        failed,
-    };
+    let mut out = Teller { file, text, out };
     match error.kind {
         ReadErrorKind::TooLong | ReadErrorKind::NotAscii => {
             tell_plain(&mut out, error);
@@ -52,7 +47,7 @@ pub fn explain_read<W: Sink>(
 }
 
 // A refusal that needs no look at what is before it.
-fn tell_plain<W: Sink>(out: &mut Teller<'_, W>, error: &ReadError) {
+fn tell_plain<W: Sink>(out: &mut Teller<'_, '_, W>, error: &ReadError) {
     out.begin(error.offset);
     match error.kind {
         ReadErrorKind::TooLong => {
@@ -66,7 +61,7 @@ fn tell_plain<W: Sink>(out: &mut Teller<'_, W>, error: &ReadError) {
 }
 
 // A byte that is not ASCII.
-fn tell_byte<W: Sink>(out: &mut Teller<'_, W>, offset: usize) {
+fn tell_byte<W: Sink>(out: &mut Teller<'_, '_, W>, offset: usize) {
     let text = out.text;
     if is_utf16(text) {
         return out.say(UTF16);
@@ -75,13 +70,13 @@ fn tell_byte<W: Sink>(out: &mut Teller<'_, W>, offset: usize) {
         return out.say(b"the file begins with a byte order mark: save it without one");
     }
     let bytes = text.split_at(offset.min(text.len())).1;
-    tell_not_ascii(&mut *out.writer, &mut *out.failed, bytes, ASCII_ALONE);
+    tell_not_ascii(&mut *out.out, bytes, ASCII_ALONE);
 }
 
 // A refusal that follows from what is before it.
 fn tell_placed<W: Sink>(
     alloc: Global,
-    out: &mut Teller<'_, W>,
+    out: &mut Teller<'_, '_, W>,
     error: &ReadError,
 ) -> Result<(), AllocError> {
     let mut trail = Trail::new(alloc);
@@ -115,7 +110,7 @@ fn remark_of(text: &[u8], trail: &Trail, error: &ReadError) -> Option<Remark> {
 }
 
 // Says why there is a refusal at the place of a trail.
-fn tell_cause<W: Sink>(out: &mut Teller<'_, W>, trail: &Trail, error: &ReadError) {
+fn tell_cause<W: Sink>(out: &mut Teller<'_, '_, W>, trail: &Trail, error: &ReadError) {
     match error.kind {
         ReadErrorKind::TooDeep => tell_too_deep(out, trail),
         ReadErrorKind::TooMany => tell_too_many(out, trail),

@@ -14,7 +14,7 @@ use std::alloc::Global;
 
 /// Writes the sentence of a fault.
 pub(crate) fn tell_sentence<W: Sink>(
-    out: &mut Teller<'_, W>,
+    out: &mut Teller<'_, '_, W>,
     subject: Subject<'_>,
     finding: &Finding,
 ) {
@@ -40,7 +40,7 @@ pub(crate) fn tell_sentence<W: Sink>(
 }
 
 // That the object of a fault is inserted into the set, if it is no member of it.
-fn tell_insert<W: Sink>(out: &mut Teller<'_, W>, finding: &Finding) {
+fn tell_insert<W: Sink>(out: &mut Teller<'_, '_, W>, finding: &Finding) {
     let object = match finding.detail {
         Detail::Called {
             object,
@@ -77,7 +77,7 @@ fn sort_words(sort: Sort) -> &'static [u8] {
 }
 
 // Of what sort a name is that occurs twice, and where it occurs first.
-fn tell_twice<W: Sink>(out: &mut Teller<'_, W>, finding: &Finding) {
+fn tell_twice<W: Sink>(out: &mut Teller<'_, '_, W>, finding: &Finding) {
     let Detail::First { sort, at } = finding.detail else {
         return;
     };
@@ -88,7 +88,7 @@ fn tell_twice<W: Sink>(out: &mut Teller<'_, W>, finding: &Finding) {
 }
 
 // Two states with a mark.
-fn tell_marks<W: Sink>(out: &mut Teller<'_, W>, finding: &Finding, mark: &[u8]) {
+fn tell_marks<W: Sink>(out: &mut Teller<'_, '_, W>, finding: &Finding, mark: &[u8]) {
     let Detail::First { at, .. } = finding.detail else {
         return;
     };
@@ -104,7 +104,7 @@ fn tell_marks<W: Sink>(out: &mut Teller<'_, W>, finding: &Finding, mark: &[u8]) 
 }
 
 // The states of a class, and the one of them that may have been meant.
-fn tell_states<W: Sink>(out: &mut Teller<'_, W>, class: &Class<Global>, name: &Name) {
+fn tell_states<W: Sink>(out: &mut Teller<'_, '_, W>, class: &Class<Global>, name: &Name) {
     let mut nearest = Nearest::new(name);
     out.say(b" (");
     for (i, state) in class.states.iter().enumerate() {
@@ -122,7 +122,7 @@ fn tell_states<W: Sink>(out: &mut Teller<'_, W>, class: &Class<Global>, name: &N
 }
 
 // A state that a class does not have.
-fn tell_state<W: Sink>(out: &mut Teller<'_, W>, subject: Subject<'_>, finding: &Finding) {
+fn tell_state<W: Sink>(out: &mut Teller<'_, '_, W>, subject: Subject<'_>, finding: &Finding) {
     let place = match finding.detail {
         Detail::Class(class) | Detail::Tested { class, .. } => class,
         _ => return,
@@ -154,7 +154,7 @@ fn tell_state<W: Sink>(out: &mut Teller<'_, W>, subject: Subject<'_>, finding: &
 }
 
 // An action that a class declares in no state.
-fn tell_action<W: Sink>(out: &mut Teller<'_, W>, subject: Subject<'_>, finding: &Finding) {
+fn tell_action<W: Sink>(out: &mut Teller<'_, '_, W>, subject: Subject<'_>, finding: &Finding) {
     let Detail::Called { class, object, .. } = finding.detail else {
         return;
     };
@@ -178,7 +178,7 @@ fn offer_actions(nearest: &mut Nearest, class: &Class<Global>) {
 }
 
 // An action with two lists of parameters.
-fn tell_differing<W: Sink>(out: &mut Teller<'_, W>, finding: &Finding) {
+fn tell_differing<W: Sink>(out: &mut Teller<'_, '_, W>, finding: &Finding) {
     let Detail::First { at, .. } = finding.detail else {
         return;
     };
@@ -192,7 +192,7 @@ fn tell_differing<W: Sink>(out: &mut Teller<'_, W>, finding: &Finding) {
 }
 
 // A condition or a `wait` that reads an object of the class that it is in.
-fn tell_self<W: Sink>(out: &mut Teller<'_, W>, subject: Subject<'_>, finding: &Finding) {
+fn tell_self<W: Sink>(out: &mut Teller<'_, '_, W>, subject: Subject<'_>, finding: &Finding) {
     let Detail::Read { class, site, .. } = finding.detail else {
         return;
     };
@@ -206,7 +206,7 @@ fn tell_self<W: Sink>(out: &mut Teller<'_, W>, subject: Subject<'_>, finding: &F
 }
 
 // An action with instructions in an associated class.
-fn tell_body<W: Sink>(out: &mut Teller<'_, W>, subject: Subject<'_>, finding: &Finding) {
+fn tell_body<W: Sink>(out: &mut Teller<'_, '_, W>, subject: Subject<'_>, finding: &Finding) {
     let Detail::Class(class) = finding.detail else {
         return;
     };

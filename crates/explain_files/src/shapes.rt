@@ -73,7 +73,7 @@ fn last_word(text: &[u8], trail: &Trail) -> Option<Name> {
 
 /// Says that the word before the place was taken as the object of a `do` or of a test, if it is one that other
 /// languages have there. Whether it is.
-pub(crate) fn tell_taken<W: Sink>(out: &mut Teller<'_, W>, trail: &Trail) -> bool {
+pub(crate) fn tell_taken<W: Sink>(out: &mut Teller<'_, '_, W>, trail: &Trail) -> bool {
     let text = out.text;
     let Some(word) = last_word(text, trail) else {
         return false;
@@ -91,7 +91,7 @@ pub(crate) fn tell_taken<W: Sink>(out: &mut Teller<'_, W>, trail: &Trail) -> boo
 }
 
 // Says that a word was taken as the object of a `do`, if it names no object. Returns whether it said so.
-fn tell_taken_target<W: Sink>(out: &mut Teller<'_, W>, trail: &Trail, word: &Name) -> bool {
+fn tell_taken_target<W: Sink>(out: &mut Teller<'_, '_, W>, trail: &Trail, word: &Name) -> bool {
     let advice = match quantifier(word.as_bytes()) {
         Some(_) => Advice::Write(b"all_in"),
         None if is_preposition(word.as_bytes()) => Advice::Say(b"leave it out"),
@@ -104,7 +104,7 @@ fn tell_taken_target<W: Sink>(out: &mut Teller<'_, W>, trail: &Trail, word: &Nam
 }
 
 // Says that a word was taken as the object of a test, if it names no object. Returns whether it said so.
-fn tell_taken_subject<W: Sink>(out: &mut Teller<'_, W>, trail: &Trail, word: &Name) -> bool {
+fn tell_taken_subject<W: Sink>(out: &mut Teller<'_, '_, W>, trail: &Trail, word: &Name) -> bool {
     let advice = match (quantifier(word.as_bytes()), trail.found.kind) {
         (Some(meant), TokenKind::Name) => Advice::Of(meant, trail.found),
         (Some(meant), _) => Advice::Write(meant),
@@ -117,7 +117,7 @@ fn tell_taken_subject<W: Sink>(out: &mut Teller<'_, W>, trail: &Trail, word: &Na
 }
 
 /// Says what to write in place of two signs that other languages have, if they end at the place. Whether they do.
-pub(crate) fn tell_equals<W: Sink>(out: &mut Teller<'_, W>, trail: &Trail) -> bool {
+pub(crate) fn tell_equals<W: Sink>(out: &mut Teller<'_, '_, W>, trail: &Trail) -> bool {
     let sign: &[u8] = match (trail.last.kind, trail.found.kind, trail.after.kind) {
         (TokenKind::Equals, TokenKind::Equals, _) if trail.last.end == trail.found.at => b"`==`",
         (_, TokenKind::Colon, TokenKind::Equals) if trail.found.end == trail.after.at => b"`:=`",

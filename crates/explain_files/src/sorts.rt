@@ -10,7 +10,7 @@ use sml_tree::{Item, Name};
 
 // What a name is instead, if an item of another sort has it. The answer is whether one has.
 fn tell_other_sort<W: Sink>(
-    out: &mut Teller<'_, W>,
+    out: &mut Teller<'_, '_, W>,
     subject: Subject<'_>,
     name: &Name,
     place: Option<usize>,
@@ -28,7 +28,7 @@ fn tell_other_sort<W: Sink>(
 }
 
 // The class that may have been meant by a name.
-fn tell_nearest_class<W: Sink>(out: &mut Teller<'_, W>, subject: Subject<'_>, name: &Name) {
+fn tell_nearest_class<W: Sink>(out: &mut Teller<'_, '_, W>, subject: Subject<'_>, name: &Name) {
     let mut nearest = Nearest::new(name);
     for item in &subject.directory.file.items {
         if let Item::Class(class) = item {
@@ -39,7 +39,7 @@ fn tell_nearest_class<W: Sink>(out: &mut Teller<'_, W>, subject: Subject<'_>, na
 }
 
 // The set that may have been meant by a name.
-fn tell_nearest_set<W: Sink>(out: &mut Teller<'_, W>, subject: Subject<'_>, name: &Name) {
+fn tell_nearest_set<W: Sink>(out: &mut Teller<'_, '_, W>, subject: Subject<'_>, name: &Name) {
     let mut nearest = Nearest::new(name);
     for item in &subject.directory.file.items {
         if let Item::Group(set) = item {
@@ -50,7 +50,7 @@ fn tell_nearest_set<W: Sink>(out: &mut Teller<'_, W>, subject: Subject<'_>, name
 }
 
 // The object that may have been meant by a name.
-fn tell_nearest_object<W: Sink>(out: &mut Teller<'_, W>, subject: Subject<'_>, name: &Name) {
+fn tell_nearest_object<W: Sink>(out: &mut Teller<'_, '_, W>, subject: Subject<'_>, name: &Name) {
     let mut nearest = Nearest::new(name);
     for item in &subject.directory.file.items {
         if let Item::Object(object) = item {
@@ -62,7 +62,7 @@ fn tell_nearest_object<W: Sink>(out: &mut Teller<'_, W>, subject: Subject<'_>, n
 
 /// A class that is not declared.
 pub(crate) fn tell_class<W: Sink>(
-    out: &mut Teller<'_, W>,
+    out: &mut Teller<'_, '_, W>,
     subject: Subject<'_>,
     finding: &Finding,
 ) {
@@ -83,7 +83,7 @@ pub(crate) fn tell_class<W: Sink>(
 
 /// An object that is not declared.
 pub(crate) fn tell_object<W: Sink>(
-    out: &mut Teller<'_, W>,
+    out: &mut Teller<'_, '_, W>,
     subject: Subject<'_>,
     finding: &Finding,
 ) {
@@ -109,7 +109,7 @@ pub(crate) fn tell_object<W: Sink>(
 }
 
 // The object of a class, if that has just one.
-fn tell_only_object<W: Sink>(out: &mut Teller<'_, W>, subject: Subject<'_>, class: &Name) {
+fn tell_only_object<W: Sink>(out: &mut Teller<'_, '_, W>, subject: Subject<'_>, class: &Name) {
     let mut found = None;
     let mut count = 0usize;
     for item in &subject.directory.file.items {
@@ -128,7 +128,7 @@ fn tell_only_object<W: Sink>(out: &mut Teller<'_, W>, subject: Subject<'_>, clas
 
 // The object or the set that stands in a `do` where its action should be, before a name that is no object's.
 fn object_before<W: Sink>(
-    out: &Teller<'_, W>,
+    out: &Teller<'_, '_, W>,
     subject: Subject<'_>,
     finding: &Finding,
 ) -> Option<Name> {
@@ -147,7 +147,7 @@ fn object_before<W: Sink>(
 
 // That an action stands before the object or the set that it is sent to.
 fn tell_action_first<W: Sink>(
-    out: &mut Teller<'_, W>,
+    out: &mut Teller<'_, '_, W>,
     subject: Subject<'_>,
     action: &Name,
     object: &Name,
@@ -164,7 +164,11 @@ fn tell_action_first<W: Sink>(
 }
 
 /// A set that is not declared.
-pub(crate) fn tell_set<W: Sink>(out: &mut Teller<'_, W>, subject: Subject<'_>, finding: &Finding) {
+pub(crate) fn tell_set<W: Sink>(
+    out: &mut Teller<'_, '_, W>,
+    subject: Subject<'_>,
+    finding: &Finding,
+) {
     let directory = subject.directory;
     let name = &finding.name;
     let object = directory.object(name);

@@ -16,14 +16,19 @@ pub(crate) struct Subject<'s> {
 }
 
 /// A name between words.
-pub(crate) fn tell_of<W: Sink>(out: &mut Teller<'_, W>, before: &[u8], name: &Name, behind: &[u8]) {
+pub(crate) fn tell_of<W: Sink>(
+    out: &mut Teller<'_, '_, W>,
+    before: &[u8],
+    name: &Name,
+    behind: &[u8],
+) {
     out.say(before);
     out.name(name);
     out.say(behind);
 }
 
 /// The name that may have been meant.
-pub(crate) fn tell_nearest<W: Sink>(out: &mut Teller<'_, W>, nearest: &Nearest) {
+pub(crate) fn tell_nearest<W: Sink>(out: &mut Teller<'_, '_, W>, nearest: &Nearest) {
     if let Some(name) = nearest.found() {
         tell_of(out, b"; did you mean ", &name, b"?");
     }
@@ -31,7 +36,7 @@ pub(crate) fn tell_nearest<W: Sink>(out: &mut Teller<'_, W>, nearest: &Nearest) 
 
 /// The name of the class at a place.
 pub(crate) fn tell_class_name<W: Sink>(
-    out: &mut Teller<'_, W>,
+    out: &mut Teller<'_, '_, W>,
     subject: Subject<'_>,
     class: usize,
 ) {
@@ -42,7 +47,7 @@ pub(crate) fn tell_class_name<W: Sink>(
 }
 
 /// The name that is at a place of the text.
-pub(crate) fn tell_called<W: Sink>(out: &mut Teller<'_, W>, call: usize) {
+pub(crate) fn tell_called<W: Sink>(out: &mut Teller<'_, '_, W>, call: usize) {
     let text = out.text;
     let rest = text.split_at(call.min(text.len())).1;
     if let Some(piece) = Tokens::new(rest).take() {
@@ -53,7 +58,7 @@ pub(crate) fn tell_called<W: Sink>(out: &mut Teller<'_, W>, call: usize) {
 }
 
 /// A comma, before each name of a list except the first.
-pub(crate) fn tell_comma<W: Sink>(out: &mut Teller<'_, W>, before: usize) {
+pub(crate) fn tell_comma<W: Sink>(out: &mut Teller<'_, '_, W>, before: usize) {
     if before > 0 {
         out.say(b", ");
     }

@@ -2,40 +2,30 @@
 
 use crate::tokens::Piece;
 use explain_places::{place_of, tell_place, tell_quoted, tell_spot};
-use sml_text::{Sink, tell, tell_u64};
+use sml_text::Sink;
 use sml_tree::Name;
+use sml_writer::Out;
 
 // How many bytes of a token are shown.
 const SHOWN: usize = 64;
 
 /// Writes sentences about a text.
-pub(crate) struct Teller<'t, W: Sink> {
+#[derive(Drop)]
+pub(crate) struct Teller<'t, 'w, W: Sink> {
     pub file: &'t str,
     pub text: &'t [u8],
-    pub writer: &'t mut W,
-    pub failed: &'t mut bool,
+    pub out: &'t mut Out<'w, W>,
 }
 
-impl<W: Sink> Drop for Teller<'_, W> {
-    fn drop(self) {
-        let Teller {
-            file: _,
-            text: _,
-            writer: _,
-            failed: _,
-        } = self;
-    }
-}
-
-impl<'t, W: Sink> Teller<'t, W> {
+impl<W: Sink> Teller<'_, '_, W> {
     /// Writes words as they are.
     pub(crate) fn say(&mut self, words: &[u8]) {
-        tell(&mut *self.writer, &mut *self.failed, words);
+        self.out.say(words);
     }
 
     /// Writes a number.
     pub(crate) fn number(&mut self, number: u64) {
-        tell_u64(&mut *self.writer, &mut *self.failed, number);
+        self.out.number(number);
     }
 
     /// Writes a name.
@@ -72,26 +62,17 @@ impl<'t, W: Sink> Teller<'t, W> {
 
     /// Writes the line and the column of a place.
     pub(crate) fn spot(&mut self, offset: usize) {
-        tell_spot(
-            &mut *self.writer,
-            &mut *self.failed,
-            place_of(self.text, offset),
-        );
+        tell_spot(&mut *self.out, place_of(self.text, offset));
     }
 
     /// Writes the file and the place in front of a sentence.
     pub(crate) fn begin(&mut self, offset: usize) {
-        tell_place(
-            &mut *self.writer,
-            &mut *self.failed,
-            self.file,
-            place_of(self.text, offset),
-        );
+        tell_place(&mut *self.out, self.file, place_of(self.text, offset));
     }
 
     /// Ends a sentence, and shows the line of the place below it.
     pub(crate) fn end(&mut self, offset: usize) {
         self.say(b"\n");
-        tell_quoted(&mut *self.writer, &mut *self.failed, self.text, offset);
+        tell_quoted(&mut *self.out, self.text, offset);
     }
 }

@@ -16,7 +16,7 @@ use sml_tree::{Name, TokenKind};
 const INSTRUCTIONS: &[u8] = b" (do, if, set, move_to, terminate_action, wait, insert, remove)";
 
 /// Says why the token at the place of a trail may not be there, and what could be.
-pub(crate) fn tell_unexpected<W: Sink>(out: &mut Teller<'_, W>, trail: &Trail) {
+pub(crate) fn tell_unexpected<W: Sink>(out: &mut Teller<'_, '_, W>, trail: &Trail) {
     let told = tell_left_out(out, trail)
         || tell_stray_part(out, trail)
         || tell_taken(out, trail)
@@ -29,7 +29,7 @@ pub(crate) fn tell_unexpected<W: Sink>(out: &mut Teller<'_, W>, trail: &Trail) {
 
 // Says which `if` is in the way, where a token ends an action inside one or a part of an `if` is outside, and
 // whether it does.
-fn tell_stray_part<W: Sink>(out: &mut Teller<'_, W>, trail: &Trail) -> bool {
+fn tell_stray_part<W: Sink>(out: &mut Teller<'_, '_, W>, trail: &Trail) -> bool {
     if !trail.takes_instruction() {
         return false;
     }
@@ -66,7 +66,7 @@ fn ends_action(trail: &Trail) -> bool {
 }
 
 // Says of which `if` the end is missing.
-fn tell_open_if<W: Sink>(out: &mut Teller<'_, W>, trail: &Trail, open: OpenIf) {
+fn tell_open_if<W: Sink>(out: &mut Teller<'_, '_, W>, trail: &Trail, open: OpenIf) {
     if trail.ends() {
         out.say(b"the text ends");
     } else {
@@ -88,7 +88,7 @@ fn tell_open_if<W: Sink>(out: &mut Teller<'_, W>, trail: &Trail, open: OpenIf) {
 }
 
 // Says that a name is no instruction or that a mark occurs twice, if that is so. Whether it is so.
-fn tell_part<W: Sink>(out: &mut Teller<'_, W>, trail: &Trail) -> bool {
+fn tell_part<W: Sink>(out: &mut Teller<'_, '_, W>, trail: &Trail) -> bool {
     match trail.found.kind {
         TokenKind::Name if trail.takes_instruction() => {
             tell_no_instruction(out, trail);
@@ -106,7 +106,7 @@ fn tell_part<W: Sink>(out: &mut Teller<'_, W>, trail: &Trail) -> bool {
 }
 
 // Says that the name at the place is no instruction, and what to write instead.
-fn tell_no_instruction<W: Sink>(out: &mut Teller<'_, W>, trail: &Trail) {
+fn tell_no_instruction<W: Sink>(out: &mut Teller<'_, '_, W>, trail: &Trail) {
     let text = out.text;
     out.quoted(trail.found.bytes(text));
     out.say(b" is no instruction");
@@ -124,7 +124,7 @@ fn tell_no_instruction<W: Sink>(out: &mut Teller<'_, W>, trail: &Trail) {
 }
 
 // Says which instruction may have been meant by a name, or else that it may be the action of a `do`.
-fn tell_near<W: Sink>(out: &mut Teller<'_, W>, trail: &Trail, name: &Name) {
+fn tell_near<W: Sink>(out: &mut Teller<'_, '_, W>, trail: &Trail, name: &Name) {
     if nearest_word(name, trail).is_some() {
         tell_meant(out, trail, name);
     } else if let Some(advice) = forgotten_do(out.text, trail) {
@@ -133,7 +133,7 @@ fn tell_near<W: Sink>(out: &mut Teller<'_, W>, trail: &Trail, name: &Name) {
 }
 
 // Says which reserved word may have been meant by the name at the place, or that it is a mark without its slash.
-fn tell_meant<W: Sink>(out: &mut Teller<'_, W>, trail: &Trail, name: &Name) {
+fn tell_meant<W: Sink>(out: &mut Teller<'_, '_, W>, trail: &Trail, name: &Name) {
     let Some(word) = nearest_word(name, trail) else {
         return;
     };
@@ -147,7 +147,7 @@ fn tell_meant<W: Sink>(out: &mut Teller<'_, W>, trail: &Trail, name: &Name) {
 }
 
 // Says what could be at the place, and what is there.
-fn tell_expected<W: Sink>(out: &mut Teller<'_, W>, trail: &Trail) {
+fn tell_expected<W: Sink>(out: &mut Teller<'_, '_, W>, trail: &Trail) {
     out.say(b"expected ");
     let expected = expected_at(trail);
     match expected {
@@ -159,7 +159,7 @@ fn tell_expected<W: Sink>(out: &mut Teller<'_, W>, trail: &Trail) {
 }
 
 // Says what is before the place, and where, if that is on another line.
-fn tell_behind<W: Sink>(out: &mut Teller<'_, W>, trail: &Trail) {
+fn tell_behind<W: Sink>(out: &mut Teller<'_, '_, W>, trail: &Trail) {
     let last = trail.last;
     if matches!(last.kind, TokenKind::Stray) {
         return;
@@ -178,7 +178,7 @@ fn tell_behind<W: Sink>(out: &mut Teller<'_, W>, trail: &Trail) {
 }
 
 // Says what is at the place, and what may have been meant.
-fn tell_found<W: Sink>(out: &mut Teller<'_, W>, trail: &Trail, expected: Expected) {
+fn tell_found<W: Sink>(out: &mut Teller<'_, '_, W>, trail: &Trail, expected: Expected) {
     if trail.ends() {
         out.say(b", and the text ends");
         return;
@@ -192,7 +192,7 @@ fn tell_found<W: Sink>(out: &mut Teller<'_, W>, trail: &Trail, expected: Expecte
 }
 
 // Says what is not right with what is at the place, as far as its kind tells that.
-fn tell_what_is_found<W: Sink>(out: &mut Teller<'_, W>, trail: &Trail, expected: Expected) {
+fn tell_what_is_found<W: Sink>(out: &mut Teller<'_, '_, W>, trail: &Trail, expected: Expected) {
     match (expected, trail.found.kind) {
         (Expected::Other(_), TokenKind::Name) => tell_word(out, trail),
         (Expected::Name(_), kind) if is_word(kind) => out.say(b", which is a reserved word"),
@@ -207,7 +207,7 @@ fn tell_what_is_found<W: Sink>(out: &mut Teller<'_, W>, trail: &Trail, expected:
 }
 
 // Says what to write in place of the name at the place.
-fn tell_word<W: Sink>(out: &mut Teller<'_, W>, trail: &Trail) {
+fn tell_word<W: Sink>(out: &mut Teller<'_, '_, W>, trail: &Trail) {
     let Some(name) = name_of(trail.found.bytes(out.text)) else {
         return;
     };
@@ -242,7 +242,7 @@ fn is_word(kind: TokenKind) -> bool {
 }
 
 // Says which bracket is open, if the token at the place or the end of the text may not be in brackets.
-fn tell_unclosed<W: Sink>(out: &mut Teller<'_, W>, trail: &Trail) {
+fn tell_unclosed<W: Sink>(out: &mut Teller<'_, '_, W>, trail: &Trail) {
     let Some(sign) = trail.open_sign() else {
         return;
     };

@@ -7,26 +7,22 @@ use crate::earlier::{Earlier, is_fault_without_device, last, owner, post_of};
 use crate::next::{Next, next_of};
 use crate::placing::{DomainText, tell_instruction};
 use crate::sentence::{first_busy, first_misread, tell_sentence};
+use show_names::tell_lines;
 use smi_audit::{Judgement, Past, PastError, Rule};
-use smi_journal::{Entry, Format, Sender, Verdict, tell_lines};
+use smi_journal::{Entry, Format, Sender, Verdict};
 use sml_domain::{Domain, ObjId};
-use sml_text::{Sink, tell, tell_u64};
+use sml_text::Sink;
+use sml_writer::Out;
 use std::alloc::{AllocError, Global};
 use std::sync::Arc;
 
 // Writes the line of a journal that has the entry of a place, with its number in front.
-fn tell_numbered<W: Sink>(
-    writer: &mut W,
-    failed: &mut bool,
-    domain: &Domain,
-    entries: &[Entry],
-    place: usize,
-) {
+fn tell_numbered<W: Sink>(out: &mut Out<'_, W>, domain: &Domain, entries: &[Entry], place: usize) {
     if place < entries.len() {
-        tell(writer, failed, b"line ");
-        tell_u64(writer, failed, (place as u64).saturating_add(2));
-        tell(writer, failed, b": ");
-        tell_lines(writer, failed, domain, &entries[place..place + 1]);
+        out.say(b"line ");
+        out.number((place as u64).saturating_add(2));
+        out.say(b": ");
+        tell_lines(out, domain, &entries[place..place + 1]);
     }
 }
 
@@ -169,8 +165,7 @@ pub fn explain<W: Sink>(
     text: Option<DomainText<'_>>,
     entries: &[Entry],
     judgement: Judgement,
-    writer: &mut W,
-    failed: &mut bool,
+    out: &mut Out<'_, W>,
 ) -> Result<(), AllocError>
     requires texts { All (HasText (arc_value domain)) entries.now }
     requires few { length entries.now + 2 < 2 ^ 64 }
@@ -189,16 +184,16 @@ pub fn explain<W: Sink>(
     };
     let entry = &rest[0];
     let next = next_in_place(alloc, &past, entry, rule)?;
-    tell_numbered(writer, failed, past.books().domain(), entries, place);
-    tell_sentence(writer, failed, &past, entry, rule, &next);
-    tell(writer, failed, b".\n");
+    tell_numbered(out, past.books().domain(), entries, place);
+    tell_sentence(out, &past, entry, rule, &next);
+    out.say(b".\n");
     if let Some(text) = &text {
         if let Some(o) = continues(&past, entry, rule) {
-            tell_instruction(alloc, text, &past, o, writer, failed)?;
+            tell_instruction(alloc, text, &past, o, out)?;
         }
     }
     if let Some(earlier) = rests_on(&past, before, entry, rule) {
-        tell_numbered(writer, failed, past.books().domain(), entries, earlier);
+        tell_numbered(out, past.books().domain(), entries, earlier);
     }
     Ok(())
 }

@@ -5,7 +5,8 @@ use explain_places::{place_of, tell_place, tell_quoted};
 use smi_audit::Past;
 use smi_interp::Place;
 use sml_domain::{BlockId, Domain, Instr, ObjId};
-use sml_text::{Sink, tell};
+use sml_text::Sink;
+use sml_writer::Out;
 use std::alloc::{AllocError, Global};
 
 /// The text of a domain, with the name of its file.
@@ -111,8 +112,7 @@ pub(crate) fn tell_instruction<W: Sink>(
     text: &DomainText<'_>,
     past: &Past,
     o: ObjId,
-    writer: &mut W,
-    failed: &mut bool,
+    out: &mut Out<'_, W>,
 ) -> Result<(), AllocError> {
     let Some(open) = open_action(past, o) else {
         return Ok(());
@@ -130,10 +130,10 @@ pub(crate) fn tell_instruction<W: Sink>(
     let domain = past.books().domain();
     if let Some(before) = instructions_before(alloc, domain, open.block, open.place, most)? {
         let (at, is) = spot_of(action, before);
-        tell_place(writer, failed, text.file, place_of(text.bytes, at));
-        tell(writer, failed, is);
-        tell(writer, failed, b"\n");
-        tell_quoted(writer, failed, text.bytes, at);
+        tell_place(out, text.file, place_of(text.bytes, at));
+        out.say(is);
+        out.say(b"\n");
+        tell_quoted(out, text.bytes, at);
     }
     Ok(())
 }

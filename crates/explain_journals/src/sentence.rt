@@ -5,13 +5,13 @@ ghost use Rattle.smi_ledger.specs.Tables.{IsKnown};
 use crate::bad_request::tell_bad_request;
 use crate::earlier::{is_fault_without_device, owner};
 use crate::next::Next;
+use show_names::{tell_call, tell_number, tell_object, tell_session, tell_set};
 use smi_audit::{Past, Rule};
 use smi_interp::Post;
-use smi_journal::{
-    Entry, Reading, Sender, Verdict, tell_call, tell_number, tell_object, tell_session, tell_set,
-};
+use smi_journal::{Entry, Reading, Sender, Verdict};
 use sml_domain::{Domain, ObjId, SetId, StateId};
-use sml_text::{Sink, tell};
+use sml_text::Sink;
+use sml_writer::Out;
 
 const NOT_SENT: &[u8] = b"its sender posted no such request under this number";
 
@@ -25,60 +25,45 @@ const CLEAR: &[u8] = b" reads next is busy";
 // What is before the next post of a send.
 const UNSPLIT: &[u8] = b"nothing stands between the posts of a send: ";
 
-fn tell_state<W: Sink>(writer: &mut W, failed: &mut bool, domain: &Domain, state: StateId) {
+fn tell_state<W: Sink>(out: &mut Out<'_, W>, domain: &Domain, state: StateId) {
     if let Some(name) = domain.state_name(state) {
-        tell(writer, failed, b" ");
-        tell(writer, failed, name.as_bytes());
+        out.say(b" ");
+        out.say(name.as_bytes());
     }
 }
 
-fn tell_sender<W: Sink>(writer: &mut W, failed: &mut bool, domain: &Domain, sender: &Sender) {
+fn tell_sender<W: Sink>(out: &mut Out<'_, W>, domain: &Domain, sender: &Sender) {
     match sender {
-        Sender::Operator(session) => tell_session(writer, failed, *session),
-        Sender::Object(object) => tell_object(writer, failed, domain, *object),
+        Sender::Operator(session) => tell_session(out, *session),
+        Sender::Object(object) => tell_object(out, domain, *object),
     }
 }
 
 // The words of one object.
-fn tell_of<W: Sink>(
-    writer: &mut W,
-    failed: &mut bool,
-    domain: &Domain,
-    before: &[u8],
-    o: ObjId,
-    behind: &[u8],
-) {
-    tell(writer, failed, before);
-    tell_object(writer, failed, domain, o);
-    tell(writer, failed, behind);
+fn tell_of<W: Sink>(out: &mut Out<'_, W>, domain: &Domain, before: &[u8], o: ObjId, behind: &[u8]) {
+    out.say(before);
+    tell_object(out, domain, o);
+    out.say(behind);
 }
 
-fn tell_objects<W: Sink>(writer: &mut W, failed: &mut bool, domain: &Domain, objects: &[ObjId]) {
+fn tell_objects<W: Sink>(out: &mut Out<'_, W>, domain: &Domain, objects: &[ObjId]) {
     if objects.is_empty() {
-        tell(writer, failed, b" no object");
+        out.say(b" no object");
     }
     for object in objects {
-        tell_object(writer, failed, domain, *object);
+        tell_object(out, domain, *object);
     }
 }
 
-fn tell_post<W: Sink>(writer: &mut W, failed: &mut bool, domain: &Domain, post: &Post) {
-    tell(writer, failed, b" posts to");
-    tell_object(writer, failed, domain, post.target);
-    tell_call(
-        writer,
-        failed,
-        domain,
-        post.target,
-        post.action,
-        post.args.values(),
-    );
+fn tell_post<W: Sink>(out: &mut Out<'_, W>, domain: &Domain, post: &Post) {
+    out.say(b" posts to");
+    tell_object(out, domain, post.target);
+    tell_call(out, domain, post.target, post.action, post.args.values());
 }
 
 // That an object is put into a set, or taken out.
 fn tell_change<W: Sink>(
-    writer: &mut W,
-    failed: &mut bool,
+    out: &mut Out<'_, W>,
     domain: &Domain,
     add: bool,
     member: ObjId,
@@ -89,92 +74,79 @@ fn tell_change<W: Sink>(
     } else {
         (b" takes", b" out of")
     };
-    tell_of(writer, failed, domain, words.0, member, words.1);
-    tell_set(writer, failed, domain, set);
+    tell_of(out, domain, words.0, member, words.1);
+    tell_set(out, domain, set);
 }
 
-fn tell_doing<W: Sink>(writer: &mut W, failed: &mut bool, domain: &Domain, o: ObjId, next: &Next) {
-    tell_of(writer, failed, domain, b"next the action of", o, b"");
+fn tell_doing<W: Sink>(out: &mut Out<'_, W>, domain: &Domain, o: ObjId, next: &Next) {
+    tell_of(out, domain, b"next the action of", o, b"");
     match next {
-        Next::Post(post) => tell_post(writer, failed, domain, post),
+        Next::Post(post) => tell_post(out, domain, post),
         Next::Nobody(set) => {
-            tell(writer, failed, b" finds no member of");
-            tell_set(writer, failed, domain, *set);
+            out.say(b" finds no member of");
+            tell_set(out, domain, *set);
         }
         Next::Read(objects) => {
-            tell(writer, failed, b" reads");
-            tell_objects(writer, failed, domain, objects);
+            out.say(b" reads");
+            tell_objects(out, domain, objects);
         }
         Next::Change { add, member, set } => {
-            tell_change(writer, failed, domain, *add, *member, *set);
+            tell_change(out, domain, *add, *member, *set);
         }
         Next::End(state) => {
-            tell(writer, failed, b" ends in");
-            tell_state(writer, failed, domain, *state);
+            out.say(b" ends in");
+            tell_state(out, domain, *state);
         }
     }
 }
 
 // What the open action of an object does next.
-fn tell_next<W: Sink>(
-    writer: &mut W,
-    failed: &mut bool,
-    past: &Past,
-    o: ObjId,
-    next: &Option<Next>,
-) {
+fn tell_next<W: Sink>(out: &mut Out<'_, W>, past: &Past, o: ObjId, next: &Option<Next>) {
     let domain = past.books().domain();
     if !domain.has(o) {
         return;
     }
     let Some(next) = next else {
-        tell_skip(writer, failed, past, o);
+        tell_skip(out, past, o);
         return;
     };
     if domain.associated(o) {
-        tell_of(
-            writer,
-            failed,
-            domain,
-            b"next the device of",
-            o,
-            b" ends the action",
-        );
+        tell_of(out, domain, b"next the device of", o, b" ends the action");
     } else {
-        tell_doing(writer, failed, domain, o, next);
+        tell_doing(out, domain, o, next);
     }
 }
 
 // Whose posts an entry splits, and which is the next of them.
-fn tell_split<W: Sink>(writer: &mut W, failed: &mut bool, past: &Past, next: &Option<Next>) {
-    tell(writer, failed, UNSPLIT);
+fn tell_split<W: Sink>(out: &mut Out<'_, W>, past: &Past, next: &Option<Next>) {
+    out.say(UNSPLIT);
     if let Some(o) = past.books().last() {
-        tell_next(writer, failed, past, o, next);
+        tell_next(out, past, o, next);
     }
 }
 
 // The state of an object, which does not declare what is open there.
-fn tell_skip<W: Sink>(writer: &mut W, failed: &mut bool, past: &Past, o: ObjId) {
+fn tell_skip<W: Sink>(out: &mut Out<'_, W>, past: &Past, o: ObjId) {
     let domain = past.books().domain();
     if domain.has(o) {
-        tell(writer, failed, b"the state");
-        tell_state(writer, failed, domain, past.books().state(o));
-        tell_of(writer, failed, domain, b" of", o, SKIPPED);
+        out.say(b"the state");
+        tell_state(out, domain, past.books().state(o));
+        tell_of(out, domain, b" of", o, SKIPPED);
     }
 }
 
 // Writes why nothing ends, continues or fails at an object.
-fn tell_not_open<W: Sink>(writer: &mut W, failed: &mut bool, domain: &Domain, entry: &Entry) {
+fn tell_not_open<W: Sink>(out: &mut Out<'_, W>, domain: &Domain, entry: &Entry) {
     let o = owner(entry);
     if is_fault_without_device(domain, entry) {
-        tell_of(writer, failed, domain, b"the object", o, b" has no device");
+        tell_of(out, domain, b"the object", o, b" has no device");
     } else {
-        tell_of(writer, failed, domain, b"no action is open at", o, b"");
+        tell_of(out, domain, b"no action is open at", o, b"");
     }
 }
 
 // The number that would be right.
-fn tell_right_number<W: Sink>(writer: &mut W, failed: &mut bool, past: &Past, entry: &Entry) {
+fn tell_right_number<W: Sink>(out: &mut Out<'_, W>, past: &Past, entry: &Entry) {
     let books = past.books();
     let domain = books.domain();
     match entry {
@@ -182,25 +154,18 @@ fn tell_right_number<W: Sink>(writer: &mut W, failed: &mut bool, past: &Past, en
             if !domain.has(*object) || !is_known(domain, sender) {
                 return;
             }
-            tell(writer, failed, b"the next start of");
-            tell_sender(writer, failed, domain, sender);
-            tell_of(writer, failed, domain, b" at", *object, b" has the number");
-            tell_number(writer, failed, books.started(sender, *object) as u64);
+            out.say(b"the next start of");
+            tell_sender(out, domain, sender);
+            tell_of(out, domain, b" at", *object, b" has the number");
+            tell_number(out, books.started(sender, *object) as u64);
         }
         Entry::Post { sender, target, .. } => {
             if !domain.has(*sender) || !domain.has(*target) {
                 return;
             }
-            tell_of(
-                writer,
-                failed,
-                domain,
-                b"the next accepted post of",
-                *sender,
-                b" to",
-            );
-            tell_of(writer, failed, domain, b"", *target, b" has the number");
-            tell_number(writer, failed, books.posted(*sender, *target) as u64);
+            tell_of(out, domain, b"the next accepted post of", *sender, b" to");
+            tell_of(out, domain, b"", *target, b" has the number");
+            tell_number(out, books.posted(*sender, *target) as u64);
         }
         _ => {}
     }
@@ -217,7 +182,7 @@ fn is_known(domain: &Domain, sender: &Sender) -> bool
 }
 
 // Writes that an object is killed though a post says that it is not, or the other way round.
-fn tell_dead<W: Sink>(writer: &mut W, failed: &mut bool, domain: &Domain, entry: &Entry) {
+fn tell_dead<W: Sink>(out: &mut Out<'_, W>, domain: &Domain, entry: &Entry) {
     if let Entry::Post {
         target,
         verdict,
@@ -228,7 +193,7 @@ fn tell_dead<W: Sink>(writer: &mut W, failed: &mut bool, domain: &Domain, entry:
             Verdict::Dead => b" is not killed",
             Verdict::Accepted(_) | Verdict::Full => b" is killed",
         };
-        tell_of(writer, failed, domain, b"the object", *target, behind);
+        tell_of(out, domain, b"the object", *target, behind);
     }
 }
 
@@ -246,24 +211,18 @@ pub(crate) fn first_busy(past: &Past, o: ObjId, readings: &[Reading]) -> Option<
     None
 }
 
-fn tell_busy<W: Sink>(
-    writer: &mut W,
-    failed: &mut bool,
-    past: &Past,
-    o: ObjId,
-    readings: &[Reading],
-) {
+fn tell_busy<W: Sink>(out: &mut Out<'_, W>, past: &Past, o: ObjId, readings: &[Reading]) {
     let books = past.books();
     let domain = books.domain();
     let Some(busy) = first_busy(past, o, readings) else {
         return;
     };
     if domain.has(busy) && books.is_open(busy) {
-        tell_of(writer, failed, domain, b"an action is open at", busy, b"");
+        tell_of(out, domain, b"an action is open at", busy, b"");
         return;
     }
-    tell_of(writer, failed, domain, b"what", o, b" sent to");
-    tell_of(writer, failed, domain, b"", busy, b" has not ended");
+    tell_of(out, domain, b"what", o, b" sent to");
+    tell_of(out, domain, b"", busy, b" has not ended");
 }
 
 /// The object of the first reading whose state is another.
@@ -279,30 +238,24 @@ pub(crate) fn first_misread(past: &Past, readings: &[Reading]) -> Option<ObjId> 
     None
 }
 
-fn tell_misread<W: Sink>(writer: &mut W, failed: &mut bool, past: &Past, readings: &[Reading]) {
+fn tell_misread<W: Sink>(out: &mut Out<'_, W>, past: &Past, readings: &[Reading]) {
     let books = past.books();
     let domain = books.domain();
     if let Some(object) = first_misread(past, readings) {
         if domain.has(object) {
-            tell_of(writer, failed, domain, b"the state of", object, b" is");
-            tell_state(writer, failed, domain, books.state(object));
+            tell_of(out, domain, b"the state of", object, b" is");
+            tell_state(out, domain, books.state(object));
         }
     }
 }
 
 // What is said where objects were read.
-fn tell_readings<W: Sink>(
-    writer: &mut W,
-    failed: &mut bool,
-    past: &Past,
-    entry: &Entry,
-    is_busy: bool,
-) {
+fn tell_readings<W: Sink>(out: &mut Out<'_, W>, past: &Past, entry: &Entry, is_busy: bool) {
     if let Entry::Seen { object, readings } = entry {
         if is_busy {
-            tell_busy(writer, failed, past, *object, readings.list());
+            tell_busy(out, past, *object, readings.list());
         } else {
-            tell_misread(writer, failed, past, readings.list());
+            tell_misread(out, past, readings.list());
         }
     }
 }
@@ -310,8 +263,7 @@ fn tell_readings<W: Sink>(
 /// Writes why an entry is not legal that breaks a rule first, behind the entries of a past; with what the action does
 /// next that continues in its place.
 pub(crate) fn tell_sentence<W: Sink>(
-    writer: &mut W,
-    failed: &mut bool,
+    out: &mut Out<'_, W>,
     past: &Past,
     entry: &Entry,
     rule: Rule,
@@ -320,25 +272,18 @@ pub(crate) fn tell_sentence<W: Sink>(
     let domain = past.books().domain();
     let o = owner(entry);
     match rule {
-        Rule::Split => tell_split(writer, failed, past, next),
-        Rule::Killed => tell_of(writer, failed, domain, b"the object", o, b" is killed"),
-        Rule::Open => tell_of(writer, failed, domain, b"an action is open at", o, b""),
-        Rule::Number => tell_right_number(writer, failed, past, entry),
-        Rule::NotSent => tell(writer, failed, NOT_SENT),
-        Rule::BadRequest => tell_bad_request(writer, failed, domain, entry),
-        Rule::NotOpen => tell_not_open(writer, failed, domain, entry),
-        Rule::Meaning => tell_next(writer, failed, past, o, next),
-        Rule::Dead => tell_dead(writer, failed, domain, entry),
-        Rule::Clear => tell_of(
-            writer,
-            failed,
-            domain,
-            b"none of the objects that",
-            o,
-            CLEAR,
-        ),
-        Rule::Busy => tell_readings(writer, failed, past, entry, true),
-        Rule::Reading => tell_readings(writer, failed, past, entry, false),
-        Rule::NotAState => tell_of(writer, failed, domain, b"the class of", o, NO_STATE),
+        Rule::Split => tell_split(out, past, next),
+        Rule::Killed => tell_of(out, domain, b"the object", o, b" is killed"),
+        Rule::Open => tell_of(out, domain, b"an action is open at", o, b""),
+        Rule::Number => tell_right_number(out, past, entry),
+        Rule::NotSent => out.say(NOT_SENT),
+        Rule::BadRequest => tell_bad_request(out, domain, entry),
+        Rule::NotOpen => tell_not_open(out, domain, entry),
+        Rule::Meaning => tell_next(out, past, o, next),
+        Rule::Dead => tell_dead(out, domain, entry),
+        Rule::Clear => tell_of(out, domain, b"none of the objects that", o, CLEAR),
+        Rule::Busy => tell_readings(out, past, entry, true),
+        Rule::Reading => tell_readings(out, past, entry, false),
+        Rule::NotAState => tell_of(out, domain, b"the class of", o, NO_STATE),
     }
 }

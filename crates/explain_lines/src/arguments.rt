@@ -4,8 +4,9 @@ use crate::declared::{tell_action, tell_object};
 use crate::words::{NameList, tell_name};
 use smi_journal::Passed;
 use sml_domain::{ActionId, Domain, ObjId, Param};
-use sml_text::{Sink, tell};
+use sml_text::Sink;
 use sml_tree::Kind;
+use sml_writer::Out;
 
 /// The first thing that is wrong with what is passed, by its place in the line or among the parameters.
 #[derive(Clone, Copy)]
@@ -72,8 +73,7 @@ pub(crate) fn bad_argument(params: &[Param], passed: &[Passed]) -> Option<BadArg
 
 /// Writes what is wrong with the arguments of an action at an object.
 pub(crate) fn tell_bad_argument<W: Sink>(
-    writer: &mut W,
-    failed: &mut bool,
+    out: &mut Out<'_, W>,
     domain: &Domain,
     o: ObjId,
     action: ActionId,
@@ -85,83 +85,72 @@ pub(crate) fn tell_bad_argument<W: Sink>(
     };
     match bad {
         BadArgument::Unknown(place) => {
-            tell_call(writer, failed, domain, o, action);
-            tell_no_parameter(writer, failed, params, passed.get(place));
+            tell_call(out, domain, o, action);
+            tell_no_parameter(out, params, passed.get(place));
         }
-        BadArgument::Repeated(place) => tell_repeated(writer, failed, passed.get(place)),
-        BadArgument::WrongKind(place) => tell_kind(writer, failed, params, passed.get(place)),
-        BadArgument::Missing(place) => tell_missing(writer, failed, params.get(place)),
+        BadArgument::Repeated(place) => tell_repeated(out, passed.get(place)),
+        BadArgument::WrongKind(place) => tell_kind(out, params, passed.get(place)),
+        BadArgument::Missing(place) => tell_missing(out, params.get(place)),
     }
 }
 
 /// Writes an action and its object.
 pub(crate) fn tell_call<W: Sink>(
-    writer: &mut W,
-    failed: &mut bool,
+    out: &mut Out<'_, W>,
     domain: &Domain,
     o: ObjId,
     action: ActionId,
 ) {
-    tell_action(writer, failed, domain, action);
-    tell(writer, failed, b" of ");
-    tell_object(writer, failed, domain, o);
+    tell_action(out, domain, action);
+    out.say(b" of ");
+    tell_object(out, domain, o);
 }
 
 // Writes that no parameter has the name of a passed value.
-fn tell_no_parameter<W: Sink>(
-    writer: &mut W,
-    failed: &mut bool,
-    params: &[Param],
-    passed: Option<&Passed>,
-) {
+fn tell_no_parameter<W: Sink>(out: &mut Out<'_, W>, params: &[Param], passed: Option<&Passed>) {
     let Some(passed) = passed else {
         return;
     };
     if params.is_empty() {
-        tell(writer, failed, b" has no parameters");
+        out.say(b" has no parameters");
         return;
     }
-    tell(writer, failed, b" has no parameter ");
-    tell_name(writer, failed, &passed.name);
+    out.say(b" has no parameter ");
+    tell_name(out, &passed.name);
     let mut list = NameList::new();
     for param in params {
-        list.add(writer, failed, &param.name);
+        list.add(out, &param.name);
     }
-    list.end(writer, failed);
+    list.end(out);
 }
 
 // Writes that a name is passed once more.
-fn tell_repeated<W: Sink>(writer: &mut W, failed: &mut bool, passed: Option<&Passed>) {
+fn tell_repeated<W: Sink>(out: &mut Out<'_, W>, passed: Option<&Passed>) {
     if let Some(passed) = passed {
-        tell_name(writer, failed, &passed.name);
-        tell(writer, failed, b" is given twice");
+        tell_name(out, &passed.name);
+        out.say(b" is given twice");
     }
 }
 
 // Writes of which kind the parameter of a passed value is.
-fn tell_kind<W: Sink>(
-    writer: &mut W,
-    failed: &mut bool,
-    params: &[Param],
-    passed: Option<&Passed>,
-) {
+fn tell_kind<W: Sink>(out: &mut Out<'_, W>, params: &[Param], passed: Option<&Passed>) {
     let Some(passed) = passed else {
         return;
     };
     if let Some(param) = params.iter().find(|param| passed.name == param.name) {
-        tell_name(writer, failed, &param.name);
-        tell(writer, failed, b" is ");
-        tell(writer, failed, kind_word(param.kind));
+        tell_name(out, &param.name);
+        out.say(b" is ");
+        out.say(kind_word(param.kind));
     }
 }
 
 // Writes that a parameter has no value.
-fn tell_missing<W: Sink>(writer: &mut W, failed: &mut bool, param: Option<&Param>) {
+fn tell_missing<W: Sink>(out: &mut Out<'_, W>, param: Option<&Param>) {
     if let Some(param) = param {
-        tell_name(writer, failed, &param.name);
-        tell(writer, failed, b" (");
-        tell(writer, failed, kind_word(param.kind));
-        tell(writer, failed, b") has no value");
+        tell_name(out, &param.name);
+        out.say(b" (");
+        out.say(kind_word(param.kind));
+        out.say(b") has no value");
     }
 }
 

@@ -8,6 +8,7 @@ use crate::source_line::{SourceLine, tell_back, tell_front};
 use smi_journal::Format;
 use sml_domain::Domain;
 use sml_text::Sink;
+use sml_writer::Out;
 
 /// Writes why a line of a journal's text is not an entry: the place of its first fault, one sentence, the line, and a
 /// caret. Lines count from 1, the header included. Nothing is written if the line is an entry.
@@ -19,8 +20,7 @@ pub fn explain_bad_entry<W: Sink>(
     file: &str,
     text: &[u8],
     number: usize,
-    writer: &mut W,
-    failed: &mut bool,
+    out: &mut Out<'_, W>,
 ) {
     let line = SourceLine {
         file,
@@ -29,9 +29,9 @@ pub fn explain_bad_entry<W: Sink>(
     };
     let is_ended = line.text.len() < text_from(text, number).len();
     if let Some(fault) = fault_of(domain, format_of(text), line.text, is_ended) {
-        tell_front(writer, failed, &line, fault.at);
-        tell_entry_fault(writer, failed, domain, line.text, &fault);
-        tell_back(writer, failed, &line, fault.at);
+        tell_front(out, &line, fault.at);
+        tell_entry_fault(out, domain, line.text, &fault);
+        tell_back(out, &line, fault.at);
     }
 }
 

@@ -6,7 +6,8 @@ use crate::line_fault::fault_in;
 use crate::pieces::{from, name_at, part, token_at};
 use crate::source_line::{SourceLine, tell_back, tell_front};
 use crate::verb::verb_at;
-use sml_text::{Sink, tell};
+use sml_text::Sink;
+use sml_writer::Out;
 
 // The first line of journals, in either format.
 const HEADERS: [&[u8]; 2] = [b"smi-journal 1", b"smi-journal 2"];
@@ -111,15 +112,15 @@ fn end_of_sentence(seems: Seems) -> &'static [u8] {
 ///
 /// It is text for people, and no part of a format. The cost is the length of the first line that is not empty. No
 /// memory is taken.
-pub fn explain_bad_header<W: Sink>(file: &str, text: &[u8], writer: &mut W, failed: &mut bool) {
+pub fn explain_bad_header<W: Sink>(file: &str, text: &[u8], out: &mut Out<'_, W>) {
     let seems = guess(text);
     let line = SourceLine {
         file,
         number: 1,
         text: line_of(text, 1),
     };
-    tell_front(writer, failed, &line, place_of(seems));
-    tell(writer, failed, sentence(seems));
-    tell(writer, failed, end_of_sentence(seems));
-    tell_back(writer, failed, &line, place_of(seems));
+    tell_front(out, &line, place_of(seems));
+    out.say(sentence(seems));
+    out.say(end_of_sentence(seems));
+    tell_back(out, &line, place_of(seems));
 }

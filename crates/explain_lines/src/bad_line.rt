@@ -5,6 +5,7 @@ use crate::line_sentence::tell_fault;
 use crate::source_line::{SourceLine, tell_back, tell_front};
 use sml_domain::Domain;
 use sml_text::Sink;
+use sml_writer::Out;
 
 /// Which kind of text a line is of.
 #[derive(Clone, Copy, Eq, PartialEq)]
@@ -22,16 +23,15 @@ pub fn explain_bad_line<W: Sink>(
     kind: LineKind,
     domain: &Domain,
     line: &SourceLine,
-    writer: &mut W,
-    failed: &mut bool,
+    out: &mut Out<'_, W>,
 ) {
     let mut fault = fault_in(kind, line.text);
     if fault.is_none() && kind == LineKind::Script {
         fault = unknown_in(domain, line.text);
     }
     if let Some(fault) = fault {
-        tell_front(writer, failed, line, fault.at);
-        tell_fault(writer, failed, kind, domain, line.text, &fault);
-        tell_back(writer, failed, line, fault.at);
+        tell_front(out, line, fault.at);
+        tell_fault(out, kind, domain, line.text, &fault);
+        tell_back(out, line, fault.at);
     }
 }

@@ -10,8 +10,9 @@ use crate::words::{tell_marked, tell_name};
 use explain_places::tell_not_ascii;
 use smi_lines::LONGEST_LINE;
 use sml_domain::Domain;
-use sml_text::{Sink, tell, tell_u64};
+use sml_text::Sink;
 use sml_tree::MAX_ARGUMENTS;
+use sml_writer::Out;
 
 const NOT_ASCII: &[u8] = b"only ASCII may stand in a line, in comments too";
 
@@ -27,8 +28,7 @@ const EMPTY_ARGUMENTS: &[u8] = b"an empty list of arguments: leave the brackets 
 
 /// Writes the sentence of a fault, without its end.
 pub(crate) fn tell_fault<W: Sink>(
-    writer: &mut W,
-    failed: &mut bool,
+    out: &mut Out<'_, W>,
     kind: LineKind,
     domain: &Domain,
     line: &[u8],
@@ -36,43 +36,43 @@ pub(crate) fn tell_fault<W: Sink>(
 ) {
     let at = fault.at;
     match fault.cause {
-        Cause::TooLong | Cause::TooManyArguments => tell_most(writer, failed, fault.cause),
-        Cause::NotAscii => tell_byte(writer, failed, line, at),
+        Cause::TooLong | Cause::TooManyArguments => tell_most(out, fault.cause),
+        Cause::NotAscii => tell_byte(out, line, at),
         Cause::NoToken | Cause::NoVerb if is_mark_of_merge(line, at) => {
-            tell(writer, failed, MERGE);
+            out.say(MERGE);
         }
-        Cause::NoToken => tell_no_token(writer, failed, line, at),
-        Cause::Comment => tell(writer, failed, b"a comment begins with `!`"),
-        Cause::NoVerb => tell_verbs(writer, failed, kind, line, at),
-        Cause::OtherKind(verb) => tell_other_kind(writer, failed, verb),
-        Cause::Expected { what, behind } => tell_expected(writer, failed, what, behind),
-        Cause::Reserved => tell_reserved(writer, failed, line, at),
-        Cause::LongSession => tell_long_session(writer, failed, line, at),
-        Cause::TooMuch(verb) => tell_too_much(writer, failed, verb),
-        Cause::EmptyArguments => tell(writer, failed, EMPTY_ARGUMENTS),
+        Cause::NoToken => tell_no_token(out, line, at),
+        Cause::Comment => out.say(b"a comment begins with `!`"),
+        Cause::NoVerb => tell_verbs(out, kind, line, at),
+        Cause::OtherKind(verb) => tell_other_kind(out, verb),
+        Cause::Expected { what, behind } => tell_expected(out, what, behind),
+        Cause::Reserved => tell_reserved(out, line, at),
+        Cause::LongSession => tell_long_session(out, line, at),
+        Cause::TooMuch(verb) => tell_too_much(out, verb),
+        Cause::EmptyArguments => out.say(EMPTY_ARGUMENTS),
         Cause::UnknownObject | Cause::UnknownAction | Cause::UnknownState => {
-            tell_unknown(writer, failed, domain, line, fault);
+            tell_unknown(out, domain, line, fault);
         }
     }
 }
 
 // Writes how much a line has at most.
-fn tell_most<W: Sink>(writer: &mut W, failed: &mut bool, cause: Cause) {
+fn tell_most<W: Sink>(out: &mut Out<'_, W>, cause: Cause) {
     let (number, behind): (usize, &[u8]) = match cause {
         Cause::TooManyArguments => (MAX_ARGUMENTS, b" arguments"),
         _ => (LONGEST_LINE, b" bytes"),
     };
-    tell(writer, failed, b"a line has at most ");
-    tell_u64(writer, failed, number as u64);
-    tell(writer, failed, behind);
+    out.say(b"a line has at most ");
+    out.number(number as u64);
+    out.say(behind);
 }
 
 // Writes that a byte is above 0x7F.
-fn tell_byte<W: Sink>(writer: &mut W, failed: &mut bool, line: &[u8], at: usize) {
+fn tell_byte<W: Sink>(out: &mut Out<'_, W>, line: &[u8], at: usize) {
     match from(line, at) {
-        [0xEF, 0xBB, 0xBF, ..] if at == 0 => tell(writer, failed, BYTE_ORDER_MARK),
-        [0xFF, 0xFE, ..] | [0xFE, 0xFF, ..] if at == 0 => tell(writer, failed, UTF16),
-        bytes => tell_not_ascii(writer, failed, bytes, NOT_ASCII),
+        [0xEF, 0xBB, 0xBF, ..] if at == 0 => out.say(BYTE_ORDER_MARK),
+        [0xFF, 0xFE, ..] | [0xFE, 0xFF, ..] if at == 0 => out.say(UTF16),
+        bytes => tell_not_ascii(out, bytes, NOT_ASCII),
     }
 }
 
@@ -86,7 +86,7 @@ fn is_mark_of_merge(line: &[u8], at: usize) -> bool {
 }
 
 // Writes what says the same in the kind of lines that lacks a verb.
-fn tell_other_kind<W: Sink>(writer: &mut W, failed: &mut bool, verb: Verb) {
+fn tell_other_kind<W: Sink>(out: &mut Out<'_, W>, verb: Verb) {
     let (text, behind): (&[u8], &[u8]) = match verb {
         Verb::Device => (
             b"a schedule",
@@ -104,14 +104,14 @@ fn tell_other_kind<W: Sink>(writer: &mut W, failed: &mut bool, verb: Verb) {
             (b"a script", b" lines: the workers do that")
         }
     };
-    tell(writer, failed, text);
-    tell(writer, failed, b" has no ");
-    tell_marked(writer, failed, verb.word());
-    tell(writer, failed, behind);
+    out.say(text);
+    out.say(b" has no ");
+    tell_marked(out, verb.word());
+    out.say(behind);
 }
 
 // Writes what was expected, and behind what.
-fn tell_expected<W: Sink>(writer: &mut W, failed: &mut bool, what: Wanted, behind: &[u8]) {
+fn tell_expected<W: Sink>(out: &mut Out<'_, W>, what: Wanted, behind: &[u8]) {
     let words: &[u8] = match what {
         Wanted::Session => b"a session `@1` to `@8` expected behind ",
         Wanted::Object => b"the name of an object expected behind ",
@@ -122,52 +122,46 @@ fn tell_expected<W: Sink>(writer: &mut W, failed: &mut bool, what: Wanted, behin
         Wanted::Value => b"an int or a string in `\"` expected",
         Wanted::CommaOrBracket => b"`,` or `)` expected behind ",
     };
-    tell(writer, failed, words);
+    out.say(words);
     if what != Wanted::Value {
-        tell_marked(writer, failed, behind);
+        tell_marked(out, behind);
     }
 }
 
 // Writes that a word is no name.
-fn tell_reserved<W: Sink>(writer: &mut W, failed: &mut bool, line: &[u8], at: usize) {
+fn tell_reserved<W: Sink>(out: &mut Out<'_, W>, line: &[u8], at: usize) {
     if let Some(name) = name_at(line, at) {
-        tell_marked(writer, failed, name.as_bytes());
-        tell(writer, failed, b" is a reserved word, and no name");
+        tell_marked(out, name.as_bytes());
+        out.say(b" is a reserved word, and no name");
     }
 }
 
 // Writes what is directly behind a session.
-fn tell_long_session<W: Sink>(writer: &mut W, failed: &mut bool, line: &[u8], at: usize) {
-    tell_marked(writer, failed, part(line, at, at.saturating_add(1)));
-    tell(writer, failed, b" stands behind the session ");
-    tell_marked(writer, failed, part(line, at.saturating_sub(2), at));
-    tell(writer, failed, b": sessions are @1 to @8");
+fn tell_long_session<W: Sink>(out: &mut Out<'_, W>, line: &[u8], at: usize) {
+    tell_marked(out, part(line, at, at.saturating_add(1)));
+    out.say(b" stands behind the session ");
+    tell_marked(out, part(line, at.saturating_sub(2), at));
+    out.say(b": sessions are @1 to @8");
 }
 
 // Writes the form of a line that has more.
-fn tell_too_much<W: Sink>(writer: &mut W, failed: &mut bool, verb: Verb) {
-    tell(writer, failed, b"nothing more expected: the line is ");
-    tell_marked(writer, failed, verb.form());
+fn tell_too_much<W: Sink>(out: &mut Out<'_, W>, verb: Verb) {
+    out.say(b"nothing more expected: the line is ");
+    tell_marked(out, verb.form());
 }
 
 // Writes that a domain does not have a name.
-fn tell_unknown<W: Sink>(
-    writer: &mut W,
-    failed: &mut bool,
-    domain: &Domain,
-    line: &[u8],
-    fault: &Fault,
-) {
+fn tell_unknown<W: Sink>(out: &mut Out<'_, W>, domain: &Domain, line: &[u8], fault: &Fault) {
     let Some(name) = name_at(line, fault.at) else {
         return;
     };
     match fault.cause {
         Cause::UnknownAction if domain.state(&name).is_some() => {
-            tell_name(writer, failed, &name);
-            tell(writer, failed, ACTION_FIRST);
+            tell_name(out, &name);
+            out.say(ACTION_FIRST);
         }
-        Cause::UnknownAction => tell_no_action(writer, failed, domain, &name),
-        Cause::UnknownState => tell_no_state(writer, failed, domain, &name),
-        _ => tell_no_object(writer, failed, domain, &name),
+        Cause::UnknownAction => tell_no_action(out, domain, &name),
+        Cause::UnknownState => tell_no_state(out, domain, &name),
+        _ => tell_no_object(out, domain, &name),
     }
 }

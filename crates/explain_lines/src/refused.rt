@@ -12,8 +12,9 @@ use crate::words::tell_count;
 use smi_journal::Passed;
 use smi_world::{Step, StepError};
 use sml_domain::{Domain, ObjId};
-use sml_text::{Sink, tell};
+use sml_text::Sink;
 use sml_tree::Name;
+use sml_writer::Out;
 
 /// Writes why the step of a line was refused: the place in the line that the cause is about, one sentence, the line,
 /// and a caret. The history is that of the lines before, as [`History::note`] notes them; a refused step changes
@@ -27,20 +28,19 @@ pub fn explain_refused<W: Sink>(
     line: &SourceLine,
     step: &Step,
     error: StepError,
-    writer: &mut W,
-    failed: &mut bool,
+    out: &mut Out<'_, W>,
 ) {
     let at = match token_at(line.text, tokens_before(domain, step, error)) {
         Some(token) => token.at,
         None => 0,
     };
-    tell_front(writer, failed, line, at);
+    tell_front(out, line, at);
     match domain.object(object_in(step)) {
-        Some(o) => tell_at(writer, failed, history, domain, o, step, error),
-        None if tell_swapped(writer, failed, domain, step) => {}
-        None => tell_no_object(writer, failed, domain, object_in(step)),
+        Some(o) => tell_at(out, history, domain, o, step, error),
+        None if tell_swapped(out, domain, step) => {}
+        None => tell_no_object(out, domain, object_in(step)),
     }
-    tell_back(writer, failed, line, at);
+    tell_back(out, line, at);
 }
 
 // The name of the object of a step.
@@ -96,8 +96,7 @@ fn bad_in(domain: &Domain, step: &Step) -> Option<BadArgument> {
 
 // Writes why a step at an object was refused.
 fn tell_at<W: Sink>(
-    writer: &mut W,
-    failed: &mut bool,
+    out: &mut Out<'_, W>,
     history: &History,
     domain: &Domain,
     o: ObjId,
@@ -107,64 +106,56 @@ fn tell_at<W: Sink>(
     let past = history.past(o);
     match error {
         StepError::UnknownObject | StepError::UnknownAction | StepError::BadArgs => {
-            tell_request(writer, failed, domain, o, step);
+            tell_request(out, domain, o, step);
         }
-        StepError::NotAState => tell_answer(writer, failed, domain, o, step),
+        StepError::NotAState => tell_answer(out, domain, o, step),
         StepError::Associated | StepError::NotAssociated => {
-            tell_device(writer, failed, domain, o, step);
+            tell_device(out, domain, o, step);
         }
-        StepError::Limit => tell_limit(writer, failed, history),
-        StepError::Memory => tell(writer, failed, b"out of memory"),
+        StepError::Limit => tell_limit(out, history),
+        StepError::Memory => out.say(b"out of memory"),
         StepError::Dead
         | StepError::AlreadyDead(_)
         | StepError::Full
         | StepError::AlreadyOpen
         | StepError::Empty
-        | StepError::NotOpen => tell_past(writer, failed, domain, o, &past, error),
+        | StepError::NotOpen => tell_past(out, domain, o, &past, error),
     }
 }
 
 // Writes what was done at an object, for which a step was refused.
 fn tell_past<W: Sink>(
-    writer: &mut W,
-    failed: &mut bool,
+    out: &mut Out<'_, W>,
     domain: &Domain,
     o: ObjId,
     past: &Past,
     error: StepError,
 ) {
     match error {
-        StepError::Full => tell_full(writer, failed, domain, o, past),
-        StepError::AlreadyOpen => tell_already_open(writer, failed, domain, o, past),
-        StepError::Empty => tell_empty(writer, failed, domain, o, past),
-        StepError::NotOpen => tell_not_open(writer, failed, domain, o, past),
-        _ => tell_killed(writer, failed, domain, o, past),
+        StepError::Full => tell_full(out, domain, o, past),
+        StepError::AlreadyOpen => tell_already_open(out, domain, o, past),
+        StepError::Empty => tell_empty(out, domain, o, past),
+        StepError::NotOpen => tell_not_open(out, domain, o, past),
+        _ => tell_killed(out, domain, o, past),
     }
 }
 
 // Writes what is wrong with the action or the arguments of a request.
-fn tell_request<W: Sink>(
-    writer: &mut W,
-    failed: &mut bool,
-    domain: &Domain,
-    o: ObjId,
-    step: &Step,
-) {
+fn tell_request<W: Sink>(out: &mut Out<'_, W>, domain: &Domain, o: ObjId, step: &Step) {
     let Step::Request { action, args, .. } = step else {
         return;
     };
     match domain.action(action) {
         Some(a) if domain.parameters(o, a).is_some() => {
-            tell_arguments(writer, failed, domain, o, step, args.list());
+            tell_arguments(out, domain, o, step, args.list());
         }
-        _ => tell_undeclared(writer, failed, domain, o, action),
+        _ => tell_undeclared(out, domain, o, action),
     }
 }
 
 // Writes what is wrong with the arguments of a request.
 fn tell_arguments<W: Sink>(
-    writer: &mut W,
-    failed: &mut bool,
+    out: &mut Out<'_, W>,
     domain: &Domain,
     o: ObjId,
     step: &Step,
@@ -177,37 +168,37 @@ fn tell_arguments<W: Sink>(
         return;
     };
     if let Some(bad) = bad_in(domain, step) {
-        tell_bad_argument(writer, failed, domain, o, a, passed, bad);
+        tell_bad_argument(out, domain, o, a, passed, bad);
     }
 }
 
 // Writes which states there are, in place of the one that was answered.
-fn tell_answer<W: Sink>(writer: &mut W, failed: &mut bool, domain: &Domain, o: ObjId, step: &Step) {
+fn tell_answer<W: Sink>(out: &mut Out<'_, W>, domain: &Domain, o: ObjId, step: &Step) {
     if let Step::Answer { state, .. } = step {
-        tell_not_a_state(writer, failed, domain, o, state);
+        tell_not_a_state(out, domain, o, state);
     }
 }
 
 // Writes whether an object has a device, and which line is due in place of the refused one.
-fn tell_device<W: Sink>(writer: &mut W, failed: &mut bool, domain: &Domain, o: ObjId, step: &Step) {
-    tell_object(writer, failed, domain, o);
+fn tell_device<W: Sink>(out: &mut Out<'_, W>, domain: &Domain, o: ObjId, step: &Step) {
+    tell_object(out, domain, o);
     let (words, behind): (&[u8], &[u8]) = match step {
         Step::Go(_) => (b" has a device: `answer ", b" STATE`"),
         Step::Fault(_) => (b" has no device: `kill ", b" @1`"),
         _ => (b" has no device: `go ", b"`"),
     };
-    tell(writer, failed, words);
-    tell_object(writer, failed, domain, o);
-    tell(writer, failed, behind);
+    out.say(words);
+    tell_object(out, domain, o);
+    out.say(behind);
 }
 
 // Writes how many actions were started.
-fn tell_limit<W: Sink>(writer: &mut W, failed: &mut bool, history: &History) {
-    tell_count(writer, failed, history.starts(), b"action");
+fn tell_limit<W: Sink>(out: &mut Out<'_, W>, history: &History) {
+    tell_count(out, history.starts(), b"action");
     let words: &[u8] = if history.starts() == 1 {
         b" was started, as many as may be (`--max-starts`)"
     } else {
         b" were started, as many as may be (`--max-starts`)"
     };
-    tell(writer, failed, words);
+    out.say(words);
 }

@@ -1,7 +1,8 @@
 //! The line that an explanation is about.
 
 use explain_places::{Position, tell_place, tell_quoted};
-use sml_text::{Sink, tell};
+use sml_text::Sink;
+use sml_writer::Out;
 
 /// A line, and where it is.
 #[derive(Clone, Copy)]
@@ -15,26 +16,16 @@ pub struct SourceLine<'a> {
 }
 
 /// Writes `FILE:LINE:COLUMN: ` for the byte of the line at an offset, which counts from 0.
-pub(crate) fn tell_front<W: Sink>(
-    writer: &mut W,
-    failed: &mut bool,
-    line: &SourceLine,
-    offset: usize,
-) {
+pub(crate) fn tell_front<W: Sink>(out: &mut Out<'_, W>, line: &SourceLine, offset: usize) {
     let place = Position {
         line: line.number,
         column: offset.saturating_add(1),
     };
-    tell_place(writer, failed, line.file, place);
+    tell_place(out, line.file, place);
 }
 
 /// Ends the sentence, and writes the line with a caret under the byte at an offset.
-pub(crate) fn tell_back<W: Sink>(
-    writer: &mut W,
-    failed: &mut bool,
-    line: &SourceLine,
-    offset: usize,
-) {
-    tell(writer, failed, b"\n");
-    tell_quoted(writer, failed, line.text, offset);
+pub(crate) fn tell_back<W: Sink>(out: &mut Out<'_, W>, line: &SourceLine, offset: usize) {
+    out.say(b"\n");
+    tell_quoted(out, line.text, offset);
 }

@@ -5,8 +5,9 @@ use crate::foreign::advice_on;
 use crate::pieces::{name_at, name_of};
 use crate::words::tell_marked;
 use explain_places::Nearest;
-use sml_text::{Sink, tell};
+use sml_text::Sink;
 use sml_tree::Name;
+use sml_writer::Out;
 
 /// The first word of a line.
 #[derive(Clone, Copy, Eq, PartialEq)]
@@ -117,32 +118,26 @@ pub(crate) fn offer_word(nearest: &mut Nearest, word: &[u8]) {
 }
 
 /// Writes which verbs there are, and which may have been meant by the word at a place.
-pub(crate) fn tell_verbs<W: Sink>(
-    writer: &mut W,
-    failed: &mut bool,
-    kind: LineKind,
-    line: &[u8],
-    place: usize,
-) {
+pub(crate) fn tell_verbs<W: Sink>(out: &mut Out<'_, W>, kind: LineKind, line: &[u8], place: usize) {
     let verbs: &[u8] = match kind {
         LineKind::Schedule => b"request, start, go, answer, fault or kill",
         LineKind::Script => b"request, kill or device",
     };
-    tell(writer, failed, b"a line begins with ");
-    tell(writer, failed, verbs);
+    out.say(b"a line begins with ");
+    out.say(verbs);
     if let Some(name) = name_at(line, place) {
-        tell_meant(writer, failed, kind, &name);
+        tell_meant(out, kind, &name);
     }
 }
 
 // Writes what to write in place of a word that other programs have, or which verb may have been meant.
-fn tell_meant<W: Sink>(writer: &mut W, failed: &mut bool, kind: LineKind, name: &Name) {
+fn tell_meant<W: Sink>(out: &mut Out<'_, W>, kind: LineKind, name: &Name) {
     if let Some(advice) = advice_on(kind, name.as_bytes()) {
-        return tell(writer, failed, advice);
+        return out.say(advice);
     }
     if let Some(verb) = nearest_verb(kind, name) {
-        tell(writer, failed, b"; did you mean ");
-        tell_marked(writer, failed, verb.word());
-        tell(writer, failed, b"?");
+        out.say(b"; did you mean ");
+        tell_marked(out, verb.word());
+        out.say(b"?");
     }
 }

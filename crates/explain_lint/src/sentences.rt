@@ -5,61 +5,47 @@ use crate::lines::Lines;
 use crate::warning::{Detail, Warning};
 use explain_places::{tell_place, tell_quoted, tell_spot};
 use sml_domain::{ActionId, ClassId, Domain, ObjId};
-use sml_text::{Sink, tell, tell_u64};
+use sml_text::Sink;
+use sml_writer::Out;
 
 // How many members of a circle are named.
 const NAMED: usize = 8;
 
 /// Writes what is wrong: the place, a sentence, the line and a caret. The cost is that of the line.
 pub fn explain_warning<W: Sink>(
-    writer: &mut W,
-    failed: &mut bool,
+    out: &mut Out<'_, W>,
     domain: &Domain,
     source: (&str, &[u8], &Lines),
     warning: &Warning,
 ) {
     let (file, text, lines) = source;
-    tell_place(writer, failed, file, lines.place(warning.at));
-    tell_sentence(writer, failed, domain, lines, warning);
-    tell(writer, failed, b"\n");
-    tell_quoted(writer, failed, text, warning.at);
+    tell_place(out, file, lines.place(warning.at));
+    tell_sentence(out, domain, lines, warning);
+    out.say(b"\n");
+    tell_quoted(out, text, warning.at);
 }
 
 // Writes several words.
-fn say<W: Sink>(writer: &mut W, failed: &mut bool, words: &[&[u8]]) {
+fn say<W: Sink>(out: &mut Out<'_, W>, words: &[&[u8]]) {
     for word in words {
-        tell(writer, failed, *word);
+        out.say(*word);
     }
 }
 
 // Writes the sentence.
-fn tell_sentence<W: Sink>(
-    writer: &mut W,
-    failed: &mut bool,
-    domain: &Domain,
-    lines: &Lines,
-    warning: &Warning,
-) {
+fn tell_sentence<W: Sink>(out: &mut Out<'_, W>, domain: &Domain, lines: &Lines, warning: &Warning) {
     let name = warning.name.as_bytes();
     match &warning.detail {
         Detail::EndedAt(at) => {
             say(
-                writer,
-                failed,
+                out,
                 &[b"this is never reached: the action has ended before it, at "],
             );
-            tell_spot(writer, failed, lines.place(*at));
+            tell_spot(out, lines.place(*at));
         }
-        Detail::OfClass(class) => tell_of_class(
-            writer,
-            failed,
-            warning.kind,
-            name,
-            class.as_bytes(),
-        ),
+        Detail::OfClass(class) => tell_of_class(out, warning.kind, name, class.as_bytes()),
         Detail::OfAction(action) => say(
-            writer,
-            failed,
+            out,
             &[
                 b"nothing reads parameter ",
                 name,
@@ -67,22 +53,20 @@ fn tell_sentence<W: Sink>(
                 action.as_bytes(),
             ],
         ),
-        Detail::OneTest => tell_test(writer, failed, warning.kind, name),
-        Detail::WithOthers => tell_tests(writer, failed, warning.kind, name),
+        Detail::OneTest => tell_test(out, warning.kind, name),
+        Detail::WithOthers => tell_tests(out, warning.kind, name),
         Detail::EmptySet => say(
-            writer,
-            failed,
+            out,
             &[
                 b"set ",
                 name,
                 b" never has a member: nothing is sent to it, and `all_in` of it is always true",
             ],
         ),
-        Detail::Class => tell_class(writer, failed, warning.kind, name),
-        Detail::Set => say(writer, failed, &[b"nothing names set ", name]),
+        Detail::Class => tell_class(out, warning.kind, name),
+        Detail::Set => say(out, &[b"nothing names set ", name]),
         Detail::Object => say(
-            writer,
-            failed,
+            out,
             &[
                 b"no object sends to ",
                 name,
@@ -90,8 +74,7 @@ fn tell_sentence<W: Sink>(
             ],
         ),
         Detail::EndsDead(class) => say(
-            writer,
-            failed,
+            out,
             &[
                 b"this does not kill: an object of class ",
                 class.as_bytes(),
@@ -101,8 +84,7 @@ fn tell_sentence<W: Sink>(
             ],
         ),
         Detail::NotDead(dead) => say(
-            writer,
-            failed,
+            out,
             &[
                 b"an object that is killed is not in state ",
                 name,
@@ -110,23 +92,16 @@ fn tell_sentence<W: Sink>(
                 dead.as_bytes(),
             ],
         ),
-        Detail::Actions(members) => tell_actions(writer, failed, domain, members),
-        Detail::Objects(members) => tell_objects(writer, failed, domain, members),
+        Detail::Actions(members) => tell_actions(out, domain, members),
+        Detail::Objects(members) => tell_objects(out, domain, members),
     }
 }
 
 // Writes what is wrong with something of a class.
-fn tell_of_class<W: Sink>(
-    writer: &mut W,
-    failed: &mut bool,
-    kind: WarningKind,
-    name: &[u8],
-    class: &[u8],
-) {
+fn tell_of_class<W: Sink>(out: &mut Out<'_, W>, kind: WarningKind, name: &[u8], class: &[u8]) {
     match kind {
         WarningKind::NoWayIn => say(
-            writer,
-            failed,
+            out,
             &[
                 b"no object of class ",
                 class,
@@ -136,8 +111,7 @@ fn tell_of_class<W: Sink>(
             ],
         ),
         WarningKind::NoWayOut => say(
-            writer,
-            failed,
+            out,
             &[
                 b"state ",
                 name,
@@ -147,13 +121,11 @@ fn tell_of_class<W: Sink>(
             ],
         ),
         WarningKind::NeverRead => say(
-            writer,
-            failed,
+            out,
             &[b"nothing reads parameter ", name, b" of class ", class],
         ),
         _ => say(
-            writer,
-            failed,
+            out,
             &[
                 b"no object sends ",
                 name,
@@ -166,27 +138,25 @@ fn tell_of_class<W: Sink>(
 }
 
 // Writes what is wrong with a class.
-fn tell_class<W: Sink>(writer: &mut W, failed: &mut bool, kind: WarningKind, name: &[u8]) {
+fn tell_class<W: Sink>(out: &mut Out<'_, W>, kind: WarningKind, name: &[u8]) {
     match kind {
         WarningKind::NoBody => say(
-            writer,
-            failed,
+            out,
             &[
                 b"no action of class ",
                 name,
                 b" has an instruction: is `/associated` missing?",
             ],
         ),
-        _ => say(writer, failed, &[b"class ", name, b" has no object"]),
+        _ => say(out, &[b"class ", name, b" has no object"]),
     }
 }
 
 // Writes what is wrong with a test.
-fn tell_test<W: Sink>(writer: &mut W, failed: &mut bool, kind: WarningKind, name: &[u8]) {
+fn tell_test<W: Sink>(out: &mut Out<'_, W>, kind: WarningKind, name: &[u8]) {
     match kind {
         WarningKind::Always => say(
-            writer,
-            failed,
+            out,
             &[
                 b"this is always true, in each state that ",
                 name,
@@ -194,8 +164,7 @@ fn tell_test<W: Sink>(writer: &mut W, failed: &mut bool, kind: WarningKind, name
             ],
         ),
         _ => say(
-            writer,
-            failed,
+            out,
             &[
                 b"this is never true, in no state that ",
                 name,
@@ -206,11 +175,10 @@ fn tell_test<W: Sink>(writer: &mut W, failed: &mut bool, kind: WarningKind, name
 }
 
 // Writes what is wrong with several tests.
-fn tell_tests<W: Sink>(writer: &mut W, failed: &mut bool, kind: WarningKind, name: &[u8]) {
+fn tell_tests<W: Sink>(out: &mut Out<'_, W>, kind: WarningKind, name: &[u8]) {
     match kind {
         WarningKind::Always => say(
-            writer,
-            failed,
+            out,
             &[
                 b"with the tests of ",
                 name,
@@ -218,8 +186,7 @@ fn tell_tests<W: Sink>(writer: &mut W, failed: &mut bool, kind: WarningKind, nam
             ],
         ),
         _ => say(
-            writer,
-            failed,
+            out,
             &[
                 b"with the tests of ",
                 name,
@@ -230,24 +197,18 @@ fn tell_tests<W: Sink>(writer: &mut W, failed: &mut bool, kind: WarningKind, nam
 }
 
 // Writes how many members of a circle are not named.
-fn tell_others<W: Sink>(writer: &mut W, failed: &mut bool, count: usize) {
+fn tell_others<W: Sink>(out: &mut Out<'_, W>, count: usize) {
     if count > NAMED {
-        tell(writer, failed, b" and ");
-        tell_u64(writer, failed, count.saturating_sub(NAMED) as u64);
-        tell(writer, failed, b" more");
+        out.say(b" and ");
+        out.number(count.saturating_sub(NAMED) as u64);
+        out.say(b" more");
     }
 }
 
 // Writes the actions of a circle.
-fn tell_actions<W: Sink>(
-    writer: &mut W,
-    failed: &mut bool,
-    domain: &Domain,
-    members: &[(ClassId, ActionId)],
-) {
+fn tell_actions<W: Sink>(out: &mut Out<'_, W>, domain: &Domain, members: &[(ClassId, ActionId)]) {
     say(
-        writer,
-        failed,
+        out,
         &[b"these actions send to one another in a circle, and may go on for ever: "],
     );
     for (place, (class, action)) in members.iter().take(NAMED).enumerate() {
@@ -256,32 +217,27 @@ fn tell_actions<W: Sink>(
             domain.action_name(*action),
         ) {
             if place > 0 {
-                tell(writer, failed, b", ");
+                out.say(b", ");
             }
-            say(
-                writer,
-                failed,
-                &[name.as_bytes(), b" of ", row.name.as_bytes()],
-            );
+            say(out, &[name.as_bytes(), b" of ", row.name.as_bytes()]);
         }
     }
-    tell_others(writer, failed, members.len());
+    tell_others(out, members.len());
 }
 
 // Writes the objects of a circle.
-fn tell_objects<W: Sink>(writer: &mut W, failed: &mut bool, domain: &Domain, members: &[ObjId]) {
+fn tell_objects<W: Sink>(out: &mut Out<'_, W>, domain: &Domain, members: &[ObjId]) {
     say(
-        writer,
-        failed,
+        out,
         &[b"these objects ask one another in a circle, and may wait for one another for ever: "],
     );
     for (place, o) in members.iter().take(NAMED).enumerate() {
         if let Some(name) = domain.object_name(*o) {
             if place > 0 {
-                tell(writer, failed, b", ");
+                out.say(b", ");
             }
-            tell(writer, failed, name.as_bytes());
+            out.say(name.as_bytes());
         }
     }
-    tell_others(writer, failed, members.len());
+    tell_others(out, members.len());
 }

@@ -3,8 +3,9 @@
 use crate::kind::WarningKind;
 use explain_places::{Position, tell_spot};
 use sml_domain::{ActionId, ClassId, ObjId};
-use sml_text::{Sink, tell, tell_u64};
+use sml_text::Sink;
 use sml_tree::Name;
+use sml_writer::Out;
 
 /// A warning: what it is about, and where that stands in the text.
 #[derive(Drop)]
@@ -50,21 +51,15 @@ pub(crate) enum Detail {
 }
 
 /// Writes the line of a warning on a file, `FILE warn NO KIND NAME at LINE:COLUMN`.
-pub fn tell_warning<W: Sink>(
-    writer: &mut W,
-    failed: &mut bool,
-    file: &str,
-    warning: &Warning,
-    place: Position,
-) {
-    tell(writer, failed, file.as_bytes());
-    tell(writer, failed, b" warn ");
-    tell_u64(writer, failed, warning.kind.number());
-    tell(writer, failed, b" ");
-    tell(writer, failed, warning.kind.name().as_bytes());
-    tell(writer, failed, b" ");
-    tell(writer, failed, warning.name.as_bytes());
-    tell(writer, failed, b" at ");
-    tell_spot(writer, failed, place);
-    tell(writer, failed, b"\n");
+pub fn tell_warning<W: Sink>(out: &mut Out<'_, W>, file: &str, warning: &Warning, place: Position) {
+    out.say(file.as_bytes());
+    out.say(b" warn ");
+    out.number(warning.kind.number());
+    out.say(b" ");
+    out.say(warning.kind.name().as_bytes());
+    out.say(b" ");
+    out.say(warning.name.as_bytes());
+    out.say(b" at ");
+    tell_spot(out, place);
+    out.say(b"\n");
 }

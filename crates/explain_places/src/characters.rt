@@ -1,6 +1,7 @@
 //! Characters that are not ASCII, and texts in another encoding.
 
-use sml_text::{Sink, tell};
+use sml_text::Sink;
+use sml_writer::Out;
 
 // How many bytes of a text are looked at for its encoding.
 const LOOKED_AT: usize = 64;
@@ -30,16 +31,16 @@ fn has_second_nuls(bytes: &[u8]) -> bool {
 
 /// Writes that what begins these bytes is not ASCII, by its code point if it is a character of UTF-8. Behind that
 /// stands what to write instead, or the rule where that is not known.
-pub fn tell_not_ascii<W: Sink>(writer: &mut W, failed: &mut bool, bytes: &[u8], rule: &[u8]) {
+pub fn tell_not_ascii<W: Sink>(out: &mut Out<'_, W>, bytes: &[u8], rule: &[u8]) {
     let Some(code) = code_point(bytes) else {
-        tell(writer, failed, b"this byte is not ASCII: ");
-        return tell(writer, failed, rule);
+        out.say(b"this byte is not ASCII: ");
+        return out.say(rule);
     };
-    tell_code_point(writer, failed, code);
-    tell(writer, failed, b" is not ASCII: ");
+    tell_code_point(out, code);
+    out.say(b" is not ASCII: ");
     match code {
-        0xFF01..=0xFF5E => tell_narrow(writer, failed, code),
-        _ => tell(writer, failed, instead_of(code).unwrap_or(rule)),
+        0xFF01..=0xFF5E => tell_narrow(out, code),
+        _ => out.say(instead_of(code).unwrap_or(rule)),
     }
 }
 
@@ -57,11 +58,11 @@ fn instead_of(code: u32) -> Option<&'static [u8]> {
 }
 
 // What to write in place of a wide form of an ASCII character.
-fn tell_narrow<W: Sink>(writer: &mut W, failed: &mut bool, code: u32) {
+fn tell_narrow<W: Sink>(out: &mut Out<'_, W>, code: u32) {
     let narrow = ((code % 256) as u8).saturating_add(0x20);
-    tell(writer, failed, b"write `");
-    tell(writer, failed, &[narrow]);
-    tell(writer, failed, b"`");
+    out.say(b"write `");
+    out.say(&[narrow]);
+    out.say(b"`");
 }
 
 // The six bits that a byte adds to a code point.
@@ -92,25 +93,25 @@ fn follows(byte: u8) -> bool {
 }
 
 // Writes a code point with four digits at least.
-fn tell_code_point<W: Sink>(writer: &mut W, failed: &mut bool, code: u32) {
-    tell(writer, failed, b"U+");
+fn tell_code_point<W: Sink>(out: &mut Out<'_, W>, code: u32) {
+    out.say(b"U+");
     if code >= 0x100000 {
-        tell_digit(writer, failed, code / 0x100000);
+        tell_digit(out, code / 0x100000);
     }
     if code >= 0x10000 {
-        tell_digit(writer, failed, code / 0x10000);
+        tell_digit(out, code / 0x10000);
     }
-    tell_digit(writer, failed, code / 0x1000);
-    tell_digit(writer, failed, code / 0x100);
-    tell_digit(writer, failed, code / 0x10);
-    tell_digit(writer, failed, code);
+    tell_digit(out, code / 0x1000);
+    tell_digit(out, code / 0x100);
+    tell_digit(out, code / 0x10);
+    tell_digit(out, code);
 }
 
 // Writes the last digit of a number in base 16.
-fn tell_digit<W: Sink>(writer: &mut W, failed: &mut bool, number: u32) {
+fn tell_digit<W: Sink>(out: &mut Out<'_, W>, number: u32) {
     let digit = match number % 16 {
         low @ 0..=9 => b'0'.saturating_add(low as u8),
         high => b'7'.saturating_add(high as u8),
     };
-    tell(writer, failed, &[digit]);
+    out.say(&[digit]);
 }

@@ -1,10 +1,11 @@
 //! Lines and columns.
 ghost use Rattle.std.specs.Prelude.{◌≡◌, ◌==◌, ◌≤◌, length, take, count_by};
-ghost use Rattle.sml_text.specs.Written.{StaysDue, Told};
+ghost use Rattle.sml_writer.specs.Tells.{Tells};
 ghost use Rattle.explain_places.specs.Places.{IsPlace, LineBegins, NoLineFeedFrom, place_text, spot_text};
 
 use memchr::memrchr;
-use sml_text::{Sink, tell, tell_u64};
+use sml_text::Sink;
+use sml_writer::Out;
 
 /// Where a byte of a text is. Lines and columns count from 1, and each byte is one column, a tab too.
 #[derive(Clone, Copy, Debug, Eq, PartialEq)]
@@ -48,23 +49,21 @@ fn line_begin(text: &[u8]) -> usize
 
 /// Writes `FILE:LINE:COLUMN: `, as compilers do and editors read it, unless a write before it failed. The cost is that
 /// of `tell`.
-pub fn tell_place<W: Sink>(writer: &mut W, failed: &mut bool, file: &str, place: Position)
-    ensures told { Told (W.contents writer.old) failed.old (W.contents writer.new) failed.new
+pub fn tell_place<W: Sink>(out: &mut Out<'_, W>, file: &str, place: Position)
+    ensures { Tells W.contents W.has_refused out.old out.new
         (place_text file.now place) }
-    ensures due { StaysDue (W.has_refused writer.old) failed.old (W.has_refused writer.new) failed.new }
 {
-    tell(writer, failed, file.as_bytes());
-    tell(writer, failed, b":");
-    tell_spot(writer, failed, place);
-    tell(writer, failed, b": ");
+    out.say(file.as_bytes());
+    out.say(b":");
+    tell_spot(out, place);
+    out.say(b": ");
 }
 
 /// Writes `LINE:COLUMN`, unless a write before it failed. The cost is that of `tell`.
-pub fn tell_spot<W: Sink>(writer: &mut W, failed: &mut bool, place: Position)
-    ensures told { Told (W.contents writer.old) failed.old (W.contents writer.new) failed.new (spot_text place) }
-    ensures due { StaysDue (W.has_refused writer.old) failed.old (W.has_refused writer.new) failed.new }
+pub fn tell_spot<W: Sink>(out: &mut Out<'_, W>, place: Position)
+    ensures { Tells W.contents W.has_refused out.old out.new (spot_text place) }
 {
-    tell_u64(writer, failed, place.line as u64);
-    tell(writer, failed, b":");
-    tell_u64(writer, failed, place.column as u64);
+    out.number(place.line as u64);
+    out.say(b":");
+    out.number(place.column as u64);
 }

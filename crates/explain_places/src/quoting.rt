@@ -1,7 +1,8 @@
 //! A line of a text, and a caret under one of its bytes.
 
 use memchr::{memchr, memrchr};
-use sml_text::{Sink, tell};
+use sml_text::Sink;
+use sml_writer::Out;
 
 // How many bytes are shown in front of the caret, and how many from it on.
 const SHOWN: usize = 100;
@@ -41,21 +42,21 @@ fn without_return(line: &[u8]) -> &[u8] {
 }
 
 // Writes bytes so that they take one column each: what no terminal shows is a question mark.
-fn tell_shown<W: Sink>(writer: &mut W, failed: &mut bool, bytes: &[u8]) {
+fn tell_shown<W: Sink>(out: &mut Out<'_, W>, bytes: &[u8]) {
     for b in bytes {
         let shown = match *b {
             b'\t' | 0x20..=0x7E => *b,
             _ => b'?',
         };
-        tell(writer, failed, &[shown]);
+        out.say(&[shown]);
     }
 }
 
 // Writes blanks that are as wide as the bytes: tabs stay.
-fn tell_blanks<W: Sink>(writer: &mut W, failed: &mut bool, bytes: &[u8]) {
+fn tell_blanks<W: Sink>(out: &mut Out<'_, W>, bytes: &[u8]) {
     for b in bytes {
         let blank = if *b == b'\t' { b'\t' } else { b' ' };
-        tell(writer, failed, &[blank]);
+        out.say(&[blank]);
     }
 }
 
@@ -63,16 +64,12 @@ fn tell_blanks<W: Sink>(writer: &mut W, failed: &mut bool, bytes: &[u8]) {
 /// a long line the hundred bytes before the place and the hundred from it on are shown.
 ///
 /// The offset counts from 0; behind the text it is the place of its end. The cost is the length of the line.
-pub fn tell_quoted<W: Sink>(writer: &mut W, failed: &mut bool, text: &[u8], offset: usize) {
+pub fn tell_quoted<W: Sink>(out: &mut Out<'_, W>, text: &[u8], offset: usize) {
     let (before, behind) = text.split_at(offset.min(text.len()));
     let before = shown_before(last_line(before));
-    tell_shown(writer, failed, before);
-    tell_shown(
-        writer,
-        failed,
-        shown_behind(without_return(first_line(behind))),
-    );
-    tell(writer, failed, b"\n");
-    tell_blanks(writer, failed, before);
-    tell(writer, failed, b"^\n");
+    tell_shown(out, before);
+    tell_shown(out, shown_behind(without_return(first_line(behind))));
+    out.say(b"\n");
+    tell_blanks(out, before);
+    out.say(b"^\n");
 }

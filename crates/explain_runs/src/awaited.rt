@@ -1,10 +1,11 @@
 //! Whom an open action waits for.
 
+use show_names::tell_object;
 use smi_audit::{Expected, Past};
 use smi_interp::objects_of;
-use smi_journal::tell_object;
 use sml_domain::{ObjId, Subject};
-use sml_text::{Sink, tell};
+use sml_text::Sink;
+use sml_writer::Out;
 
 // Whether names stand for an object now.
 fn are_for(past: &Past, names: &[Subject], o: ObjId) -> bool {
@@ -22,8 +23,7 @@ fn is_busy(past: &Past, o: ObjId, other: ObjId) -> bool {
 // Writes those of the objects for which a name stands that are not clear for an object, and for which no earlier name
 // stands. The word is written before the first of all.
 fn tell_busy_of<W: Sink>(
-    writer: &mut W,
-    failed: &mut bool,
+    out: &mut Out<'_, W>,
     past: &Past,
     word: &[u8],
     o: ObjId,
@@ -36,43 +36,30 @@ fn tell_busy_of<W: Sink>(
     for busy in objects_of(books.domain(), books.sets(), name) {
         if is_busy(past, o, *busy) && !are_for(past, before, *busy) {
             if is_first {
-                tell(writer, failed, word);
+                out.say(word);
                 is_first = false;
             }
-            tell_object(writer, failed, books.domain(), *busy);
+            tell_object(out, books.domain(), *busy);
         }
     }
     is_first
 }
 
 // The objects for which the open action of an object waits, each once, by the members that sets have now.
-fn tell_busy<W: Sink>(
-    writer: &mut W,
-    failed: &mut bool,
-    past: &Past,
-    word: &[u8],
-    o: ObjId,
-    names: &[Subject],
-) {
+fn tell_busy<W: Sink>(out: &mut Out<'_, W>, past: &Past, word: &[u8], o: ObjId, names: &[Subject]) {
     let mut is_first = true;
     for (place, name) in names.iter().enumerate() {
         let before = &names[..place];
-        is_first = tell_busy_of(writer, failed, past, word, o, before, name, is_first);
+        is_first = tell_busy_of(out, past, word, o, before, name, is_first);
     }
 }
 
 /// Writes a word and then the objects for which the open action of an object waits, each once with a blank in front;
 /// nothing where it waits for none.
-pub fn tell_awaited<W: Sink>(
-    writer: &mut W,
-    failed: &mut bool,
-    past: &Past,
-    word: &[u8],
-    o: ObjId,
-) {
+pub fn tell_awaited<W: Sink>(out: &mut Out<'_, W>, past: &Past, word: &[u8], o: ObjId) {
     if past.books().domain().has(o) {
         if let Some(Expected::Read(names)) = past.next(o) {
-            tell_busy(writer, failed, past, word, o, names.list());
+            tell_busy(out, past, word, o, names.list());
         }
     }
 }

@@ -5,8 +5,9 @@ use crate::reasons::{MOST_TOLD, tell_bare, tell_more};
 use explain_places::{Position, tell_place, tell_quoted};
 use smi_lines::LONGEST_LINE;
 use sml_domain::{ActionId, Class, Domain, ObjId, StateId};
-use sml_text::{Lexeme, Sink, Source, next_token, tell, tell_u64};
+use sml_text::{Lexeme, Sink, Source, next_token};
 use sml_tree::Name;
+use sml_writer::Out;
 use std::alloc::{AllocError, Global};
 
 // The offsets of the tokens of a `device` line, from 0, and what its names are.
@@ -136,44 +137,32 @@ fn offset_of(line: &DeviceLine, remark: Remark) -> usize {
 }
 
 // The class of an object, as `class PUMP (of P1)`.
-fn tell_class<W: Sink>(
-    writer: &mut W,
-    failed: &mut bool,
-    domain: &Domain,
-    o: ObjId,
-    class: Option<&Class>,
-) {
-    tell(writer, failed, b"class ");
+fn tell_class<W: Sink>(out: &mut Out<'_, W>, domain: &Domain, o: ObjId, class: Option<&Class>) {
+    out.say(b"class ");
     if let Some(class) = class {
-        tell(writer, failed, class.name.as_bytes());
+        out.say(class.name.as_bytes());
     }
-    tell(writer, failed, b" (of ");
-    tell_bare(writer, failed, domain.object_name(o));
-    tell(writer, failed, b")");
+    out.say(b" (of ");
+    tell_bare(out, domain.object_name(o));
+    out.say(b")");
 }
 
 // The states that a class has, in brackets.
-fn tell_states<W: Sink>(writer: &mut W, failed: &mut bool, domain: &Domain, class: Option<&Class>) {
+fn tell_states<W: Sink>(out: &mut Out<'_, W>, domain: &Domain, class: Option<&Class>) {
     let Some(class) = class else {
         return;
     };
     let mut front: &[u8] = b" (";
     for state in class.states.rows() {
-        tell(writer, failed, front);
-        tell_bare(writer, failed, domain.state_name(state.number));
+        out.say(front);
+        tell_bare(out, domain.state_name(state.number));
         front = b", ";
     }
-    tell(writer, failed, b")");
+    out.say(b")");
 }
 
 // The sentence of a remark.
-fn tell_remark<W: Sink>(
-    writer: &mut W,
-    failed: &mut bool,
-    domain: &Domain,
-    line: &DeviceLine,
-    remark: Remark,
-) {
+fn tell_remark<W: Sink>(out: &mut Out<'_, W>, domain: &Domain, line: &DeviceLine, remark: Remark) {
     let o = line.object;
     let class = if domain.has(o) {
         domain.classes().get(domain.class_of(o).get())
@@ -182,26 +171,26 @@ fn tell_remark<W: Sink>(
     };
     match remark {
         Remark::NoDevice => {
-            tell_bare(writer, failed, domain.object_name(o));
-            tell(writer, failed, b" has no device: this line does nothing");
+            tell_bare(out, domain.object_name(o));
+            out.say(b" has no device: this line does nothing");
         }
         Remark::NoAction => {
-            tell_class(writer, failed, domain, o, class);
-            tell(writer, failed, b" declares no action ");
-            tell_bare(writer, failed, domain.action_name(line.action));
-            tell(writer, failed, b": this line does nothing");
+            tell_class(out, domain, o, class);
+            out.say(b" declares no action ");
+            tell_bare(out, domain.action_name(line.action));
+            out.say(b": this line does nothing");
         }
         Remark::SaidAgain(last) => {
-            tell(writer, failed, b"line ");
-            tell_u64(writer, failed, last as u64);
-            tell(writer, failed, b" says it again, and counts");
+            out.say(b"line ");
+            out.number(last as u64);
+            out.say(b" says it again, and counts");
         }
         Remark::NoState => {
-            tell_class(writer, failed, domain, o, class);
-            tell(writer, failed, b" has no state ");
-            tell_bare(writer, failed, domain.state_name(line.state));
-            tell_states(writer, failed, domain, class);
-            tell(writer, failed, b": the device will fail");
+            tell_class(out, domain, o, class);
+            out.say(b" has no state ");
+            tell_bare(out, domain.state_name(line.state));
+            tell_states(out, domain, class);
+            out.say(b": the device will fail");
         }
     }
 }
@@ -228,8 +217,7 @@ pub fn tell_device_lines<W: Sink>(
     domain: &Domain,
     file: &str,
     text: &[u8],
-    writer: &mut W,
-    failed: &mut bool,
+    out: &mut Out<'_, W>,
 ) -> Result<(), AllocError> {
     let lines = last_lines(alloc, domain, text)?;
     let mut count: u64 = 0;
@@ -245,20 +233,19 @@ pub fn tell_device_lines<W: Sink>(
             let offset = offset_of(&line, remark);
             let column = offset.saturating_add(1);
             tell_place(
-                writer,
-                failed,
+                out,
                 file,
                 Position {
                     line: number,
                     column,
                 },
             );
-            tell_remark(writer, failed, domain, &line, remark);
-            tell(writer, failed, b"\n");
-            tell_quoted(writer, failed, bytes, offset);
+            tell_remark(out, domain, &line, remark);
+            out.say(b"\n");
+            tell_quoted(out, bytes, offset);
         }
         count = count.saturating_add(1);
     }
-    tell_more(writer, failed, count, b"lines of devices");
+    tell_more(out, count, b"lines of devices");
     Ok(())
 }

@@ -1,8 +1,10 @@
 //! Journals that are longer than other commands read.
 
-use smi_journal::{Entry, tell_lines};
+use show_names::tell_lines;
+use smi_journal::Entry;
 use sml_domain::Domain;
-use sml_text::{Sink, tell, tell_u64};
+use sml_text::Sink;
+use sml_writer::Out;
 use std::alloc::{AllocError, Global};
 
 // The first line of a journal, in bytes.
@@ -14,9 +16,9 @@ fn length_of(alloc: Global, domain: &Domain, entries: &[Entry]) -> Result<u64, A
     let mut length = HEADER;
     for place in 0..entries.len() {
         line.clear();
-        let mut failed = false;
-        tell_lines(&mut line, &mut failed, domain, &entries[place..place + 1]);
-        if failed {
+        let mut out = Out::new(&mut line);
+        tell_lines(&mut out, domain, &entries[place..place + 1]);
+        if out.failed {
             return Err(AllocError);
         }
         length = length.saturating_add(line.len() as u64);
@@ -34,17 +36,16 @@ pub fn tell_length<W: Sink>(
     path: &str,
     entries: &[Entry],
     most: u64,
-    writer: &mut W,
-    failed: &mut bool,
+    out: &mut Out<'_, W>,
 ) -> Result<(), AllocError> {
     let length = length_of(alloc, domain, entries)?;
     if length > most {
-        tell(writer, failed, path.as_bytes());
-        tell(writer, failed, b": the journal has ");
-        tell_u64(writer, failed, length);
-        tell(writer, failed, b" bytes, and other commands read at most ");
-        tell_u64(writer, failed, most);
-        tell(writer, failed, b"\n");
+        out.say(path.as_bytes());
+        out.say(b": the journal has ");
+        out.number(length);
+        out.say(b" bytes, and other commands read at most ");
+        out.number(most);
+        out.say(b"\n");
     }
     Ok(())
 }

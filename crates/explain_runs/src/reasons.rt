@@ -2,10 +2,12 @@
 
 use crate::waits::tell_waits;
 use crate::walk::Walk;
-use smi_journal::{ActionEnd, Cause, Entry, Sender, tell_object, tell_session};
+use show_names::{tell_object, tell_session};
+use smi_journal::{ActionEnd, Cause, Entry, Sender};
 use sml_domain::{Domain, ObjId, State, StateId};
-use sml_text::{Sink, tell, tell_u64};
+use sml_text::Sink;
 use sml_tree::Name;
+use sml_writer::Out;
 use std::alloc::{AllocError, Global};
 use std::sync::Arc;
 
@@ -31,67 +33,57 @@ fn is_of(kind: Kind, entry: &Entry) -> bool {
 }
 
 // A name, if it is there.
-pub(crate) fn tell_bare<W: Sink>(writer: &mut W, failed: &mut bool, name: Option<Name>) {
+pub(crate) fn tell_bare<W: Sink>(out: &mut Out<'_, W>, name: Option<Name>) {
     if let Some(name) = name {
-        tell(writer, failed, name.as_bytes());
+        out.say(name.as_bytes());
     }
 }
 
 // The line of the journal that has the entry of a place.
-pub(crate) fn tell_line<W: Sink>(writer: &mut W, failed: &mut bool, place: usize) {
-    tell(writer, failed, b" (line ");
-    tell_u64(writer, failed, (place as u64).saturating_add(2));
-    tell(writer, failed, b" of the journal)");
+pub(crate) fn tell_line<W: Sink>(out: &mut Out<'_, W>, place: usize) {
+    out.say(b" (line ");
+    out.number((place as u64).saturating_add(2));
+    out.say(b" of the journal)");
 }
 
 // The action that the entry of a place starts.
-pub(crate) fn tell_action<W: Sink>(
-    writer: &mut W,
-    failed: &mut bool,
-    domain: &Domain,
-    start: Option<&Entry>,
-) {
+pub(crate) fn tell_action<W: Sink>(out: &mut Out<'_, W>, domain: &Domain, start: Option<&Entry>) {
     if let Some(Entry::Start { action, .. }) = start {
-        tell(writer, failed, b" ");
-        tell_bare(writer, failed, domain.action_name(*action));
+        out.say(b" ");
+        tell_bare(out, domain.action_name(*action));
     }
 }
 
 // Who sent what the entry of a place starts.
-fn tell_sender<W: Sink>(writer: &mut W, failed: &mut bool, domain: &Domain, start: Option<&Entry>) {
+fn tell_sender<W: Sink>(out: &mut Out<'_, W>, domain: &Domain, start: Option<&Entry>) {
     if let Some(Entry::Start { sender, .. }) = start {
-        tell(writer, failed, b" of");
+        out.say(b" of");
         match sender {
-            Sender::Operator(session) => tell_session(writer, failed, *session),
-            Sender::Object(object) => tell_object(writer, failed, domain, *object),
+            Sender::Operator(session) => tell_session(out, *session),
+            Sender::Object(object) => tell_object(out, domain, *object),
         }
     }
 }
 
 // That the device of an object failed at the action that a start opened.
 fn tell_failed<W: Sink>(
-    writer: &mut W,
-    failed: &mut bool,
+    out: &mut Out<'_, W>,
     domain: &Domain,
     o: ObjId,
     start: Option<&Entry>,
     place: usize,
 ) {
-    tell_bare(writer, failed, domain.object_name(o));
-    tell(writer, failed, b" was killed, since its device failed at");
-    tell_action(writer, failed, domain, start);
-    tell_sender(writer, failed, domain, start);
-    tell_line(writer, failed, place);
-    tell(writer, failed, b": the script has no line `device");
-    tell_object(writer, failed, domain, o);
-    tell_action(writer, failed, domain, start);
-    tell(
-        writer,
-        failed,
-        b" STATE`, or the last one names a state that",
-    );
-    tell_object(writer, failed, domain, o);
-    tell(writer, failed, b" does not have\n");
+    tell_bare(out, domain.object_name(o));
+    out.say(b" was killed, since its device failed at");
+    tell_action(out, domain, start);
+    tell_sender(out, domain, start);
+    tell_line(out, place);
+    out.say(b": the script has no line `device");
+    tell_object(out, domain, o);
+    tell_action(out, domain, start);
+    out.say(b" STATE`, or the last one names a state that");
+    tell_object(out, domain, o);
+    out.say(b" does not have\n");
 }
 
 // The row of a state of an object's class.
@@ -104,52 +96,44 @@ fn state_row(domain: &Domain, o: ObjId, state: StateId) -> Option<&State> {
 }
 
 // The actions that a state of an object declares.
-fn tell_declared<W: Sink>(
-    writer: &mut W,
-    failed: &mut bool,
-    domain: &Domain,
-    o: ObjId,
-    state: StateId,
-) {
+fn tell_declared<W: Sink>(out: &mut Out<'_, W>, domain: &Domain, o: ObjId, state: StateId) {
     let Some(row) = state_row(domain, o, state) else {
         return;
     };
-    tell(writer, failed, b", which declares");
+    out.say(b", which declares");
     let mut is_first = true;
     for action in row.actions.rows() {
-        tell(writer, failed, if is_first { b" " } else { b", " });
-        tell_bare(writer, failed, domain.action_name(action.number));
+        out.say(if is_first { b" " } else { b", " });
+        tell_bare(out, domain.action_name(action.number));
         is_first = false;
     }
     if is_first {
-        tell(writer, failed, b" no action");
+        out.say(b" no action");
     }
 }
 
 // That an object skipped the action that a start opened, since its state does not declare it.
 fn tell_skipped<W: Sink>(
-    writer: &mut W,
-    failed: &mut bool,
+    out: &mut Out<'_, W>,
     domain: &Domain,
     o: ObjId,
     state: Option<StateId>,
     start: Option<&Entry>,
 ) {
-    tell_bare(writer, failed, domain.object_name(o));
-    tell(writer, failed, b" skipped");
-    tell_action(writer, failed, domain, start);
-    tell_sender(writer, failed, domain, start);
+    tell_bare(out, domain.object_name(o));
+    out.say(b" skipped");
+    tell_action(out, domain, start);
+    tell_sender(out, domain, start);
     if let Some(state) = state {
-        tell(writer, failed, b" in state ");
-        tell_bare(writer, failed, domain.state_name(state));
-        tell_declared(writer, failed, domain, o, state);
+        out.say(b" in state ");
+        tell_bare(out, domain.state_name(state));
+        tell_declared(out, domain, o, state);
     }
 }
 
 // Writes what is told about the entry of a place, if it is of a kind.
 fn tell_one<W: Sink>(
-    writer: &mut W,
-    failed: &mut bool,
+    out: &mut Out<'_, W>,
     domain: &Domain,
     walk: &Walk,
     entries: &[Entry],
@@ -158,15 +142,15 @@ fn tell_one<W: Sink>(
     match entries.get(place) {
         Some(Entry::Kill { object, .. }) => {
             if let Some(opened) = walk.opened(*object) {
-                tell_failed(writer, failed, domain, *object, entries.get(opened), place);
+                tell_failed(out, domain, *object, entries.get(opened), place);
             }
         }
         Some(Entry::End { object, .. }) => {
             if let Some(opened) = walk.opened(*object) {
                 let state = walk.state(*object);
-                tell_skipped(writer, failed, domain, *object, state, entries.get(opened));
-                tell_line(writer, failed, place);
-                tell(writer, failed, b"\n");
+                tell_skipped(out, domain, *object, state, entries.get(opened));
+                tell_line(out, place);
+                out.say(b"\n");
             }
         }
         _ => {}
@@ -174,13 +158,13 @@ fn tell_one<W: Sink>(
 }
 
 // How many more there are than are told.
-pub(crate) fn tell_more<W: Sink>(writer: &mut W, failed: &mut bool, count: u64, what: &[u8]) {
+pub(crate) fn tell_more<W: Sink>(out: &mut Out<'_, W>, count: u64, what: &[u8]) {
     if count > MOST_TOLD {
-        tell(writer, failed, b"and ");
-        tell_u64(writer, failed, count.saturating_sub(MOST_TOLD));
-        tell(writer, failed, b" more ");
-        tell(writer, failed, what);
-        tell(writer, failed, b"\n");
+        out.say(b"and ");
+        out.number(count.saturating_sub(MOST_TOLD));
+        out.say(b" more ");
+        out.say(what);
+        out.say(b"\n");
     }
 }
 
@@ -190,15 +174,14 @@ fn tell_each<W: Sink>(
     domain: &Domain,
     entries: &[Entry],
     kind: Kind,
-    writer: &mut W,
-    failed: &mut bool,
+    out: &mut Out<'_, W>,
 ) -> Result<u64, AllocError> {
     let mut walk = Walk::new(alloc, domain)?;
     let mut count: u64 = 0;
     for (place, entry) in entries.iter().enumerate() {
         if is_of(kind, entry) {
             if count < MOST_TOLD {
-                tell_one(writer, failed, domain, &walk, entries, place);
+                tell_one(out, domain, &walk, entries, place);
             }
             count = count.saturating_add(1);
         }
@@ -217,12 +200,11 @@ pub fn tell_reasons<W: Sink>(
     alloc: Global,
     domain: &Arc<Domain>,
     entries: &[Entry],
-    writer: &mut W,
-    failed: &mut bool,
+    out: &mut Out<'_, W>,
 ) -> Result<(), AllocError> {
-    let devices = tell_each(alloc, domain, entries, Kind::Failed, writer, failed)?;
-    tell_more(writer, failed, devices, b"devices failed");
-    let requests = tell_each(alloc, domain, entries, Kind::Skipped, writer, failed)?;
-    tell_more(writer, failed, requests, b"requests were skipped");
-    tell_waits(alloc, domain, entries, writer, failed)
+    let devices = tell_each(alloc, domain, entries, Kind::Failed, out)?;
+    tell_more(out, devices, b"devices failed");
+    let requests = tell_each(alloc, domain, entries, Kind::Skipped, out)?;
+    tell_more(out, requests, b"requests were skipped");
+    tell_waits(alloc, domain, entries, out)
 }

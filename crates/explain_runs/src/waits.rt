@@ -3,10 +3,12 @@
 use crate::awaited::{first_awaited, tell_awaited};
 use crate::reasons::{MOST_TOLD, tell_action, tell_bare, tell_line, tell_more};
 use crate::walk::Walk;
+use show_names::tell_object;
 use smi_audit::Past;
-use smi_journal::{Entry, tell_object, write_journal};
+use smi_journal::{Entry, write_journal};
 use sml_domain::{Domain, ObjId};
-use sml_text::{Sink, tell};
+use sml_text::Sink;
+use sml_writer::Out;
 use std::alloc::{AllocError, Global};
 use std::sync::Arc;
 
@@ -31,24 +33,17 @@ fn is_any_open(domain: &Domain, walk: &Walk) -> bool {
 }
 
 // That an object waits, and for whom.
-fn tell_wait<W: Sink>(
-    writer: &mut W,
-    failed: &mut bool,
-    past: &Past,
-    entries: &[Entry],
-    walk: &Walk,
-    o: ObjId,
-) {
+fn tell_wait<W: Sink>(out: &mut Out<'_, W>, past: &Past, entries: &[Entry], walk: &Walk, o: ObjId) {
     let Some(opened) = walk.opened(o) else {
         return;
     };
     let domain = past.books().domain();
-    tell_bare(writer, failed, domain.object_name(o));
-    tell(writer, failed, b" waits in");
-    tell_action(writer, failed, domain, entries.get(opened));
-    tell_line(writer, failed, opened);
-    tell_awaited(writer, failed, past, b" for", o);
-    tell(writer, failed, b"\n");
+    tell_bare(out, domain.object_name(o));
+    out.say(b" waits in");
+    tell_action(out, domain, entries.get(opened));
+    tell_line(out, opened);
+    tell_awaited(out, past, b" for", o);
+    out.say(b"\n");
 }
 
 // Whether objects wait for one another in a circle, of which this one is the first by its declaration.
@@ -67,48 +62,42 @@ fn heads_circle(past: &Past, o: ObjId) -> bool {
 }
 
 // That the objects of a circle wait for one another.
-fn tell_circle<W: Sink>(writer: &mut W, failed: &mut bool, past: &Past, head: ObjId) {
+fn tell_circle<W: Sink>(out: &mut Out<'_, W>, past: &Past, head: ObjId) {
     let domain = past.books().domain();
-    tell_bare(writer, failed, domain.object_name(head));
+    tell_bare(out, domain.object_name(head));
     let mut at = head;
     for _ in 0..domain.objects() {
         let Some(next) = first_awaited(past, at) else {
             break;
         };
-        tell(writer, failed, b" waits for");
-        tell_object(writer, failed, domain, next);
+        out.say(b" waits for");
+        tell_object(out, domain, next);
         if next.get() == head.get() {
             break;
         }
-        tell(writer, failed, b", which");
+        out.say(b", which");
         at = next;
     }
-    tell(writer, failed, b": they wait for one another\n");
+    out.say(b": they wait for one another\n");
 }
 
 // All objects that wait, and then all circles.
-fn tell_all<W: Sink>(
-    writer: &mut W,
-    failed: &mut bool,
-    past: &Past,
-    entries: &[Entry],
-    walk: &Walk,
-) {
+fn tell_all<W: Sink>(out: &mut Out<'_, W>, past: &Past, entries: &[Entry], walk: &Walk) {
     let objects = past.books().domain().objects();
     let mut count: u64 = 0;
     for o in 0..objects {
         let o = ObjId::new(o);
         if first_awaited(past, o).is_some() {
             if count < MOST_TOLD {
-                tell_wait(writer, failed, past, entries, walk, o);
+                tell_wait(out, past, entries, walk, o);
             }
             count = count.saturating_add(1);
         }
     }
-    tell_more(writer, failed, count, b"objects wait");
+    tell_more(out, count, b"objects wait");
     for o in 0..objects {
         if heads_circle(past, ObjId::new(o)) {
-            tell_circle(writer, failed, past, ObjId::new(o));
+            tell_circle(out, past, ObjId::new(o));
         }
     }
 }
@@ -118,8 +107,7 @@ pub(crate) fn tell_waits<W: Sink>(
     alloc: Global,
     domain: &Arc<Domain>,
     entries: &[Entry],
-    writer: &mut W,
-    failed: &mut bool,
+    out: &mut Out<'_, W>,
 ) -> Result<(), AllocError> {
     let walk = walk_all(alloc, domain, entries)?;
     if !is_any_open(domain, &walk) {
@@ -130,7 +118,7 @@ pub(crate) fn tell_waits<W: Sink>(
         return Err(AllocError);
     }
     match Past::of_text(alloc, domain, text.as_slice()) {
-        Some(past) => tell_all(writer, failed, &past, entries, &walk),
+        Some(past) => tell_all(out, &past, entries, &walk),
         None => return Err(AllocError),
     }
     Ok(())

@@ -10,6 +10,7 @@ use explain_landmarks::{ActionMarks, ClassMarks, Landmarks, StateMarks, landmark
 use explain_places::Position;
 use smi_interp::Place;
 use sml_domain::{Action, Class, Domain, Instr, State, Target};
+use sml_writer::Out;
 use std::alloc::{AllocError, Global};
 
 /// The lines of what was exercised. (docs/FORMATS.md, "What was exercised".)
@@ -23,13 +24,13 @@ pub struct CoverText {
 
 // What the lines are made of, and the lines.
 #[derive(Drop)]
-struct Report<'a> {
+struct Report<'a, 'w> {
     alloc: Global,
     domain: &'a Domain,
     coverage: &'a Coverage,
     spots: Spots<'a>,
-    lines: CoverText,
-    failed: bool,
+    never: Out<'w, Vec<u8>>,
+    counts: Out<'w, Vec<u8>>,
 }
 
 /// The lines of a coverage of a domain, of which this is the text. Classes without objects have no lines.
@@ -42,23 +43,25 @@ pub fn cover_text(
     coverage: &Coverage,
 ) -> Result<CoverText, AllocError> {
     let marks = landmarks_of(alloc, text)?;
+    let mut never = Vec::new(alloc);
+    let mut counts = Vec::new(alloc);
     let mut report = Report {
         alloc,
         domain,
         coverage,
         spots: Spots::new(text),
-        lines: CoverText {
-            never: Vec::new(alloc),
-            counts: Vec::new(alloc),
-        },
-        failed: false,
+        never: Out::new(&mut never),
+        counts: Out::new(&mut counts),
     };
     report.tell_classes(&marks)?;
-    let Report { lines, failed, .. } = report;
-    if failed { Err(AllocError) } else { Ok(lines) }
+    if report.never.failed || report.counts.failed {
+        Err(AllocError)
+    } else {
+        Ok(CoverText { never, counts })
+    }
 }
 
-impl<'a> Report<'a> {
+impl<'a> Report<'a, '_> {
     // All classes that have objects.
     fn tell_classes(&mut self, marks: &Landmarks) -> Result<(), AllocError> {
         let domain = self.domain;
@@ -109,7 +112,7 @@ impl<'a> Report<'a> {
             action: None,
         };
         self.note_never(counts.entered == 0 && !begins, b"never entered", &thing);
-        tell_state(&mut self.lines.counts, &mut self.failed, &thing, counts);
+        tell_state(&mut self.counts, &thing, counts);
         self.tell_actions(&thing, state.actions.rows(), counts, marks)
     }
 
@@ -139,14 +142,14 @@ impl<'a> Report<'a> {
     // A line of what never was, where that is so.
     fn note_never(&mut self, is_so: bool, word: &[u8], thing: &Thing<'_>) {
         if is_so {
-            tell_never(&mut self.lines.never, &mut self.failed, word, thing);
+            tell_never(&mut self.never, word, thing);
         }
     }
 
     // The same of an instruction.
     fn note_never_at(&mut self, is_so: bool, word: &[u8], thing: &Thing<'_>, spot: Position) {
         if is_so {
-            tell_never_at(&mut self.lines.never, &mut self.failed, word, thing, spot);
+            tell_never_at(&mut self.never, word, thing, spot);
         }
     }
 
@@ -159,7 +162,7 @@ impl<'a> Report<'a> {
         marks: Option<&ActionMarks>,
     ) -> Result<(), AllocError> {
         self.note_never(started == 0, b"never started", thing);
-        tell_started(&mut self.lines.counts, &mut self.failed, thing, started);
+        tell_started(&mut self.counts, thing, started);
         let Some(marks) = marks else {
             return Ok(());
         };
@@ -184,13 +187,7 @@ impl<'a> Report<'a> {
             Some(Instr::SendNone { .. }) => self.tell_send(thing, place, spot, false),
             Some(Instr::Wait(_)) => {
                 let tally = self.coverage.tally(place);
-                tell_wait(
-                    &mut self.lines.counts,
-                    &mut self.failed,
-                    thing,
-                    spot,
-                    &tally,
-                );
+                tell_wait(&mut self.counts, thing, spot, &tally);
             }
             _ => {}
         }
@@ -201,26 +198,14 @@ impl<'a> Report<'a> {
         let tally = self.coverage.tally(place);
         self.note_never_at(tally.yes == 0, b"never true", thing, spot);
         self.note_never_at(tally.no == 0, b"never false", thing, spot);
-        tell_if(
-            &mut self.lines.counts,
-            &mut self.failed,
-            thing,
-            spot,
-            &tally,
-        );
+        tell_if(&mut self.counts, thing, spot, &tally);
     }
 
     // A `do`, which may ever send to someone or not.
     fn tell_send(&mut self, thing: &Thing<'_>, place: Place, spot: Position, may_send: bool) {
         let tally = self.coverage.tally(place);
         self.note_never_at(may_send && tally.sent == 0, b"never sent", thing, spot);
-        tell_send(
-            &mut self.lines.counts,
-            &mut self.failed,
-            thing,
-            spot,
-            &tally,
-        );
+        tell_send(&mut self.counts, thing, spot, &tally);
     }
 }
 

@@ -2,6 +2,7 @@
 
 use crate::lines::Lines;
 use crate::pieces::Pieces;
+use sml_writer::Out;
 use std::alloc::{AllocError, Global};
 
 /// The canonical text of a domain with the comments of its text, and a blank line wherever the text has one or more
@@ -16,15 +17,19 @@ use std::alloc::{AllocError, Global};
 /// texts.
 pub fn kept_text(alloc: Global, text: &[u8], canonical: &[u8]) -> Result<Vec<u8>, AllocError> {
     let mut kept = Vec::new(alloc);
-    let mut failed = false;
+    let mut out = Out::new(&mut kept);
     let mut pieces = Pieces::new(text);
     let mut lines = Lines::new(canonical);
     for _ in 0..text.len() {
         let Some((lead, piece)) = pieces.take() else {
             break;
         };
-        lines.add(&mut kept, &mut failed, lead, piece);
+        lines.add(&mut out, lead, piece);
     }
-    lines.end(&mut kept, &mut failed);
-    if failed { Err(AllocError) } else { Ok(kept) }
+    lines.end(&mut out);
+    if out.failed {
+        Err(AllocError)
+    } else {
+        Ok(kept)
+    }
 }

@@ -3,7 +3,8 @@ ghost use Rattle.std.specs.Prelude.{◌≤◌, length};
 
 use crate::pieces::{Lead, Piece};
 use memchr::memchr;
-use sml_text::{Lexeme, Sign, Sink, Source, next_token, tell};
+use sml_text::{Lexeme, Sign, Sink, Source, next_token};
+use sml_writer::Out;
 
 /// What of a canonical text is to be written yet. A line of it is written once its last token has come in the text, so
 /// that comments which stand between its tokens are written in front of it.
@@ -38,13 +39,7 @@ impl<'a> Lines<'a> {
     }
 
     /// Adds the next piece of the text. The cost is the length of what is written, and of a token of each text.
-    pub(crate) fn add<W: Sink>(
-        &mut self,
-        writer: &mut W,
-        failed: &mut bool,
-        lead: Lead,
-        piece: Piece<'a>,
-    ) {
+    pub(crate) fn add<W: Sink>(&mut self, out: &mut Out<'_, W>, lead: Lead, piece: Piece<'a>) {
         let is_behind = self.is_behind_line && lead == Lead::SameLine;
         self.is_behind_line = false;
         // Within a canonical line there is no blank line.
@@ -53,38 +48,38 @@ impl<'a> Lines<'a> {
         }
         match piece {
             Piece::Comment(comment) if is_behind => {
-                tell(writer, failed, b"  ");
-                tell(writer, failed, comment);
+                out.say(b"  ");
+                out.say(comment);
             }
             Piece::Comment(comment) => {
-                self.begin_line(writer, failed);
-                tell(writer, failed, indent_of(self.line));
-                tell(writer, failed, comment);
+                self.begin_line(out);
+                out.say(indent_of(self.line));
+                out.say(comment);
             }
-            Piece::Token(lexeme) => self.pass(writer, failed, lexeme),
+            Piece::Token(lexeme) => self.pass(out, lexeme),
         }
     }
 
     /// Writes the end of the last line, and the lines of the canonical text whose tokens have not come. All have come
     /// where the canonical text is that of the text.
-    pub(crate) fn end<W: Sink>(&mut self, writer: &mut W, failed: &mut bool) {
+    pub(crate) fn end<W: Sink>(&mut self, out: &mut Out<'_, W>) {
         if !self.line.is_empty() {
-            self.begin_line(writer, failed);
-            tell(writer, failed, self.line);
+            self.begin_line(out);
+            out.say(self.line);
         }
         if self.has_line {
-            tell(writer, failed, b"\n");
+            out.say(b"\n");
         }
-        tell(writer, failed, self.later);
+        out.say(self.later);
     }
 
     // Ends the line before, and leaves a blank line if the text has one there.
-    fn begin_line<W: Sink>(&mut self, writer: &mut W, failed: &mut bool) {
+    fn begin_line<W: Sink>(&mut self, out: &mut Out<'_, W>) {
         if self.has_line {
-            tell(writer, failed, b"\n");
+            out.say(b"\n");
         }
         if self.has_line && self.is_blank_due {
-            tell(writer, failed, b"\n");
+            out.say(b"\n");
         }
         self.has_line = true;
         self.is_blank_due = false;
@@ -92,7 +87,7 @@ impl<'a> Lines<'a> {
 
     // Goes on behind a token of the text, unless the canonical text leaves it out. Both texts have the same tokens but
     // for those, and but for the order of two marks of a state.
-    fn pass<W: Sink>(&mut self, writer: &mut W, failed: &mut bool, lexeme: Lexeme) {
+    fn pass<W: Sink>(&mut self, out: &mut Out<'_, W>, lexeme: Lexeme) {
         let Some((next, behind, _)) = next_token(Source::Domain, self.rest, 0) else {
             return;
         };
@@ -101,14 +96,14 @@ impl<'a> Lines<'a> {
         }
         self.rest = behind;
         if behind.is_empty() {
-            self.end_line(writer, failed);
+            self.end_line(out);
         }
     }
 
     // Writes the line whose last token has come, and goes on to the next.
-    fn end_line<W: Sink>(&mut self, writer: &mut W, failed: &mut bool) {
-        self.begin_line(writer, failed);
-        tell(writer, failed, self.line);
+    fn end_line<W: Sink>(&mut self, out: &mut Out<'_, W>) {
+        self.begin_line(out);
+        out.say(self.line);
         let (line, later) = cut_line(self.later);
         self.line = line;
         self.rest = line;

@@ -1,18 +1,12 @@
--- Several writes as one.
-use Rattle.std.proofs.Common.{◌≡◌, ◌∙◌, sym, ap, ℕ, ◌<◌, ◌+◌, List, [], ◌∷◌, ◌++◌, Option, Bool, length, get_or, take, append-nil}
+-- One byte more of an escaped text.
+use Rattle.std.proofs.Common.{◌≡◌, ◌∙◌, sym, ap, ℕ, ◌<◌, ◌+◌, List, [], ◌∷◌, ◌++◌, length, get_or, take, append-nil}
 use Rattle.std.proofs.lemmas.List.{take_more}
 use Rattle.std.proofs.lemmas.List.Concat.{flat_map-append}
-use Rattle.sml_text.specs.Written.{Told}
-use Rattle.sml_text.proofs.Writes.{told_both}
 use Rattle.show_page.specs.Escapes.{escaped_byte, escaped}
 
-module _ {old new mid : Option (List ℕ)} {f g h : Bool} {bs cs : List ℕ} where
-  -- one after another
-  pub then_told : Told old f mid g bs → Told mid g new h cs → Told old f new h (bs ++ cs)
-  then_told x y = told_both old f mid g new h bs cs x y
-
 -- one byte more
-pub escaped_more : (bytes : List ℕ) (k : ℕ) → k < length bytes → escaped (take k bytes) ++ escaped_byte (get_or bytes k 0) ≡ escaped (take (k + 1) bytes)
+pub escaped_more : (bytes : List ℕ) (k : ℕ) → k < length bytes
+    → escaped (take k bytes) ++ escaped_byte (get_or bytes k 0) ≡ escaped (take (k + 1) bytes)
 escaped_more bytes k within =
     let b : ℕ = get_or bytes k 0 in
     ap (λ l. escaped (take k bytes) ++ l) (sym (append-nil (escaped_byte b)))

@@ -1,13 +1,14 @@
 //! The page of a run.
 ghost use Rattle.std.specs.Prelude.{◌≡◌};
-ghost use Rattle.sml_text.specs.Written.{Told, StaysDue};
+ghost use Rattle.sml_writer.specs.Tells.{Tells};
 ghost use Rattle.show_page.specs.Pages.{page_text};
 
 use crate::body::{BEHIND_DOMAIN, BEHIND_LIST, BEHIND_REASON, BEHIND_RULING, BEHIND_RUN};
 use crate::escaping::tell_escaped;
 use crate::head::HEAD;
 use crate::script::BEHIND_JOURNAL;
-use sml_text::{Sink, tell};
+use sml_text::Sink;
+use sml_writer::Out;
 
 /// What a page shows. Each text may have any bytes.
 #[derive(Clone, Copy)]
@@ -30,21 +31,20 @@ pub struct Page<'a> {
 ///
 /// `laws_of_pages` says that a browser shows the texts of the page as they are. The text goes out in many small parts,
 /// so that a writer to a file should be buffered. No memory is taken; the time grows with what is written.
-pub fn tell_page<W: Sink>(writer: &mut W, failed: &mut bool, page: &Page<'_>)
-    ensures told { Told (W.contents writer.old) failed.old (W.contents writer.new) failed.new (page_text page.now) }
-    ensures due { StaysDue (W.has_refused writer.old) failed.old (W.has_refused writer.new) failed.new }
+pub fn tell_page<W: Sink>(out: &mut Out<'_, W>, page: &Page<'_>)
+    ensures { Tells W.contents W.has_refused out.old out.new (page_text page.now) }
 {
-    tell(writer, failed, HEAD);
-    tell_escaped(writer, failed, page.domain);
-    tell(writer, failed, BEHIND_DOMAIN);
-    tell_escaped(writer, failed, page.run);
-    tell(writer, failed, BEHIND_RUN);
-    tell_escaped(writer, failed, page.ruling);
-    tell(writer, failed, BEHIND_RULING);
-    tell_escaped(writer, failed, page.reason);
-    tell(writer, failed, BEHIND_REASON);
-    tell_escaped(writer, failed, page.list);
-    tell(writer, failed, BEHIND_LIST);
-    tell_escaped(writer, failed, page.journal);
-    tell(writer, failed, BEHIND_JOURNAL);
+    out.say(HEAD);
+    tell_escaped(out, page.domain);
+    out.say(BEHIND_DOMAIN);
+    tell_escaped(out, page.run);
+    out.say(BEHIND_RUN);
+    tell_escaped(out, page.ruling);
+    out.say(BEHIND_RULING);
+    tell_escaped(out, page.reason);
+    out.say(BEHIND_REASON);
+    tell_escaped(out, page.list);
+    out.say(BEHIND_LIST);
+    tell_escaped(out, page.journal);
+    out.say(BEHIND_JOURNAL);
 }

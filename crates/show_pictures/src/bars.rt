@@ -7,6 +7,7 @@ use crate::svg::{Point, tell_band, tell_box, tell_text};
 use smi_journal::{ActionEnd, Entry};
 use sml_domain::{Domain, ObjId, StateId};
 use sml_text::Sink;
+use sml_writer::Out;
 use std::alloc::{AllocError, Global};
 
 // How an object stands.
@@ -26,17 +27,16 @@ struct Standing {
 /// last one that is shown.
 pub(crate) fn tell_bars<W: Sink>(
     alloc: Global,
-    writer: &mut W,
-    failed: &mut bool,
+    out: &mut Out<'_, W>,
     domain: &Domain,
     page: &Page,
     entries: &[Entry],
 ) -> Result<(), AllocError> {
     let mut all = all_at_first(alloc, domain)?;
     for place in 0..entries.len() {
-        follow(writer, failed, domain, page, entries, &mut all, place);
+        follow(out, domain, page, entries, &mut all, place);
     }
-    tell_last(writer, failed, domain, page, entries, &all);
+    tell_last(out, domain, page, entries, &all);
     Ok(())
 }
 
@@ -65,8 +65,7 @@ fn first_state(domain: &Domain, o: ObjId) -> Option<StateId> {
 
 // Goes to the entry of a place, and writes what ends there.
 fn follow<W: Sink>(
-    writer: &mut W,
-    failed: &mut bool,
+    out: &mut Out<'_, W>,
     domain: &Domain,
     page: &Page,
     entries: &[Entry],
@@ -83,7 +82,7 @@ fn follow<W: Sink>(
         let before = *standing;
         *standing = behind(&before, entry, place);
         if place >= page.first {
-            tell_standing(writer, failed, domain, page, entries, o, &before, place);
+            tell_standing(out, domain, page, entries, o, &before, place);
         }
     }
 }
@@ -122,8 +121,7 @@ fn behind(before: &Standing, entry: &Entry, place: usize) -> Standing {
 
 // Writes what goes down to the lower edge.
 fn tell_last<W: Sink>(
-    writer: &mut W,
-    failed: &mut bool,
+    out: &mut Out<'_, W>,
     domain: &Domain,
     page: &Page,
     entries: &[Entry],
@@ -131,14 +129,13 @@ fn tell_last<W: Sink>(
 ) {
     for (number, standing) in all.iter().enumerate() {
         let o = ObjId::new(number);
-        tell_standing(writer, failed, domain, page, entries, o, standing, page.end);
+        tell_standing(out, domain, page, entries, o, standing, page.end);
     }
 }
 
 // Writes how an object stood up to the entry of a place: its bar, or its band.
 fn tell_standing<W: Sink>(
-    writer: &mut W,
-    failed: &mut bool,
+    out: &mut Out<'_, W>,
     domain: &Domain,
     page: &Page,
     entries: &[Entry],
@@ -148,9 +145,9 @@ fn tell_standing<W: Sink>(
 ) {
     let lower = page.line_of(end);
     if standing.is_open {
-        tell_bar(writer, failed, domain, page, entries, o, standing, lower);
+        tell_bar(out, domain, page, entries, o, standing, lower);
     } else {
-        tell_state(writer, failed, domain, page, o, standing, lower);
+        tell_state(out, domain, page, o, standing, lower);
     }
 }
 
@@ -180,8 +177,7 @@ fn beside(page: &Page, o: ObjId) -> Point {
 
 // Writes a bar. One that began before those entries that are shown has its action written at the upper edge.
 fn tell_bar<W: Sink>(
-    writer: &mut W,
-    failed: &mut bool,
+    out: &mut Out<'_, W>,
     domain: &Domain,
     page: &Page,
     entries: &[Entry],
@@ -194,32 +190,17 @@ fn tell_bar<W: Sink>(
         x: page.object_x(o).saturating_sub(5),
         y: upper,
     };
-    tell_box(
-        writer,
-        failed,
-        b"bar",
-        corner,
-        10,
-        lower.saturating_sub(upper),
-    );
+    tell_box(out, b"bar", corner, 10, lower.saturating_sub(upper));
     if let Some(start) = standing.since {
         if start < page.first {
-            tell_action(
-                writer,
-                failed,
-                domain,
-                page,
-                entries.get(start),
-                beside(page, o),
-            );
+            tell_action(out, domain, page, entries.get(start), beside(page, o));
         }
     }
 }
 
 // Writes the action that an entry starts.
 fn tell_action<W: Sink>(
-    writer: &mut W,
-    failed: &mut bool,
+    out: &mut Out<'_, W>,
     domain: &Domain,
     page: &Page,
     entry: Option<&Entry>,
@@ -227,14 +208,7 @@ fn tell_action<W: Sink>(
 ) {
     if let Some(Entry::Start { action, .. }) = entry {
         if let Some(name) = domain.action_name(*action) {
-            tell_text(
-                writer,
-                failed,
-                b"begun",
-                at,
-                name.as_bytes(),
-                page.letters(),
-            );
+            tell_text(out, b"begun", at, name.as_bytes(), page.letters());
         }
     }
 }
@@ -242,8 +216,7 @@ fn tell_action<W: Sink>(
 // Writes the band of a state. One that began before those entries that are shown has its name written at the upper
 // edge.
 fn tell_state<W: Sink>(
-    writer: &mut W,
-    failed: &mut bool,
+    out: &mut Out<'_, W>,
     domain: &Domain,
     page: &Page,
     o: ObjId,
@@ -262,17 +235,10 @@ fn tell_state<W: Sink>(
         x,
         y: upper_of(page, standing),
     };
-    tell_band(
-        writer,
-        failed,
-        class,
-        from,
-        Point { x, y: lower },
-        name.as_bytes(),
-    );
+    tell_band(out, class, from, Point { x, y: lower }, name.as_bytes());
     if is_older(page, standing) {
         let at = beside(page, o);
-        tell_text(writer, failed, class, at, name.as_bytes(), page.letters());
+        tell_text(out, class, at, name.as_bytes(), page.letters());
     }
 }
 

@@ -1,30 +1,31 @@
 //! Texts of Graphviz: names, signatures of actions, and what has to be escaped.
 
 use sml_domain::{ActionId, Class, Domain, Param, Value};
-use sml_text::{Sink, tell, tell_i64};
+use sml_text::Sink;
 use sml_tree::{Kind, Name};
+use sml_writer::Out;
 
 /// The fill of what belongs to a class of devices.
 pub(crate) const DEVICE_FILL: &[u8] = b"\"#dbe4ee\"";
 
 /// A name that a number may have.
-pub(crate) fn tell_known<W: Sink>(writer: &mut W, failed: &mut bool, name: Option<Name>) {
+pub(crate) fn tell_known<W: Sink>(out: &mut Out<'_, W>, name: Option<Name>) {
     if let Some(name) = name {
-        tell(writer, failed, name.as_bytes());
+        out.say(name.as_bytes());
     }
 }
 
 /// Writes bytes inside a string in quotes, so that each is shown as it is. A control character is written as a blank.
-pub(crate) fn tell_quoted<W: Sink>(writer: &mut W, failed: &mut bool, bytes: &[u8]) {
+pub(crate) fn tell_quoted<W: Sink>(out: &mut Out<'_, W>, bytes: &[u8]) {
     for byte in bytes {
         match *byte {
-            b'"' => tell(writer, failed, b"\\\""),
-            b'\\' => tell(writer, failed, b"\\\\"),
-            b'&' => tell(writer, failed, b"&amp;"),
-            b'<' => tell(writer, failed, b"&lt;"),
-            b'>' => tell(writer, failed, b"&gt;"),
-            0..=31 => tell(writer, failed, b" "),
-            other => tell(writer, failed, &[other]),
+            b'"' => out.say(b"\\\""),
+            b'\\' => out.say(b"\\\\"),
+            b'&' => out.say(b"&amp;"),
+            b'<' => out.say(b"&lt;"),
+            b'>' => out.say(b"&gt;"),
+            0..=31 => out.say(b" "),
+            other => out.say(&[other]),
         }
     }
 }
@@ -32,8 +33,7 @@ pub(crate) fn tell_quoted<W: Sink>(writer: &mut W, failed: &mut bool, bytes: &[u
 /// Writes an action of a class with its parameters, if it has some: what is before them where it is the first with
 /// some, or the end of a line. Whether there now is such an action.
 pub(crate) fn tell_tip<W: Sink>(
-    writer: &mut W,
-    failed: &mut bool,
+    out: &mut Out<'_, W>,
     domain: &Domain,
     class: &Class,
     action: ActionId,
@@ -46,52 +46,52 @@ pub(crate) fn tell_tip<W: Sink>(
         return is_there;
     }
     let before: &[u8] = if is_there { b"\\n" } else { b", tooltip=\"" };
-    tell(writer, failed, before);
-    tell_known(writer, failed, domain.action_name(action));
-    tell_params(writer, failed, &signature.params);
+    out.say(before);
+    tell_known(out, domain.action_name(action));
+    tell_params(out, &signature.params);
     true
 }
 
 /// Ends what `tell_tip` wrote, if it wrote something.
-pub(crate) fn end_tip<W: Sink>(writer: &mut W, failed: &mut bool, is_there: bool) {
+pub(crate) fn end_tip<W: Sink>(out: &mut Out<'_, W>, is_there: bool) {
     if is_there {
-        tell(writer, failed, b"\"");
+        out.say(b"\"");
     }
 }
 
 // Parameters in brackets.
-fn tell_params<W: Sink>(writer: &mut W, failed: &mut bool, params: &[Param]) {
+fn tell_params<W: Sink>(out: &mut Out<'_, W>, params: &[Param]) {
     let mut before: &[u8] = b" (";
     for param in params {
-        tell(writer, failed, before);
-        tell_param(writer, failed, param);
+        out.say(before);
+        tell_param(out, param);
         before = b", ";
     }
-    tell(writer, failed, b")");
+    out.say(b")");
 }
 
 // A parameter, with its default where it has one.
-fn tell_param<W: Sink>(writer: &mut W, failed: &mut bool, param: &Param) {
+fn tell_param<W: Sink>(out: &mut Out<'_, W>, param: &Param) {
     let kind: &[u8] = match param.kind {
         Kind::Int => b"int ",
         Kind::Str => b"string ",
     };
-    tell(writer, failed, kind);
-    tell(writer, failed, param.name.as_bytes());
+    out.say(kind);
+    out.say(param.name.as_bytes());
     if let Some(value) = &param.value {
-        tell(writer, failed, b" = ");
-        tell_default(writer, failed, value);
+        out.say(b" = ");
+        tell_default(out, value);
     }
 }
 
 // A value that is written out.
-fn tell_default<W: Sink>(writer: &mut W, failed: &mut bool, value: &Value) {
+fn tell_default<W: Sink>(out: &mut Out<'_, W>, value: &Value) {
     match value {
-        Value::Int(number) => tell_i64(writer, failed, *number),
+        Value::Int(number) => out.int(*number),
         Value::Text(text) => {
-            tell_quoted(writer, failed, b"\"");
-            tell_quoted(writer, failed, text.as_bytes());
-            tell_quoted(writer, failed, b"\"");
+            tell_quoted(out, b"\"");
+            tell_quoted(out, text.as_bytes());
+            tell_quoted(out, b"\"");
         }
     }
 }

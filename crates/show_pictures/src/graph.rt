@@ -2,10 +2,12 @@
 
 use crate::devices::tell_devices;
 use crate::dot::{end_tip, tell_known, tell_quoted, tell_tip};
-use crate::ends::{Ends, ends_of_blocks, leads};
+use crate::ends::leads;
 use crate::objects::tell_objects;
+use smi_reach::{Way, ways_of};
 use sml_domain::{Class, Domain, State, StateId};
-use sml_text::{Sink, tell};
+use sml_text::Sink;
+use sml_writer::Out;
 use std::alloc::{AllocError, Global};
 
 /// What a graph shows beside classes and their states.
@@ -54,192 +56,159 @@ const LEGEND_OF_OBJECTS: &[u8] = b"\\narrow = sends, dotted = reads, broken line
 /// error means out of memory.
 pub fn tell_graph<W: Sink>(
     alloc: Global,
-    writer: &mut W,
-    failed: &mut bool,
+    out: &mut Out<'_, W>,
     domain: &Domain,
     file: &[u8],
     parts: GraphParts,
 ) -> Result<(), AllocError> {
-    let ends = ends_of_blocks(alloc, domain)?;
-    tell(writer, failed, HEAD);
-    tell_quoted(writer, failed, file);
-    tell(writer, failed, LEGEND);
+    let ways = ways_of(alloc, domain)?;
+    out.say(HEAD);
+    tell_quoted(out, file);
+    out.say(LEGEND);
     if parts.objects {
-        tell(writer, failed, LEGEND_OF_OBJECTS);
+        out.say(LEGEND_OF_OBJECTS);
     }
-    tell(writer, failed, b"\";\n");
-    tell_devices(writer, failed, domain);
-    tell_classes(writer, failed, domain, &ends);
-    drop(ends);
+    out.say(b"\";\n");
+    tell_devices(out, domain);
+    tell_classes(out, domain, &ways);
+    drop(ways);
     if parts.objects {
-        tell_objects(alloc, writer, failed, domain, parts.members)?;
+        tell_objects(alloc, out, domain, parts.members)?;
     }
-    tell(writer, failed, b"}\n");
+    out.say(b"}\n");
     Ok(())
 }
 
 // The clusters of all classes but those of devices.
-fn tell_classes<W: Sink>(writer: &mut W, failed: &mut bool, domain: &Domain, ends: &[Ends]) {
+fn tell_classes<W: Sink>(out: &mut Out<'_, W>, domain: &Domain, ways: &[Way]) {
     for class in domain.classes() {
         if !class.associated {
-            tell_class(writer, failed, domain, ends, class);
+            tell_class(out, domain, ways, class);
         }
     }
 }
 
 // The cluster of a class.
-fn tell_class<W: Sink>(
-    writer: &mut W,
-    failed: &mut bool,
-    domain: &Domain,
-    ends: &[Ends],
-    class: &Class,
-) {
-    tell(writer, failed, b"  subgraph \"cluster ");
-    tell(writer, failed, class.name.as_bytes());
-    tell(writer, failed, b"\" {\n    label=\"");
-    tell(writer, failed, class.name.as_bytes());
-    tell(writer, failed, b"\";\n");
+fn tell_class<W: Sink>(out: &mut Out<'_, W>, domain: &Domain, ways: &[Way], class: &Class) {
+    out.say(b"  subgraph \"cluster ");
+    out.say(class.name.as_bytes());
+    out.say(b"\" {\n    label=\"");
+    out.say(class.name.as_bytes());
+    out.say(b"\";\n");
     for state in class.states.rows() {
-        tell_state(writer, failed, domain, class, state);
+        tell_state(out, domain, class, state);
     }
-    tell_edges(writer, failed, domain, ends, class);
-    tell(writer, failed, b"  }\n");
+    tell_edges(out, domain, ways, class);
+    out.say(b"  }\n");
 }
 
 // The node of a state, in quotes.
-fn tell_node<W: Sink>(
-    writer: &mut W,
-    failed: &mut bool,
-    domain: &Domain,
-    class: &Class,
-    state: StateId,
-) {
-    tell(writer, failed, b"\"");
-    tell(writer, failed, class.name.as_bytes());
-    tell(writer, failed, b".");
-    tell_known(writer, failed, domain.state_name(state));
-    tell(writer, failed, b"\"");
+fn tell_node<W: Sink>(out: &mut Out<'_, W>, domain: &Domain, class: &Class, state: StateId) {
+    out.say(b"\"");
+    out.say(class.name.as_bytes());
+    out.say(b".");
+    tell_known(out, domain.state_name(state));
+    out.say(b"\"");
 }
 
 // The box of a state.
-fn tell_state<W: Sink>(
-    writer: &mut W,
-    failed: &mut bool,
-    domain: &Domain,
-    class: &Class,
-    state: &State,
-) {
-    tell(writer, failed, b"    ");
-    tell_node(writer, failed, domain, class, state.number);
-    tell(writer, failed, b" [label=\"");
-    tell_known(writer, failed, domain.state_name(state.number));
-    tell(writer, failed, b"\"");
-    tell_marks(writer, failed, class, state);
-    tell(writer, failed, b"];\n");
+fn tell_state<W: Sink>(out: &mut Out<'_, W>, domain: &Domain, class: &Class, state: &State) {
+    out.say(b"    ");
+    tell_node(out, domain, class, state.number);
+    out.say(b" [label=\"");
+    tell_known(out, domain.state_name(state.number));
+    out.say(b"\"");
+    tell_marks(out, class, state);
+    out.say(b"];\n");
 }
 
 // How the box of a state shows that objects begin in it, or are in it once they are killed.
-fn tell_marks<W: Sink>(writer: &mut W, failed: &mut bool, class: &Class, state: &State) {
+fn tell_marks<W: Sink>(out: &mut Out<'_, W>, class: &Class, state: &State) {
     if class.initial.get() == state.number.get() {
-        tell(writer, failed, b", penwidth=3");
+        out.say(b", penwidth=3");
     }
     if class.dead.get() == state.number.get() {
-        tell(
-            writer,
-            failed,
-            b", style=\"rounded,filled,dashed\", color=gray40, fontcolor=gray40",
-        );
+        out.say(b", style=\"rounded,filled,dashed\", color=gray40, fontcolor=gray40");
     }
 }
 
 // The arrows between the states of a class.
-fn tell_edges<W: Sink>(
-    writer: &mut W,
-    failed: &mut bool,
-    domain: &Domain,
-    ends: &[Ends],
-    class: &Class,
-) {
+fn tell_edges<W: Sink>(out: &mut Out<'_, W>, domain: &Domain, ways: &[Way], class: &Class) {
     for from in class.states.rows() {
-        tell_edges_from(writer, failed, domain, ends, class, from);
+        tell_edges_from(out, domain, ways, class, from);
     }
 }
 
 // The arrows from a state.
 fn tell_edges_from<W: Sink>(
-    writer: &mut W,
-    failed: &mut bool,
+    out: &mut Out<'_, W>,
     domain: &Domain,
-    ends: &[Ends],
+    ways: &[Way],
     class: &Class,
     from: &State,
 ) {
     for to in class.states.rows() {
-        tell_edge(writer, failed, domain, ends, class, from, to.number);
+        tell_edge(out, domain, ways, class, from, to.number);
     }
 }
 
 // The arrow from one state to another, where an action leads there.
 fn tell_edge<W: Sink>(
-    writer: &mut W,
-    failed: &mut bool,
+    out: &mut Out<'_, W>,
     domain: &Domain,
-    ends: &[Ends],
+    ways: &[Way],
     class: &Class,
     from: &State,
     to: StateId,
 ) {
     let mut is_open = false;
     for action in from.actions.rows() {
-        if leads(ends, action, from.number, to) {
+        if leads(ways, action, from.number, to) {
             if is_open {
-                tell(writer, failed, b"\\n");
+                out.say(b"\\n");
             } else {
-                tell_edge_head(writer, failed, domain, class, from.number, to);
+                tell_edge_head(out, domain, class, from.number, to);
             }
             is_open = true;
-            tell_known(writer, failed, domain.action_name(action.number));
+            tell_known(out, domain.action_name(action.number));
         }
     }
     if is_open {
-        tell(writer, failed, b"\"");
-        tell_tips(writer, failed, domain, ends, class, from, to);
-        tell(writer, failed, b"];\n");
+        out.say(b"\"");
+        tell_tips(out, domain, ways, class, from, to);
+        out.say(b"];\n");
     }
 }
 
 // The parameters of the actions of an arrow.
 fn tell_tips<W: Sink>(
-    writer: &mut W,
-    failed: &mut bool,
+    out: &mut Out<'_, W>,
     domain: &Domain,
-    ends: &[Ends],
+    ways: &[Way],
     class: &Class,
     from: &State,
     to: StateId,
 ) {
     let mut is_there = false;
     for action in from.actions.rows() {
-        if leads(ends, action, from.number, to) {
-            is_there = tell_tip(writer, failed, domain, class, action.number, is_there);
+        if leads(ways, action, from.number, to) {
+            is_there = tell_tip(out, domain, class, action.number, is_there);
         }
     }
-    end_tip(writer, failed, is_there);
+    end_tip(out, is_there);
 }
 
 // An arrow up to its label.
 fn tell_edge_head<W: Sink>(
-    writer: &mut W,
-    failed: &mut bool,
+    out: &mut Out<'_, W>,
     domain: &Domain,
     class: &Class,
     from: StateId,
     to: StateId,
 ) {
-    tell(writer, failed, b"    ");
-    tell_node(writer, failed, domain, class, from);
-    tell(writer, failed, b" -> ");
-    tell_node(writer, failed, domain, class, to);
-    tell(writer, failed, b" [label=\"");
+    out.say(b"    ");
+    tell_node(out, domain, class, from);
+    out.say(b" -> ");
+    tell_node(out, domain, class, to);
+    out.say(b" [label=\"");
 }

@@ -8,9 +8,11 @@ use crate::page::{LABEL, NAMES, Page};
 use crate::style::STYLE;
 use crate::svg::{Point, TEXT_END, tell_escaped, tell_number, tell_text, tell_text_front};
 use crate::waits::{Waits, find_whom, follow, waits_of};
-use smi_journal::{Entry, tell_lines};
+use show_names::tell_lines;
+use smi_journal::Entry;
 use sml_domain::{Domain, ObjId};
-use sml_text::{Sink, tell, tell_u64};
+use sml_text::Sink;
+use sml_writer::Out;
 use std::alloc::{AllocError, Global};
 use std::slice;
 
@@ -56,8 +58,7 @@ const LEGEND: &[u8] =
 /// memory.
 pub fn tell_life<W: Sink>(
     alloc: Global,
-    writer: &mut W,
-    failed: &mut bool,
+    out: &mut Out<'_, W>,
     domain: &Domain,
     files: &RunFiles<'_>,
     entries: &[Entry],
@@ -67,87 +68,77 @@ pub fn tell_life<W: Sink>(
     let end = first.saturating_add(window.count).min(entries.len());
     let letters = files.domain.len().saturating_add(files.journal.len());
     let page = Page::of(alloc, domain, first, &entries[first..end], letters)?;
-    tell_head(writer, failed, domain, &page, files, entries.len());
-    tell_bars(alloc, writer, failed, domain, &page, &entries[..end])?;
-    tell_rows(alloc, writer, failed, domain, &page, entries)?;
-    tell_names(writer, failed, domain, &page, page.bottom());
-    tell(writer, failed, b"</svg>\n");
+    tell_head(out, domain, &page, files, entries.len());
+    tell_bars(alloc, out, domain, &page, &entries[..end])?;
+    tell_rows(alloc, out, domain, &page, entries)?;
+    tell_names(out, domain, &page, page.bottom());
+    out.say(b"</svg>\n");
     Ok(())
 }
 
 // The beginning of a picture, with its names and the lines of life of sessions.
 fn tell_head<W: Sink>(
-    writer: &mut W,
-    failed: &mut bool,
+    out: &mut Out<'_, W>,
     domain: &Domain,
     page: &Page,
     files: &RunFiles<'_>,
     entries: usize,
 ) {
-    tell_front(writer, failed, page);
-    tell(writer, failed, b"<title>");
-    tell_files(writer, failed, files);
-    tell(writer, failed, b"</title>\n");
-    tell(writer, failed, STYLE);
-    tell(
-        writer,
-        failed,
-        b"<rect class=\"page\" width=\"100%\" height=\"100%\"/>\n",
-    );
-    tell_text_front(writer, failed, b"heading", Point { x: 12, y: 18 });
-    tell_files(writer, failed, files);
-    tell_counts(writer, failed, page, entries);
-    tell(writer, failed, TEXT_END);
-    tell_text_front(writer, failed, b"note", Point { x: 12, y: 36 });
-    tell(writer, failed, LEGEND);
-    tell(writer, failed, TEXT_END);
-    tell_lives(writer, failed, page);
-    tell_names(writer, failed, domain, page, NAMES);
+    tell_front(out, page);
+    out.say(b"<title>");
+    tell_files(out, files);
+    out.say(b"</title>\n");
+    out.say(STYLE);
+    out.say(b"<rect class=\"page\" width=\"100%\" height=\"100%\"/>\n");
+    tell_text_front(out, b"heading", Point { x: 12, y: 18 });
+    tell_files(out, files);
+    tell_counts(out, page, entries);
+    out.say(TEXT_END);
+    tell_text_front(out, b"note", Point { x: 12, y: 36 });
+    out.say(LEGEND);
+    out.say(TEXT_END);
+    tell_lives(out, page);
+    tell_names(out, domain, page, NAMES);
 }
 
 // The first line of a picture.
-fn tell_front<W: Sink>(writer: &mut W, failed: &mut bool, page: &Page) {
+fn tell_front<W: Sink>(out: &mut Out<'_, W>, page: &Page) {
     let (width, height) = (page.full_width(), page.full_height());
-    tell(
-        writer,
-        failed,
-        b"<svg xmlns=\"http://www.w3.org/2000/svg\" viewBox=\"0 0 ",
-    );
-    tell_u64(writer, failed, width);
-    tell(writer, failed, b" ");
-    tell_u64(writer, failed, height);
-    tell(writer, failed, b"\"");
-    tell_number(writer, failed, b"width", width);
-    tell_number(writer, failed, b"height", height);
-    tell(writer, failed, b">\n");
+    out.say(b"<svg xmlns=\"http://www.w3.org/2000/svg\" viewBox=\"0 0 ");
+    out.number(width);
+    out.say(b" ");
+    out.number(height);
+    out.say(b"\"");
+    tell_number(out, b"width", width);
+    tell_number(out, b"height", height);
+    out.say(b">\n");
 }
 
 // The names of the files of a run.
-fn tell_files<W: Sink>(writer: &mut W, failed: &mut bool, files: &RunFiles<'_>) {
-    tell_escaped(writer, failed, files.domain);
-    tell(writer, failed, b", ");
-    tell_escaped(writer, failed, files.journal);
+fn tell_files<W: Sink>(out: &mut Out<'_, W>, files: &RunFiles<'_>) {
+    tell_escaped(out, files.domain);
+    out.say(b", ");
+    tell_escaped(out, files.journal);
 }
 
 // Which of how many entries are shown.
-fn tell_counts<W: Sink>(writer: &mut W, failed: &mut bool, page: &Page, entries: usize) {
+fn tell_counts<W: Sink>(out: &mut Out<'_, W>, page: &Page, entries: usize) {
     if page.first < page.end {
-        tell(writer, failed, b": entries ");
-        tell_u64(writer, failed, (page.first as u64).saturating_add(1));
-        tell(writer, failed, b" to ");
-        tell_u64(writer, failed, page.end as u64);
-        tell(writer, failed, b" of ");
+        out.say(b": entries ");
+        out.number((page.first as u64).saturating_add(1));
+        out.say(b" to ");
+        out.number(page.end as u64);
+        out.say(b" of ");
     } else {
-        tell(writer, failed, b": no entry of ");
+        out.say(b": no entry of ");
     }
-    tell_u64(writer, failed, entries as u64);
+    out.number(entries as u64);
 }
 
 // The rows of entries.
 fn tell_rows<W: Sink>(
     alloc: Global,
-    writer: &mut W,
-    failed: &mut bool,
+    out: &mut Out<'_, W>,
     domain: &Domain,
     page: &Page,
     entries: &[Entry],
@@ -158,7 +149,7 @@ fn tell_rows<W: Sink>(
     for (place, entry) in entries.iter().enumerate().take(page.end) {
         if place >= page.first {
             find_waited(&waits, entries, entry, place, &mut whom)?;
-            tell_entry(writer, failed, domain, page, place, entry, &whom, &mut text)?;
+            tell_entry(out, domain, page, place, entry, &whom, &mut text)?;
         }
         follow(&mut waits, entry, place);
     }
@@ -181,8 +172,7 @@ fn find_waited(
 
 // An entry: its line, and its row.
 fn tell_entry<W: Sink>(
-    writer: &mut W,
-    failed: &mut bool,
+    out: &mut Out<'_, W>,
     domain: &Domain,
     page: &Page,
     place: usize,
@@ -190,21 +180,22 @@ fn tell_entry<W: Sink>(
     whom: &[ObjId],
     text: &mut Vec<u8>,
 ) -> Result<(), AllocError> {
-    tell(writer, failed, b"<g><title>");
+    out.say(b"<g><title>");
     spell_line(text, domain, slice::from_ref(entry))?;
-    tell_escaped(writer, failed, text);
-    tell(writer, failed, b"</title>\n");
+    tell_escaped(out, text);
+    out.say(b"</title>\n");
     spell_label(text, domain, entry, whom)?;
-    tell_row(writer, failed, domain, page, place, entry, text);
-    tell(writer, failed, b"</g>\n");
+    tell_row(out, domain, page, place, entry, text);
+    out.say(b"</g>\n");
     Ok(())
 }
 
 // Writes the line of an entry into a buffer, in place of what it holds, without the end of the line.
 fn spell_line(text: &mut Vec<u8>, domain: &Domain, entry: &[Entry]) -> Result<(), AllocError> {
     text.clear();
-    let mut failed = false;
-    tell_lines(text, &mut failed, domain, entry);
+    let mut out = Out::new(&mut *text);
+    tell_lines(&mut out, domain, entry);
+    let failed = out.failed;
     let _ = text.pop();
     if failed { Err(AllocError) } else { Ok(()) }
 }
@@ -217,15 +208,14 @@ fn spell_label(
     whom: &[ObjId],
 ) -> Result<(), AllocError> {
     text.clear();
-    let mut failed = false;
-    tell_label(text, &mut failed, domain, entry, whom);
-    if failed { Err(AllocError) } else { Ok(()) }
+    let mut out = Out::new(text);
+    tell_label(&mut out, domain, entry, whom);
+    if out.failed { Err(AllocError) } else { Ok(()) }
 }
 
 // A row: the number of its entry, what is drawn, and what is written beside that.
 fn tell_row<W: Sink>(
-    writer: &mut W,
-    failed: &mut bool,
+    out: &mut Out<'_, W>,
     domain: &Domain,
     page: &Page,
     place: usize,
@@ -237,21 +227,14 @@ fn tell_row<W: Sink>(
         x: page.numbers(),
         y: y.saturating_add(4),
     };
-    tell_text_front(writer, failed, b"place", number);
-    tell_u64(writer, failed, (place as u64).saturating_add(1));
-    tell(writer, failed, TEXT_END);
-    tell_mark(writer, failed, domain, page, entry, y);
+    tell_text_front(out, b"place", number);
+    out.number((place as u64).saturating_add(1));
+    out.say(TEXT_END);
+    tell_mark(out, domain, page, entry, y);
     let at = Point {
         x: label_x(page, entry),
         y: y.saturating_sub(6),
     };
     let words = label.strip_prefix(b" ").unwrap_or(label);
-    tell_text(
-        writer,
-        failed,
-        class_of_label(domain, entry),
-        at,
-        words,
-        LABEL,
-    );
+    tell_text(out, class_of_label(domain, entry), at, words, LABEL);
 }

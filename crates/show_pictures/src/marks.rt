@@ -6,11 +6,11 @@ use crate::svg::{Point, tell_circle, tell_line, tell_text};
 use smi_journal::{ActionEnd, Cause, Entry, Reading, Sender, SessionId, Verdict};
 use sml_domain::{Domain, ObjId};
 use sml_text::Sink;
+use sml_writer::Out;
 
 /// Draws an entry in its line.
 pub(crate) fn tell_mark<W: Sink>(
-    writer: &mut W,
-    failed: &mut bool,
+    out: &mut Out<'_, W>,
     domain: &Domain,
     page: &Page,
     entry: &Entry,
@@ -21,24 +21,24 @@ pub(crate) fn tell_mark<W: Sink>(
             object,
             sender: Sender::Operator(session),
             ..
-        } => tell_request(writer, failed, page, b"sent", *session, *object, y),
+        } => tell_request(out, page, b"sent", *session, *object, y),
         Entry::Post {
             sender,
             target,
             verdict,
             ..
-        } => tell_post(writer, failed, page, *sender, *target, *verdict, y),
+        } => tell_post(out, page, *sender, *target, *verdict, y),
         Entry::Wait { object } => {
             let middle = Point {
                 x: page.object_x(*object),
                 y,
             };
-            tell_circle(writer, failed, b"wait", middle, 5);
+            tell_circle(out, b"wait", middle, 5);
         }
         Entry::Seen { object, readings } => {
-            tell_readings(writer, failed, domain, page, *object, readings.list(), y);
+            tell_readings(out, domain, page, *object, readings.list(), y);
         }
-        Entry::Kill { object, cause } => tell_kill(writer, failed, page, *object, *cause, y),
+        Entry::Kill { object, cause } => tell_kill(out, page, *object, *cause, y),
         Entry::Start { .. }
         | Entry::End { .. }
         | Entry::Insert { .. }
@@ -48,52 +48,30 @@ pub(crate) fn tell_mark<W: Sink>(
 }
 
 // An arrow from one column to the edge of another.
-fn tell_arrow<W: Sink>(
-    writer: &mut W,
-    failed: &mut bool,
-    class: &[u8],
-    from: u64,
-    to: u64,
-    y: u64,
-) {
+fn tell_arrow<W: Sink>(out: &mut Out<'_, W>, class: &[u8], from: u64, to: u64, y: u64) {
     let (near, far) = if from < to {
         (from.saturating_add(5), to.saturating_sub(6))
     } else {
         (from.saturating_sub(5), to.saturating_add(6))
     };
-    tell_line(
-        writer,
-        failed,
-        class,
-        Point { x: near, y },
-        Point { x: far, y },
-    );
+    tell_line(out, class, Point { x: near, y }, Point { x: far, y });
 }
 
 // What a session asks for, or does to an object.
 fn tell_request<W: Sink>(
-    writer: &mut W,
-    failed: &mut bool,
+    out: &mut Out<'_, W>,
     page: &Page,
     class: &[u8],
     session: SessionId,
     o: ObjId,
     y: u64,
 ) {
-    tell_arrow(
-        writer,
-        failed,
-        class,
-        page.session_x(session),
-        page.object_x(o),
-        y,
-    );
+    tell_arrow(out, class, page.session_x(session), page.object_x(o), y);
 }
 
 // A post, which is an arrow, and a small loop where an object posts to itself.
 fn tell_post<W: Sink>(
-    writer: &mut W,
-    failed: &mut bool,
+    out: &mut Out<'_, W>,
     page: &Page,
     sender: ObjId,
     target: ObjId,
@@ -106,26 +84,24 @@ fn tell_post<W: Sink>(
     };
     let x = page.object_x(sender);
     if sender.get() == target.get() {
-        let out = x.saturating_add(30);
+        let side = x.saturating_add(30);
         let lower = y.saturating_add(6);
-        tell_line(writer, failed, b"loop", Point { x, y }, Point { x: out, y });
+        tell_line(out, b"loop", Point { x, y }, Point { x: side, y });
         tell_line(
-            writer,
-            failed,
+            out,
             b"loop",
-            Point { x: out, y },
-            Point { x: out, y: lower },
+            Point { x: side, y },
+            Point { x: side, y: lower },
         );
-        tell_arrow(writer, failed, class, out, x, lower);
+        tell_arrow(out, class, side, x, lower);
     } else {
-        tell_arrow(writer, failed, class, x, page.object_x(target), y);
+        tell_arrow(out, class, x, page.object_x(target), y);
     }
 }
 
 // A dotted line over the columns of the objects that were read, and the state of each.
 fn tell_readings<W: Sink>(
-    writer: &mut W,
-    failed: &mut bool,
+    out: &mut Out<'_, W>,
     domain: &Domain,
     page: &Page,
     o: ObjId,
@@ -133,15 +109,9 @@ fn tell_readings<W: Sink>(
     y: u64,
 ) {
     let (least, most) = reach(page, o, readings);
-    tell_line(
-        writer,
-        failed,
-        b"read",
-        Point { x: least, y },
-        Point { x: most, y },
-    );
+    tell_line(out, b"read", Point { x: least, y }, Point { x: most, y });
     for reading in readings {
-        tell_reading(writer, failed, domain, page, reading, y);
+        tell_reading(out, domain, page, reading, y);
     }
 }
 
@@ -159,36 +129,28 @@ fn reach(page: &Page, o: ObjId, readings: &[Reading]) -> (u64, u64) {
 
 // A dot in the column of an object that was read, with its state.
 fn tell_reading<W: Sink>(
-    writer: &mut W,
-    failed: &mut bool,
+    out: &mut Out<'_, W>,
     domain: &Domain,
     page: &Page,
     reading: &Reading,
     y: u64,
 ) {
     let x = page.object_x(reading.object);
-    tell_circle(writer, failed, b"dot", Point { x, y }, 3);
+    tell_circle(out, b"dot", Point { x, y }, 3);
     if let Some(name) = domain.state_name(reading.state) {
         let at = Point {
             x: x.saturating_add(9),
             y: y.saturating_sub(6),
         };
         let class = class_of_state(domain, reading.object, reading.state);
-        tell_text(writer, failed, class, at, name.as_bytes(), page.letters());
+        tell_text(out, class, at, name.as_bytes(), page.letters());
     }
 }
 
 // A cross, and an arrow from the session that kills.
-fn tell_kill<W: Sink>(
-    writer: &mut W,
-    failed: &mut bool,
-    page: &Page,
-    o: ObjId,
-    cause: Cause,
-    y: u64,
-) {
+fn tell_kill<W: Sink>(out: &mut Out<'_, W>, page: &Page, o: ObjId, cause: Cause, y: u64) {
     if let Cause::By(session) = cause {
-        tell_request(writer, failed, page, b"bad", session, o, y);
+        tell_request(out, page, b"bad", session, o, y);
     }
     let x = page.object_x(o);
     let left = x.saturating_sub(6);
@@ -196,15 +158,13 @@ fn tell_kill<W: Sink>(
     let upper = y.saturating_sub(6);
     let lower = y.saturating_add(6);
     tell_line(
-        writer,
-        failed,
+        out,
         b"cross",
         Point { x: left, y: upper },
         Point { x: right, y: lower },
     );
     tell_line(
-        writer,
-        failed,
+        out,
         b"cross",
         Point { x: left, y: lower },
         Point { x: right, y: upper },

@@ -4,45 +4,40 @@ use crate::page::{NAME_HEIGHT, Page, SESSIONS};
 use crate::svg::{Point, TEXT_END, tell_box, tell_line, tell_text_front};
 use smi_journal::SessionId;
 use sml_domain::{Domain, ObjId};
-use sml_text::{Sink, tell};
+use sml_text::Sink;
+use sml_writer::Out;
 
 /// Writes the names of sessions and objects in boxes, `y` below the upper edge.
-pub(crate) fn tell_names<W: Sink>(
-    writer: &mut W,
-    failed: &mut bool,
-    domain: &Domain,
-    page: &Page,
-    y: u64,
-) {
-    tell_sessions(writer, failed, page, y);
-    tell_objects(writer, failed, domain, page, y);
+pub(crate) fn tell_names<W: Sink>(out: &mut Out<'_, W>, domain: &Domain, page: &Page, y: u64) {
+    tell_sessions(out, page, y);
+    tell_objects(out, domain, page, y);
 }
 
 /// Writes the lines of life of sessions.
-pub(crate) fn tell_lives<W: Sink>(writer: &mut W, failed: &mut bool, page: &Page) {
+pub(crate) fn tell_lives<W: Sink>(out: &mut Out<'_, W>, page: &Page) {
     for number in 1..=SESSIONS as u8 {
         if let Some(session) = shown_session(page, number) {
-            tell_life_line(writer, failed, page, page.session_x(session));
+            tell_life_line(out, page, page.session_x(session));
         }
     }
 }
 
 // The names of sessions.
-fn tell_sessions<W: Sink>(writer: &mut W, failed: &mut bool, page: &Page, y: u64) {
+fn tell_sessions<W: Sink>(out: &mut Out<'_, W>, page: &Page, y: u64) {
     for number in 1..=SESSIONS as u8 {
         if let Some(session) = shown_session(page, number) {
             let word = [b'@', b'0' + session.get()];
-            tell_name(writer, failed, page, page.session_x(session), y, &word);
+            tell_name(out, page, page.session_x(session), y, &word);
         }
     }
 }
 
 // The names of objects.
-fn tell_objects<W: Sink>(writer: &mut W, failed: &mut bool, domain: &Domain, page: &Page, y: u64) {
+fn tell_objects<W: Sink>(out: &mut Out<'_, W>, domain: &Domain, page: &Page, y: u64) {
     for number in 0..domain.objects() {
         let o = ObjId::new(number);
         if let Some(name) = domain.object_name(o) {
-            tell_name(writer, failed, page, page.object_x(o), y, name.as_bytes());
+            tell_name(out, page, page.object_x(o), y, name.as_bytes());
         }
     }
 }
@@ -56,31 +51,24 @@ fn shown_session(page: &Page, number: u8) -> Option<SessionId> {
 }
 
 // A line of life.
-fn tell_life_line<W: Sink>(writer: &mut W, failed: &mut bool, page: &Page, x: u64) {
+fn tell_life_line<W: Sink>(out: &mut Out<'_, W>, page: &Page, x: u64) {
     let from = Point { x, y: page.top() };
     let to = Point {
         x,
         y: page.bottom(),
     };
-    tell_line(writer, failed, b"life", from, to);
+    tell_line(out, b"life", from, to);
 }
 
 // A name in a box.
-fn tell_name<W: Sink>(writer: &mut W, failed: &mut bool, page: &Page, x: u64, y: u64, name: &[u8]) {
+fn tell_name<W: Sink>(out: &mut Out<'_, W>, page: &Page, x: u64, y: u64, name: &[u8]) {
     let corner = page.corner(x, y);
-    tell_box(
-        writer,
-        failed,
-        b"box",
-        corner,
-        page.box_width(),
-        NAME_HEIGHT,
-    );
+    tell_box(out, b"box", corner, page.box_width(), NAME_HEIGHT);
     let at = Point {
         x,
         y: y.saturating_add(15),
     };
-    tell_text_front(writer, failed, b"name", at);
-    tell(writer, failed, name);
-    tell(writer, failed, TEXT_END);
+    tell_text_front(out, b"name", at);
+    out.say(name);
+    out.say(TEXT_END);
 }

@@ -5,38 +5,34 @@ use crate::dot::{DEVICE_FILL, end_tip, tell_known, tell_tip};
 use crate::sends::Sent;
 use crate::tables::{nones, zeros};
 use sml_domain::{ActionId, Class, Domain, Group, ObjId};
-use sml_text::{Sink, tell, tell_u64};
+use sml_text::Sink;
+use sml_writer::Out;
 use std::alloc::{AllocError, Global};
 
 /// Writes the objects and sets of a domain, with arrows for what is sent, dotted lines for what is read and broken
 /// lines for membership. With `members` those of large sets are drawn too.
 pub(crate) fn tell_objects<W: Sink>(
     alloc: Global,
-    writer: &mut W,
-    failed: &mut bool,
+    out: &mut Out<'_, W>,
     domain: &Domain,
     members: bool,
 ) -> Result<(), AllocError> {
     let links = links_of(alloc, domain)?;
     let boxes = boxes_of(alloc, domain, &links, members)?;
-    tell(
-        writer,
-        failed,
-        b"  subgraph \"cluster\" {\n    label=\"objects and sets\";\n",
-    );
-    tell_object_nodes(writer, failed, domain, &boxes);
-    tell_sets(alloc, writer, failed, domain, &boxes)?;
-    tell_all_links(alloc, writer, failed, domain, &boxes, &links)?;
-    tell(writer, failed, b"  }\n");
+    out.say(b"  subgraph \"cluster\" {\n    label=\"objects and sets\";\n");
+    tell_object_nodes(out, domain, &boxes);
+    tell_sets(alloc, out, domain, &boxes)?;
+    tell_all_links(alloc, out, domain, &boxes, &links)?;
+    out.say(b"  }\n");
     Ok(())
 }
 
 // The boxes of all objects that have one.
-fn tell_object_nodes<W: Sink>(writer: &mut W, failed: &mut bool, domain: &Domain, boxes: &Boxes) {
+fn tell_object_nodes<W: Sink>(out: &mut Out<'_, W>, domain: &Domain, boxes: &Boxes) {
     for number in 0..domain.objects() {
         let o = ObjId::new(number);
         if box_of(boxes, o).is_none() {
-            tell_object_node(writer, failed, domain, o);
+            tell_object_node(out, domain, o);
         }
     }
 }
@@ -44,47 +40,46 @@ fn tell_object_nodes<W: Sink>(writer: &mut W, failed: &mut bool, domain: &Domain
 // All sets with their members.
 fn tell_sets<W: Sink>(
     alloc: Global,
-    writer: &mut W,
-    failed: &mut bool,
+    out: &mut Out<'_, W>,
     domain: &Domain,
     boxes: &Boxes,
 ) -> Result<(), AllocError> {
     for group in domain.groups() {
-        tell(writer, failed, b"    ");
-        tell_set_node(writer, failed, group);
+        out.say(b"    ");
+        tell_set_node(out, group);
         if is_one_box(boxes, group) {
-            tell_one_box(alloc, writer, failed, domain, group)?;
+            tell_one_box(alloc, out, domain, group)?;
         } else {
-            tell(writer, failed, b" [shape=ellipse, style=dashed, label=\"");
-            tell(writer, failed, group.name.as_bytes());
+            out.say(b" [shape=ellipse, style=dashed, label=\"");
+            out.say(group.name.as_bytes());
         }
-        tell(writer, failed, b"\"];\n");
-        tell_members(writer, failed, domain, boxes, group);
+        out.say(b"\"];\n");
+        tell_members(out, domain, boxes, group);
     }
     Ok(())
 }
 
 // The node of an object, in quotes.
-fn tell_object<W: Sink>(writer: &mut W, failed: &mut bool, domain: &Domain, o: ObjId) {
-    tell(writer, failed, b"\"object ");
-    tell_known(writer, failed, domain.object_name(o));
-    tell(writer, failed, b"\"");
+fn tell_object<W: Sink>(out: &mut Out<'_, W>, domain: &Domain, o: ObjId) {
+    out.say(b"\"object ");
+    tell_known(out, domain.object_name(o));
+    out.say(b"\"");
 }
 
 // The node of a set, in quotes.
-fn tell_set_node<W: Sink>(writer: &mut W, failed: &mut bool, group: &Group) {
-    tell(writer, failed, b"\"set ");
-    tell(writer, failed, group.name.as_bytes());
-    tell(writer, failed, b"\"");
+fn tell_set_node<W: Sink>(out: &mut Out<'_, W>, group: &Group) {
+    out.say(b"\"set ");
+    out.say(group.name.as_bytes());
+    out.say(b"\"");
 }
 
 // The node of an object, or behind the numbers of all objects that of a set.
-fn tell_node<W: Sink>(writer: &mut W, failed: &mut bool, domain: &Domain, number: usize) {
+fn tell_node<W: Sink>(out: &mut Out<'_, W>, domain: &Domain, number: usize) {
     match number.checked_sub(domain.objects()) {
-        None => tell_object(writer, failed, domain, ObjId::new(number)),
+        None => tell_object(out, domain, ObjId::new(number)),
         Some(place) => {
             if let Some(group) = domain.groups().get(place) {
-                tell_set_node(writer, failed, group);
+                tell_set_node(out, group);
             }
         }
     }
@@ -100,22 +95,22 @@ pub(crate) fn class_of(domain: &Domain, o: ObjId) -> Option<usize> {
 }
 
 // The box of an object, with the name of its class.
-fn tell_object_node<W: Sink>(writer: &mut W, failed: &mut bool, domain: &Domain, o: ObjId) {
-    tell(writer, failed, b"    ");
-    tell_object(writer, failed, domain, o);
-    tell(writer, failed, b" [style=filled, ");
+fn tell_object_node<W: Sink>(out: &mut Out<'_, W>, domain: &Domain, o: ObjId) {
+    out.say(b"    ");
+    tell_object(out, domain, o);
+    out.say(b" [style=filled, ");
     if domain.associated(o) {
-        tell(writer, failed, b"fillcolor=");
-        tell(writer, failed, DEVICE_FILL);
-        tell(writer, failed, b", ");
+        out.say(b"fillcolor=");
+        out.say(DEVICE_FILL);
+        out.say(b", ");
     }
-    tell(writer, failed, b"label=\"");
-    tell_known(writer, failed, domain.object_name(o));
-    tell(writer, failed, b"\\n(");
+    out.say(b"label=\"");
+    tell_known(out, domain.object_name(o));
+    out.say(b"\\n(");
     if let Some(class) = class_at(domain, o.get()) {
-        tell(writer, failed, class.name.as_bytes());
+        out.say(class.name.as_bytes());
     }
-    tell(writer, failed, b")\"];\n");
+    out.say(b")\"];\n");
 }
 
 // The class of an object, or behind the numbers of all objects that of the first member that a set may have.
@@ -130,25 +125,20 @@ fn class_at(domain: &Domain, number: usize) -> Option<&Class> {
 // The look of a large set, up to the end of its label: how many members it has, class by class.
 fn tell_one_box<W: Sink>(
     alloc: Global,
-    writer: &mut W,
-    failed: &mut bool,
+    out: &mut Out<'_, W>,
     domain: &Domain,
     group: &Group,
 ) -> Result<(), AllocError> {
-    tell(
-        writer,
-        failed,
-        b" [shape=box, peripheries=2, style=filled, label=\"",
-    );
-    tell(writer, failed, group.name.as_bytes());
+    out.say(b" [shape=box, peripheries=2, style=filled, label=\"");
+    out.say(group.name.as_bytes());
     let counts = counts_of(alloc, domain, group)?;
     let mut before: &[u8] = b": ";
     for (class, count) in domain.classes().iter().zip(counts.iter()) {
         if *count > 0 {
-            tell(writer, failed, before);
-            tell_u64(writer, failed, *count as u64);
-            tell(writer, failed, b" of ");
-            tell(writer, failed, class.name.as_bytes());
+            out.say(before);
+            out.number(*count as u64);
+            out.say(b" of ");
+            out.say(class.name.as_bytes());
             before = b", ";
         }
     }
@@ -169,20 +159,14 @@ fn counts_of(alloc: Global, domain: &Domain, group: &Group) -> Result<Vec<usize>
 }
 
 // A broken line from a set to each of its members that has a box.
-fn tell_members<W: Sink>(
-    writer: &mut W,
-    failed: &mut bool,
-    domain: &Domain,
-    boxes: &Boxes,
-    group: &Group,
-) {
+fn tell_members<W: Sink>(out: &mut Out<'_, W>, domain: &Domain, boxes: &Boxes, group: &Group) {
     for member in &group.members {
         if box_of(boxes, *member).is_none() {
-            tell(writer, failed, b"    ");
-            tell_set_node(writer, failed, group);
-            tell(writer, failed, b" -> ");
-            tell_object(writer, failed, domain, *member);
-            tell(writer, failed, b" [style=dashed, arrowhead=none];\n");
+            out.say(b"    ");
+            tell_set_node(out, group);
+            out.say(b" -> ");
+            tell_object(out, domain, *member);
+            out.say(b" [style=dashed, arrowhead=none];\n");
         }
     }
 }
@@ -190,23 +174,21 @@ fn tell_members<W: Sink>(
 // The arrows of all objects, class by class.
 fn tell_all_links<W: Sink>(
     alloc: Global,
-    writer: &mut W,
-    failed: &mut bool,
+    out: &mut Out<'_, W>,
     domain: &Domain,
     boxes: &Boxes,
     links: &[Links],
 ) -> Result<(), AllocError> {
     let mut told = nones(alloc, domain.groups().len())?;
     for (number, of_class) in links.iter().enumerate() {
-        tell_links_of_class(writer, failed, domain, boxes, of_class, number, &mut told);
+        tell_links_of_class(out, domain, boxes, of_class, number, &mut told);
     }
     Ok(())
 }
 
 // The arrows of the objects of a class: those of objects in the box of a set once from there.
 fn tell_links_of_class<W: Sink>(
-    writer: &mut W,
-    failed: &mut bool,
+    out: &mut Out<'_, W>,
     domain: &Domain,
     boxes: &Boxes,
     links: &Links,
@@ -217,11 +199,11 @@ fn tell_links_of_class<W: Sink>(
         let o = ObjId::new(place);
         if class_of(domain, o) == Some(number) {
             match box_of(boxes, o) {
-                None => tell_links(writer, failed, domain, place, links),
+                None => tell_links(out, domain, place, links),
                 Some(set) => {
                     if is_first(told, set, number) {
                         let from = domain.objects().saturating_add(set);
-                        tell_links(writer, failed, domain, from, links);
+                        tell_links(out, domain, from, links);
                     }
                 }
             }
@@ -241,70 +223,46 @@ fn is_first(told: &mut Vec<Option<usize>>, set: usize, number: usize) -> bool {
 }
 
 // The arrows and dotted lines from a node.
-fn tell_links<W: Sink>(
-    writer: &mut W,
-    failed: &mut bool,
-    domain: &Domain,
-    from: usize,
-    links: &Links,
-) {
-    tell_sends(writer, failed, domain, from, &links.sends);
-    tell_reads(writer, failed, domain, from, &links.reads);
+fn tell_links<W: Sink>(out: &mut Out<'_, W>, domain: &Domain, from: usize, links: &Links) {
+    tell_sends(out, domain, from, &links.sends);
+    tell_reads(out, domain, from, &links.reads);
 }
 
 // The arrows from a node, one for each target.
-fn tell_sends<W: Sink>(
-    writer: &mut W,
-    failed: &mut bool,
-    domain: &Domain,
-    from: usize,
-    sends: &[Sent],
-) {
+fn tell_sends<W: Sink>(out: &mut Out<'_, W>, domain: &Domain, from: usize, sends: &[Sent]) {
     let mut last: Option<usize> = None;
     for (place, sent) in sends.iter().enumerate() {
         if last != Some(sent.target) {
-            tell_line(writer, failed, domain, from, sent.target);
-            tell_actions(writer, failed, domain, sent.target, &sends[place..]);
+            tell_line(out, domain, from, sent.target);
+            tell_actions(out, domain, sent.target, &sends[place..]);
         }
         last = Some(sent.target);
     }
 }
 
 // The dotted lines from a node, one for each that is read.
-fn tell_reads<W: Sink>(
-    writer: &mut W,
-    failed: &mut bool,
-    domain: &Domain,
-    from: usize,
-    reads: &[usize],
-) {
+fn tell_reads<W: Sink>(out: &mut Out<'_, W>, domain: &Domain, from: usize, reads: &[usize]) {
     let mut last: Option<usize> = None;
     for read in reads {
         if last != Some(*read) {
-            tell_line(writer, failed, domain, from, *read);
-            tell(writer, failed, b"style=dotted, arrowhead=odot];\n");
+            tell_line(out, domain, from, *read);
+            out.say(b"style=dotted, arrowhead=odot];\n");
         }
         last = Some(*read);
     }
 }
 
 // An arrow from a node to another, up to its look.
-fn tell_line<W: Sink>(writer: &mut W, failed: &mut bool, domain: &Domain, from: usize, to: usize) {
-    tell(writer, failed, b"    ");
-    tell_node(writer, failed, domain, from);
-    tell(writer, failed, b" -> ");
-    tell_node(writer, failed, domain, to);
-    tell(writer, failed, b" [");
+fn tell_line<W: Sink>(out: &mut Out<'_, W>, domain: &Domain, from: usize, to: usize) {
+    out.say(b"    ");
+    tell_node(out, domain, from);
+    out.say(b" -> ");
+    tell_node(out, domain, to);
+    out.say(b" [");
 }
 
 // The actions that are sent to a target, which stand first, a line each; and their parameters.
-fn tell_actions<W: Sink>(
-    writer: &mut W,
-    failed: &mut bool,
-    domain: &Domain,
-    target: usize,
-    sends: &[Sent],
-) {
+fn tell_actions<W: Sink>(out: &mut Out<'_, W>, domain: &Domain, target: usize, sends: &[Sent]) {
     let mut before: &[u8] = b"label=\"";
     let mut last: Option<usize> = None;
     for sent in sends {
@@ -312,29 +270,19 @@ fn tell_actions<W: Sink>(
             break;
         }
         if last != Some(sent.action) {
-            tell(writer, failed, before);
-            tell_known(
-                writer,
-                failed,
-                domain.action_name(ActionId::new(sent.action)),
-            );
+            out.say(before);
+            tell_known(out, domain.action_name(ActionId::new(sent.action)));
         }
         before = b"\\n";
         last = Some(sent.action);
     }
-    tell(writer, failed, b"\"");
-    tell_tips(writer, failed, domain, target, sends);
-    tell(writer, failed, b"];\n");
+    out.say(b"\"");
+    tell_tips(out, domain, target, sends);
+    out.say(b"];\n");
 }
 
 // The parameters of the actions that are sent to a target, which stand first.
-fn tell_tips<W: Sink>(
-    writer: &mut W,
-    failed: &mut bool,
-    domain: &Domain,
-    target: usize,
-    sends: &[Sent],
-) {
+fn tell_tips<W: Sink>(out: &mut Out<'_, W>, domain: &Domain, target: usize, sends: &[Sent]) {
     let Some(class) = class_at(domain, target) else {
         return;
     };
@@ -346,9 +294,9 @@ fn tell_tips<W: Sink>(
         }
         if last != Some(sent.action) {
             let action = ActionId::new(sent.action);
-            is_there = tell_tip(writer, failed, domain, class, action, is_there);
+            is_there = tell_tip(out, domain, class, action, is_there);
         }
         last = Some(sent.action);
     }
-    end_tip(writer, failed, is_there);
+    end_tip(out, is_there);
 }

@@ -1,9 +1,7 @@
--- Several writes as one.
-use Rattle.std.proofs.Common.{◌≡◌, ◌∙◌, sym, ap, refl, subst, ℕ, zero, suc, ◌<◌, ◌+◌, ◌-◌, List, [], ◌∷◌, ◌++◌, Option, Bool, arith, length, get_or, take, drop, flat_map}
+-- Lines of one place more.
+use Rattle.std.proofs.Common.{◌≡◌, ◌∙◌, sym, ap, refl, subst, ℕ, zero, suc, ◌<◌, ◌+◌, ◌-◌, List, [], ◌∷◌, ◌++◌, arith, length, get_or, take, drop, flat_map}
 use Rattle.std.specs.List.{range_with_len}
-use Rattle.std.proofs.KnownBytes.{Appends-nil}
 use Rattle.std.proofs.lemmas.List.{flat_map_more, take_all}
-use Rattle.sml_text.specs.Written.{Told}
 use Rattle.sml_domain.specs.declared.value.Value.{Value}
 use Rattle.sml_domain.specs.Domain.{Domain, Param}
 use Rattle.sml_domain.specs.Lookups.{class_params_at}
@@ -12,28 +10,6 @@ use Rattle.smi_journal_entries.specs.declared.journal.Format.{Format}
 use Rattle.smi_journal_entries.specs.Words.{open_at, state_of}
 use Rattle.smi_meaning.specs.Params.{ParamsAfter}
 use Rattle.show_states.specs.StandingText.{AreOpenLines, AreParamLines, standing_open_line, standing_param_lines, standing_state_line}
-use Rattle.sml_text.proofs.Writes.{told_both, told_as}
-
-module _ {old new mid : Option (List ℕ)} {f g h : Bool} {bs cs : List ℕ} where
-  -- one after another
-  pub then_told : Told old f mid g bs → Told mid g new h cs → Told old f new h (bs ++ cs)
-  then_told x y = told_both old f mid g new h bs cs x y
-
--- the same text, said otherwise
-pub told_again : {old new : Option (List ℕ)} {f h : Bool} {bs cs : List ℕ} → Told old f new h bs → bs ≡ cs
-    → Told old f new h cs
-told_again {old} {new} {f} {h} {bs} {cs} x e = told_as old f new h bs cs x e
-
--- nothing was written
-pub told_none : {old : Option (List ℕ)} {f : Bool} → Told old f old f []
-told_none {old} {f} = record {
-  front = [];
-  rest = [];
-  split = refl;
-  appends = Appends-nil old;
-  whole = λ e. refl;
-  stays = λ e. (e, refl);
-}
 
 -- a range, with its last number by itself
 range_with_last : (a n : ℕ) → range_with_len a (suc n) ≡ range_with_len a n ++ (a + n) ∷ []

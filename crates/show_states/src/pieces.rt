@@ -5,7 +5,8 @@ use crate::opens::tell_open_at;
 use crate::others::{tell_members, tell_next, tell_waiting, waiting_at};
 use smi_audit::Past;
 use sml_domain::{Domain, ObjId, SetId};
-use sml_text::{Sink, tell};
+use sml_text::Sink;
+use sml_writer::Out;
 use std::alloc::{AllocError, Global};
 
 /// What a line, or none, is told of.
@@ -26,7 +27,7 @@ pub(crate) enum Piece {
 }
 
 // The line of a parameter.
-fn tell_param_at<W: Sink>(writer: &mut W, failed: &mut bool, past: &Past, o: ObjId, place: usize) {
+fn tell_param_at<W: Sink>(out: &mut Out<'_, W>, past: &Past, o: ObjId, place: usize) {
     let domain = past.books().domain();
     if !domain.has(o) {
         return;
@@ -36,7 +37,7 @@ fn tell_param_at<W: Sink>(writer: &mut W, failed: &mut bool, past: &Past, o: Obj
     if place < params.len() && place < values.len() {
         let param = &params[place..place + 1];
         let value = &values[place..place + 1];
-        tell_params_of(writer, failed, domain, o, param, value);
+        tell_params_of(out, domain, o, param, value);
     }
 }
 
@@ -45,29 +46,28 @@ pub(crate) fn tell_piece<W: Sink>(
     alloc: Global,
     past: &Past,
     piece: &Piece,
-    writer: &mut W,
-    failed: &mut bool,
+    out: &mut Out<'_, W>,
 ) -> Result<(), AllocError> {
     let domain = past.books().domain();
     match *piece {
         Piece::State(o) => {
             if domain.has(o) {
-                tell_state(writer, failed, domain, o, past.books().state(o));
+                tell_state(out, domain, o, past.books().state(o));
             }
         }
-        Piece::Param(o, place) => tell_param_at(writer, failed, past, o, place),
+        Piece::Param(o, place) => tell_param_at(out, past, o, place),
         Piece::Open(o) => {
             if domain.has(o) {
-                return tell_open_at(alloc, past, Some(past), o, writer, failed);
+                return tell_open_at(alloc, past, Some(past), o, out);
             }
         }
-        Piece::Waiting(o) => tell_waiting(writer, failed, past, o, waiting_at(past, o)),
+        Piece::Waiting(o) => tell_waiting(out, past, o, waiting_at(past, o)),
         Piece::Members(set) => {
             if let Some(group) = domain.groups().get(set.get()) {
-                tell_members(writer, failed, past, set, group);
+                tell_members(out, past, set, group);
             }
         }
-        Piece::Next(o) => return tell_next(alloc, past, o, writer, failed),
+        Piece::Next(o) => return tell_next(alloc, past, o, out),
     }
     Ok(())
 }
@@ -75,16 +75,20 @@ pub(crate) fn tell_piece<W: Sink>(
 // The text of a piece.
 fn text_of(alloc: Global, past: &Past, piece: &Piece) -> Result<Vec<u8>, AllocError> {
     let mut text = Vec::new(alloc);
-    let mut failed = false;
-    tell_piece(alloc, past, piece, &mut text, &mut failed)?;
-    if failed { Err(AllocError) } else { Ok(text) }
+    let mut out = Out::new(&mut text);
+    tell_piece(alloc, past, piece, &mut out)?;
+    if out.failed {
+        Err(AllocError)
+    } else {
+        Ok(text)
+    }
 }
 
 // A line with a mark in front, if there is one.
-fn tell_marked<W: Sink>(writer: &mut W, failed: &mut bool, mark: &[u8], line: &[u8]) {
+fn tell_marked<W: Sink>(out: &mut Out<'_, W>, mark: &[u8], line: &[u8]) {
     if line.len() > 0 {
-        tell(writer, failed, mark);
-        tell(writer, failed, line);
+        out.say(mark);
+        out.say(line);
     }
 }
 
@@ -94,16 +98,15 @@ fn tell_changed_piece<W: Sink>(
     before: &Past,
     behind: &Past,
     piece: &Piece,
-    writer: &mut W,
-    failed: &mut bool,
+    out: &mut Out<'_, W>,
 ) -> Result<(), AllocError> {
     let old = text_of(alloc, before, piece)?;
     let new = text_of(alloc, behind, piece)?;
     if old.as_slice() == new.as_slice() {
         return Ok(());
     }
-    tell_marked(writer, failed, b"-", old.as_slice());
-    tell_marked(writer, failed, b"+", new.as_slice());
+    tell_marked(out, b"-", old.as_slice());
+    tell_marked(out, b"+", new.as_slice());
     Ok(())
 }
 
@@ -146,11 +149,15 @@ pub(crate) fn other_lines(alloc: Global, past: &Past) -> Result<Vec<u8>, AllocEr
     let mut pieces = Vec::new(alloc);
     add_others(&mut pieces, past.books().domain())?;
     let mut text = Vec::new(alloc);
-    let mut failed = false;
+    let mut out = Out::new(&mut text);
     for piece in pieces.as_slice() {
-        tell_piece(alloc, past, piece, &mut text, &mut failed)?;
+        tell_piece(alloc, past, piece, &mut out)?;
     }
-    if failed { Err(AllocError) } else { Ok(text) }
+    if out.failed {
+        Err(AllocError)
+    } else {
+        Ok(text)
+    }
 }
 
 /// The lines that differ between how all stood behind two journals of one domain, in the order of `past_text`: those
@@ -160,9 +167,13 @@ pub(crate) fn other_lines(alloc: Global, past: &Past) -> Result<Vec<u8>, AllocEr
 pub fn change_text(alloc: Global, before: &Past, behind: &Past) -> Result<Vec<u8>, AllocError> {
     let pieces = pieces_of(alloc, before.books().domain())?;
     let mut text = Vec::new(alloc);
-    let mut failed = false;
+    let mut out = Out::new(&mut text);
     for piece in pieces.as_slice() {
-        tell_changed_piece(alloc, before, behind, piece, &mut text, &mut failed)?;
+        tell_changed_piece(alloc, before, behind, piece, &mut out)?;
     }
-    if failed { Err(AllocError) } else { Ok(text) }
+    if out.failed {
+        Err(AllocError)
+    } else {
+        Ok(text)
+    }
 }

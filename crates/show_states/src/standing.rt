@@ -1,6 +1,6 @@
 //! How all stands behind the steps of a core, and how all stood behind a journal.
 ghost use Rattle.std.specs.Prelude.{ℕ, IfOk, List, OnOk};
-ghost use Rattle.sml_text.specs.Written.{Told};
+ghost use Rattle.sml_writer.specs.Tells.{Tells};
 ghost use Rattle.show_states.specs.StandingText.{TellsStanding};
 
 use crate::lines::{tell_params, tell_states};
@@ -13,7 +13,8 @@ use smi_audit::Past;
 use smi_core::Core;
 use smi_journal::{Entry, write_journal};
 use sml_domain::{Domain, ObjId, SetId};
-use sml_text::{Sink, tell};
+use sml_text::Sink;
+use sml_writer::Out;
 use std::alloc::{AllocError, Global};
 use std::sync::Arc;
 
@@ -29,9 +30,9 @@ fn has_open(domain: &Domain, history: &History) -> bool {
 }
 
 // The members of all sets that have others than the declared ones.
-fn tell_all_members<S: Standing, W: Sink>(writer: &mut W, failed: &mut bool, standing: &S) {
+fn tell_all_members<S: Standing, W: Sink>(out: &mut Out<'_, W>, standing: &S) {
     for (place, group) in standing.domain().groups().iter().enumerate() {
-        tell_members(writer, failed, standing, SetId::new(place), group);
+        tell_members(out, standing, SetId::new(place), group);
     }
 }
 
@@ -41,18 +42,17 @@ fn tell_all<W: Sink>(
     core: &Core,
     history: &History,
     past: Option<&Past>,
-    writer: &mut W,
-    failed: &mut bool,
+    out: &mut Out<'_, W>,
 ) -> Result<(), AllocError> {
-    tell_states(writer, failed, core);
-    tell_params(writer, failed, core);
-    tell_opens(alloc, core, past, writer, failed)?;
+    tell_states(out, core);
+    tell_params(out, core);
+    tell_opens(alloc, core, past, out)?;
     let domain = core.domain();
     for o in 0..domain.objects() {
         let o = ObjId::new(o);
-        tell_waiting(writer, failed, core, o, history.waiting(o));
+        tell_waiting(out, core, o, history.waiting(o));
     }
-    tell_all_members(writer, failed, core);
+    tell_all_members(out, core);
     Ok(())
 }
 
@@ -68,38 +68,32 @@ pub fn tell_standing<W: Sink>(
     domain: &Arc<Domain>,
     core: &Core,
     history: &History,
-    writer: &mut W,
-    failed: &mut bool,
+    out: &mut Out<'_, W>,
 ) -> Result<(), AllocError> {
     if !has_open(domain, history) {
-        return tell_all(alloc, core, history, None, writer, failed);
+        return tell_all(alloc, core, history, None, out);
     }
     let mut text = Vec::new(alloc);
     if write_journal(core.domain(), core.journal(), &mut text).is_err() {
         return Err(AllocError);
     }
     match Past::of_text(alloc, domain, text.as_slice()) {
-        Some(past) => tell_all(alloc, core, history, Some(&past), writer, failed),
+        Some(past) => tell_all(alloc, core, history, Some(&past), out),
         None => Err(AllocError),
     }
 }
 
 // Writes how all stood behind the entries of a past. The error is out of memory; then a part is written.
-fn tell_past<W: Sink>(
-    alloc: Global,
-    past: &Past,
-    writer: &mut W,
-    failed: &mut bool,
-) -> Result<(), AllocError>
+fn tell_past<W: Sink>(alloc: Global, past: &Past, out: &mut Out<'_, W>) -> Result<(), AllocError>
     ensures { OnOk result ((text : List ℕ)
         × TellsStanding past.now.format past.now.books.domain past.now.books.journal text
-        × Told (W.contents writer.old) failed.old (W.contents writer.new) failed.new text) }
+        × Tells W.contents W.has_refused out.old out.new text) }
 {
     let more = other_lines(alloc, past)?;
-    tell_states(writer, failed, past);
-    tell_params(writer, failed, past);
-    tell_opens(alloc, past, Some(past), writer, failed)?;
-    tell(writer, failed, more.as_slice());
+    tell_states(out, past);
+    tell_params(out, past);
+    tell_opens(alloc, past, Some(past), out)?;
+    out.say(more.as_slice());
     Ok(())
 }
 
@@ -121,11 +115,15 @@ pub fn rest_text(
         return Err(AllocError);
     };
     let mut text = Vec::new(alloc);
-    let mut failed = false;
-    tell_params(&mut text, &mut failed, &past);
-    tell_opens(alloc, &past, Some(&past), &mut text, &mut failed)?;
-    tell_all_members(&mut text, &mut failed, &past);
-    if failed { Err(AllocError) } else { Ok(text) }
+    let mut out = Out::new(&mut text);
+    tell_params(&mut out, &past);
+    tell_opens(alloc, &past, Some(&past), &mut out)?;
+    tell_all_members(&mut out, &past);
+    if out.failed {
+        Err(AllocError)
+    } else {
+        Ok(text)
+    }
 }
 
 /// How all stood behind the entries of a past, as a text: the lines of `tell_standing`, where only requests of objects
@@ -139,7 +137,11 @@ pub fn past_text(alloc: Global, past: &Past) -> Result<Vec<u8>, AllocError>
         TellsStanding past.now.format past.now.books.domain past.now.books.journal text.items) }
 {
     let mut text = Vec::new(alloc);
-    let mut failed = false;
-    tell_past(alloc, past, &mut text, &mut failed)?;
-    if failed { Err(AllocError) } else { Ok(text) }
+    let mut out = Out::new(&mut text);
+    tell_past(alloc, past, &mut out)?;
+    if out.failed {
+        Err(AllocError)
+    } else {
+        Ok(text)
+    }
 }

@@ -5,3 +5,4 @@ pub mod Paths
 pub mod Refused
 pub mod Performed
 pub mod States
+pub mod Printed

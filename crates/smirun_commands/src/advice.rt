@@ -12,6 +12,7 @@ use explain_runs::{tell_dead, tell_device_lines, tell_full, tell_length, tell_re
 use smi_journal::Entry;
 use sml_domain::Domain;
 use sml_text::{Sink, put};
+use sml_writer::Out;
 use std::alloc::Global;
 use std::sync::Arc;
 
@@ -37,12 +38,11 @@ impl Advice {
         if !self.is_wanted {
             return;
         }
-        let mut failed = false;
         let _ = match fault {
             Fault::Read(_, error) => {
-                explain_read(alloc, file, text, error, &mut self.text, &mut failed)
+                explain_read(alloc, file, text, error, &mut Out::new(&mut self.text))
             }
-            Fault::Check(..) => explain_check(alloc, file, text, &mut self.text, &mut failed),
+            Fault::Check(..) => explain_check(alloc, file, text, &mut Out::new(&mut self.text)),
             _ => Ok(()),
         };
     }
@@ -51,8 +51,7 @@ impl Advice {
     /// its first token.
     pub fn of_good_domain(&mut self, file: &str, text: &[u8]) {
         if self.is_wanted {
-            let mut failed = false;
-            explain_good(file, text, &mut self.text, &mut failed);
+            explain_good(file, text, &mut Out::new(&mut self.text));
         }
     }
 
@@ -60,8 +59,7 @@ impl Advice {
     /// the text up to the difference, and of the line in both texts.
     pub(crate) fn of_difference(&mut self, file: &str, difference: &Difference<'_>) {
         if self.is_wanted {
-            let mut failed = false;
-            difference.explain(file, &mut self.text, &mut failed);
+            difference.explain(file, &mut Out::new(&mut self.text));
         }
     }
 
@@ -73,13 +71,17 @@ impl Advice {
         }
         if let Fault::BadLine(_, number) = fault {
             let number = *number as usize;
-            let mut failed = false;
             let line = SourceLine {
                 file,
                 number,
                 text: line_of(text, number),
             };
-            explain_bad_line(LineKind::Script, domain, &line, &mut self.text, &mut failed);
+            explain_bad_line(
+                LineKind::Script,
+                domain,
+                &line,
+                &mut Out::new(&mut self.text),
+            );
         }
     }
 
@@ -94,8 +96,14 @@ impl Advice {
         text: &[u8],
     ) {
         if self.is_wanted {
-            let mut failed = false;
-            explain_bad_lines(alloc, kind, domain, file, text, &mut self.text, &mut failed);
+            explain_bad_lines(
+                alloc,
+                kind,
+                domain,
+                file,
+                text,
+                &mut Out::new(&mut self.text),
+            );
         }
     }
 
@@ -104,8 +112,7 @@ impl Advice {
     /// requests.
     pub fn of_requests(&mut self, alloc: Global, domain: &Arc<Domain>, file: &str, text: &[u8]) {
         if self.is_wanted {
-            let mut failed = false;
-            let _ = explain_requests(alloc, domain, file, text, &mut self.text, &mut failed);
+            let _ = explain_requests(alloc, domain, file, text, &mut Out::new(&mut self.text));
         }
     }
 
@@ -113,8 +120,7 @@ impl Advice {
     /// then how many others there are. The cost is the length of the text, twice.
     pub fn of_devices(&mut self, alloc: Global, domain: &Domain, file: &str, text: &[u8]) {
         if self.is_wanted {
-            let mut failed = false;
-            let _ = tell_device_lines(alloc, domain, file, text, &mut self.text, &mut failed);
+            let _ = tell_device_lines(alloc, domain, file, text, &mut Out::new(&mut self.text));
         }
     }
 
@@ -124,16 +130,14 @@ impl Advice {
         if !self.is_wanted {
             return;
         }
-        let mut failed = false;
         match fault {
-            Fault::BadHeader(_) => explain_bad_header(file, text, &mut self.text, &mut failed),
+            Fault::BadHeader(_) => explain_bad_header(file, text, &mut Out::new(&mut self.text)),
             Fault::BadLine(_, number) => explain_bad_entry(
                 domain,
                 file,
                 text,
                 *number as usize,
-                &mut self.text,
-                &mut failed,
+                &mut Out::new(&mut self.text),
             ),
             _ => {}
         }
@@ -143,8 +147,7 @@ impl Advice {
     /// for whom. The cost is that of the entries, and if an object waits, that of judging them.
     pub fn of_run(&mut self, alloc: Global, domain: &Arc<Domain>, entries: &[Entry]) {
         if self.is_wanted {
-            let mut failed = false;
-            let _ = tell_reasons(alloc, domain, entries, &mut self.text, &mut failed);
+            let _ = tell_reasons(alloc, domain, entries, &mut Out::new(&mut self.text));
         }
     }
 
@@ -159,15 +162,13 @@ impl Advice {
     ) {
         if self.is_wanted {
             let most = LONGEST_JOURNAL as u64;
-            let mut failed = false;
             let _ = tell_length(
                 alloc,
                 domain,
                 path,
                 entries,
                 most,
-                &mut self.text,
-                &mut failed,
+                &mut Out::new(&mut self.text),
             );
         }
     }
@@ -176,8 +177,7 @@ impl Advice {
     /// this capacity; nothing if none did.
     pub fn of_full(&mut self, session: usize, count: u64, capacity: usize) {
         if self.is_wanted {
-            let mut failed = false;
-            tell_full(&mut self.text, &mut failed, session, count, capacity);
+            tell_full(&mut Out::new(&mut self.text), session, count, capacity);
         }
     }
 
@@ -185,8 +185,7 @@ impl Advice {
     /// if none did.
     pub fn of_dead(&mut self, session: usize, count: u64) {
         if self.is_wanted {
-            let mut failed = false;
-            tell_dead(&mut self.text, &mut failed, session, count);
+            tell_dead(&mut Out::new(&mut self.text), session, count);
         }
     }
 

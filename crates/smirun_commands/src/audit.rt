@@ -17,6 +17,7 @@ use smi_audit::{Judgement, audit};
 use smi_journal::read_journal;
 use sml_domain::Domain;
 use sml_text::{Sink, put};
+use sml_writer::Out;
 use std::alloc::{AllocError, Global};
 use std::fs::Files;
 use std::io::{Read, Write};
@@ -138,20 +139,21 @@ pub(crate) fn tell_against<E: Write>(
     judgement: Judgement,
     errors: &mut E,
 ) {
-    if explain_judgement(heap, domain, Some(text), bytes, judgement, errors).is_err() {
+    let mut out = Out::new(&mut *errors);
+    if explain_judgement(heap, domain, Some(text), bytes, judgement, &mut out).is_err() {
         let _ = Fault::Memory.tell(errors);
     }
 }
 
-// Writes the explanation of the illegal line, if there is one, with its place in the domain's text if that is there. A
-// fault of the writer changes nothing.
+// Writes the explanation of the illegal line, if there is one, with its place in the domain's text if that is there.
+// The error is out of memory.
 pub(crate) fn explain_judgement<E: Sink>(
     heap: Global,
     domain: &Arc<Domain>,
     text: Option<DomainText<'_>>,
     bytes: &[u8],
     judgement: Judgement,
-    errors: &mut E,
+    out: &mut Out<'_, E>,
 ) -> Result<(), AllocError> {
     if judgement == Judgement::Legal {
         return Ok(());
@@ -160,7 +162,6 @@ pub(crate) fn explain_judgement<E: Sink>(
         return Err(AllocError);
     };
     let shared = Arc::try_clone(domain)?;
-    let mut failed = false;
     explain(
         heap,
         format,
@@ -168,8 +169,7 @@ pub(crate) fn explain_judgement<E: Sink>(
         text,
         journal.entries(),
         judgement,
-        errors,
-        &mut failed,
+        out,
     )
 }
 

@@ -7,6 +7,7 @@ use crate::loading::load_domain;
 use show_pictures::{GraphParts, RunFiles, Window, tell_graph, tell_life};
 use smi_journal::read_journal;
 use sml_domain::Domain;
+use sml_writer::Out;
 use std::alloc::{AllocError, Global};
 use std::fs::Files;
 use std::io::{BufWriter, Read, Write};
@@ -100,11 +101,10 @@ fn draw_domain<'a, W: Write>(
     let Ok(mut writer) = BufWriter::new(heap, &mut *output) else {
         return Err(Fault::Memory);
     };
-    let mut failed = false;
+    let mut out = Out::new(&mut writer);
     let drawn = tell_graph(
         heap,
-        &mut writer,
-        &mut failed,
+        &mut out,
         domain,
         options.file.as_bytes(),
         GraphParts {
@@ -112,6 +112,7 @@ fn draw_domain<'a, W: Write>(
             members: options.members,
         },
     );
+    let failed = out.failed;
     finish(&mut writer, failed, drawn)
 }
 
@@ -131,11 +132,10 @@ fn draw_run<'a, W: Write>(
     let Ok(mut writer) = BufWriter::new(heap, &mut *output) else {
         return Err(Fault::Memory);
     };
-    let mut failed = false;
+    let mut out = Out::new(&mut writer);
     let drawn = tell_life(
         heap,
-        &mut writer,
-        &mut failed,
+        &mut out,
         domain,
         &RunFiles {
             domain: options.file.as_bytes(),
@@ -147,6 +147,7 @@ fn draw_run<'a, W: Write>(
             count: options.count,
         },
     );
+    let failed = out.failed;
     match finish(&mut writer, failed, drawn) {
         Ok(()) => Ok(journal.entries().len()),
         Err(fault) => Err(fault),

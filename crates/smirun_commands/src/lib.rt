@@ -42,6 +42,7 @@ pub use list::run_list;
 pub use loading::{domain_of_bytes, load_domain};
 pub use page::{PageOptions, run_page};
 pub use print::{PrintOptions, print_text, run_print};
+pub use print_check::check_print;
 pub use same_file::is_one_read;
 pub use schedules::look_at_schedule;
 pub use smi_core::{LONGEST_SCHEDULE, MAX_CAPACITY, MAX_STARTS};

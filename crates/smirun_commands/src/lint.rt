@@ -10,6 +10,7 @@ use bumpalo::Bump;
 use explain_lint::{Lines, Warning, explain_warning, tell_warning, warnings_of};
 use sml_domain::Domain;
 use sml_text::{Sink, put};
+use sml_writer::Out;
 use std::alloc::{AllocError, Global};
 use std::fs::Files;
 use std::io::{BufWriter, Read, Write};
@@ -156,11 +157,11 @@ fn lint_text<W: Write, E: Write>(
 
 // Writes the lines of warnings, and returns whether all were written.
 fn tell_warnings<W: Sink>(file: &str, lines: &Lines, warnings: &[Warning], writer: &mut W) -> bool {
-    let mut failed = false;
+    let mut out = Out::new(writer);
     for warning in warnings {
-        tell_warning(writer, &mut failed, file, warning, lines.place(warning.at));
+        tell_warning(&mut out, file, warning, lines.place(warning.at));
     }
-    !failed
+    !out.failed
 }
 
 // What is said of warnings on a file. The error is out of memory.
@@ -171,9 +172,13 @@ fn explained(
     warnings: &[Warning],
 ) -> Result<Vec<u8>, AllocError> {
     let mut text = Vec::new(heap);
-    let mut failed = false;
+    let mut out = Out::new(&mut text);
     for warning in warnings {
-        explain_warning(&mut text, &mut failed, domain, source, warning);
+        explain_warning(&mut out, domain, source, warning);
     }
-    if failed { Err(AllocError) } else { Ok(text) }
+    if out.failed {
+        Err(AllocError)
+    } else {
+        Ok(text)
+    }
 }

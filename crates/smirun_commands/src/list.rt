@@ -5,6 +5,7 @@ use crate::fault::Fault;
 use crate::loading::load_domain;
 use show_lists::tell_list;
 use sml_domain::Domain;
+use sml_writer::Out;
 use std::alloc::Global;
 use std::fs::Files;
 use std::io::{BufWriter, Read, Write};
@@ -29,8 +30,9 @@ fn list_all<'a, W: Write>(heap: Global, domain: &Domain, output: &mut W) -> Resu
     let Ok(mut writer) = BufWriter::new(heap, &mut *output) else {
         return Err(Fault::Memory);
     };
-    let mut failed = false;
-    tell_list(&mut writer, &mut failed, domain);
+    let mut out = Out::new(&mut writer);
+    tell_list(&mut out, domain);
+    let failed = out.failed;
     match writer.flush() {
         Ok(()) if !failed => Ok(()),
         _ => Err(Fault::Output),

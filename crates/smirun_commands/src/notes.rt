@@ -6,6 +6,7 @@ use smi_core::{Answer, Core, Lookout, Step, StepError, Taken};
 use smi_journal::Entry;
 use sml_domain::Domain;
 use sml_text::{Sink, put};
+use sml_writer::Out;
 use std::alloc::{AllocError, Global};
 use std::sync::Arc;
 
@@ -71,13 +72,11 @@ impl<E: Sink> Lookout for Notes<'_, '_, E> {
     fn bad_line(&mut self, core: &Core, taken: Taken<'_>) {
         self.is_refused = true;
         if self.options.explain {
-            let mut failed = false;
             explain_bad_line(
                 LineKind::Schedule,
                 core.domain(),
                 &told(self.options.schedule, taken),
-                &mut self.text,
-                &mut failed,
+                &mut Out::new(&mut self.text),
             );
             self.write_told();
         }
@@ -100,15 +99,13 @@ impl<E: Sink> Lookout for Notes<'_, '_, E> {
         };
         self.is_refused = true;
         if self.options.explain {
-            let mut failed = false;
             explain_refused(
                 &self.history,
                 core.domain(),
                 &told(self.options.schedule, taken),
                 step,
                 *error,
-                &mut self.text,
-                &mut failed,
+                &mut Out::new(&mut self.text),
             );
             self.write_told();
         }

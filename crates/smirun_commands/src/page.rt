@@ -8,6 +8,7 @@ use show_lists::tell_list;
 use show_page::{Page, tell_page};
 use smi_audit::Judgement;
 use sml_domain::Domain;
+use sml_writer::Out;
 use std::alloc::{AllocError, Global};
 use std::fs::Files;
 use std::io::{BufWriter, Read, Write};
@@ -90,11 +91,15 @@ fn texts_of(
     judgement: Judgement,
 ) -> Result<Texts, AllocError> {
     let mut reason = Vec::new(heap);
-    explain_judgement(heap, domain, None, bytes, judgement, &mut reason)?;
+    let mut about = Out::new(&mut reason);
+    explain_judgement(heap, domain, None, bytes, judgement, &mut about)?;
+    if about.failed {
+        return Err(AllocError);
+    }
     let mut list = Vec::new(heap);
-    let mut failed = false;
-    tell_list(&mut list, &mut failed, domain);
-    if failed {
+    let mut out = Out::new(&mut list);
+    tell_list(&mut out, domain);
+    if out.failed {
         return Err(AllocError);
     }
     let ruling = format!(in heap; "{judgement}")?;
@@ -114,8 +119,9 @@ fn write_page<'a, W: Write>(
     let Ok(mut writer) = BufWriter::new(heap, &mut *output) else {
         return Err(Fault::Memory);
     };
-    let mut failed = false;
-    tell_page(&mut writer, &mut failed, page);
+    let mut out = Out::new(&mut writer);
+    tell_page(&mut out, page);
+    let failed = out.failed;
     match writer.flush() {
         Ok(()) if !failed => Ok(()),
         _ => Err(Fault::Output),

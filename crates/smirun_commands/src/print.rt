@@ -117,7 +117,10 @@ pub(crate) fn print_in_arena<'a, W: Write>(
     file: &'a str,
     text: &[u8],
     writer: &mut W,
-) -> Result<(), Fault<'a>> {
+) -> Result<(), Fault<'a>>
+    ensures printed { OnOk result ((said : List ItemData) × IsFileOf text.now said
+        × Wrote (W.contents writer.old) (W.contents writer.new) (file_text said)) }
+{
     let mut arena = Bump::new(heap);
     if let Err(fault) = print_text(&arena, file, text, writer) {
         return Err(fault);

@@ -1,5 +1,6 @@
 //! Whether a domain's text is what `print` would write of it, and if not, where it differs.
-ghost use Rattle.std.specs.Prelude.{◌≤◌, IfOk};
+ghost use Rattle.std.specs.Prelude.{◌≡◌, ◌≤◌, ◌↔◌, IfOk, None, false};
+ghost use Rattle.smirun_commands.specs.Printed.{IsCompared};
 
 use crate::advice::Advice;
 use crate::audit::tell_text;
@@ -8,7 +9,8 @@ use crate::print::PrintOptions;
 use crate::print_kept::printed_text;
 use crate::status::{DONE, REFUSED};
 use explain_places::{Position, place_of, tell_place, tell_quoted};
-use sml_text::{Sink, tell};
+use sml_text::Sink;
+use sml_writer::Out;
 use std::alloc::Global;
 use std::io::Write;
 
@@ -23,7 +25,9 @@ pub(crate) struct Difference<'a> {
 
 impl<'a> Difference<'a> {
     // None if both are the same.
-    fn first(text: &'a [u8], printed: &'a [u8]) -> Option<Difference<'a>> {
+    fn first(text: &'a [u8], printed: &'a [u8]) -> Option<Difference<'a>>
+        ensures { result ≡ None ↔ text.now ≡ printed.now }
+    {
         if text == printed {
             return None;
         }
@@ -41,17 +45,17 @@ impl<'a> Difference<'a> {
 
     /// Writes the place, what is expected and what stands there, the line of the text and, if more would be printed,
     /// that line, both with a caret. The cost is the offset, and the length of both lines.
-    pub(crate) fn explain<W: Sink>(&self, file: &str, writer: &mut W, failed: &mut bool) {
-        tell_place(writer, failed, file, self.place());
-        tell(writer, failed, b"expected ");
-        tell_byte(writer, failed, self.printed.get(self.offset));
-        tell(writer, failed, b", found ");
-        tell_byte(writer, failed, self.text.get(self.offset));
-        tell(writer, failed, b"\n");
-        tell_quoted(writer, failed, self.text, self.offset);
+    pub(crate) fn explain<W: Sink>(&self, file: &str, out: &mut Out<'_, W>) {
+        tell_place(out, file, self.place());
+        out.say(b"expected ");
+        tell_byte(out, self.printed.get(self.offset));
+        out.say(b", found ");
+        tell_byte(out, self.text.get(self.offset));
+        out.say(b"\n");
+        tell_quoted(out, self.text, self.offset);
         if self.offset < self.printed.len() {
-            tell(writer, failed, b"is printed as\n");
-            tell_quoted(writer, failed, self.printed, self.offset);
+            out.say(b"is printed as\n");
+            tell_quoted(out, self.printed, self.offset);
         }
     }
 }
@@ -65,15 +69,15 @@ fn same_in_front(one: &[u8], other: &[u8]) -> usize {
 }
 
 // Writes what stands at a place of a text.
-fn tell_byte<W: Sink>(writer: &mut W, failed: &mut bool, byte: Option<&u8>) {
+fn tell_byte<W: Sink>(out: &mut Out<'_, W>, byte: Option<&u8>) {
     match byte.copied() {
-        None => tell(writer, failed, b"the end of the text"),
-        Some(b'\n') => tell(writer, failed, b"a line feed"),
-        Some(b'\r') => tell(writer, failed, b"a carriage return"),
-        Some(b'\t') => tell(writer, failed, b"a tab"),
-        Some(b' ') => tell(writer, failed, b"a blank"),
-        Some(shown @ 0x21..=0x7E) => tell(writer, failed, &[b'`', shown, b'`']),
-        Some(_) => tell(writer, failed, b"a byte that is not shown"),
+        None => out.say(b"the end of the text"),
+        Some(b'\n') => out.say(b"a line feed"),
+        Some(b'\r') => out.say(b"a carriage return"),
+        Some(b'\t') => out.say(b"a tab"),
+        Some(b' ') => out.say(b"a blank"),
+        Some(shown @ 0x21..=0x7E) => out.say(&[b'`', shown, b'`']),
+        Some(_) => out.say(b"a byte that is not shown"),
     }
 }
 
@@ -81,42 +85,39 @@ fn tell_byte<W: Sink>(writer: &mut W, failed: &mut bool, byte: Option<&u8>) {
 /// `FILE differs at LINE:COLUMN`, and the advice on that goes to `advice`.
 ///
 /// The cost is that of printing it. The error is the fault of the text, Output or Memory.
-pub(crate) fn check_print<'a, W: Write>(
+pub fn check_print<'a, W: Write>(
     heap: Global,
     options: &PrintOptions<'a>,
     text: &[u8],
     output: &mut W,
     advice: &mut Advice,
 ) -> Result<u8, Fault<'a>>
-    ensures { IfOk result (λ status. status ≤ 1) }
+    ensures compared { options.now.keep ≡ false → IfOk result (IsCompared text.now) }
+    ensures range { IfOk result (λ status. status ≤ 1) }
 {
     let printed = match printed_text(heap, options.file, options.keep, text) {
         Ok(printed) => printed,
         Err(fault) => return Err(fault),
     };
-    match Difference::first(text, printed.as_slice()) {
-        None => Ok(DONE),
-        Some(difference) => {
-            advice.of_difference(options.file, &difference);
-            tell_differs(heap, options.file, difference.place(), output)
-        }
+    let Some(difference) = Difference::first(text, printed.as_slice()) else {
+        return Ok(DONE);
+    };
+    advice.of_difference(options.file, &difference);
+    match tell_differs(heap, options.file, difference.place(), output) {
+        Ok(()) => Ok(REFUSED),
+        Err(fault) => Err(fault),
     }
 }
 
-// Writes that a file differs there from what would be printed, and returns the status.
+// Writes that a file differs there from what would be printed.
 fn tell_differs<'a, W: Write>(
     heap: Global,
     file: &str,
     place: Position,
     output: &mut W,
-) -> Result<u8, Fault<'a>>
-    ensures { IfOk result (λ status. status ≤ 1) }
-{
+) -> Result<(), Fault<'a>> {
     let Ok(line) = format!(in heap; "{file} differs at {}:{}\n", place.line, place.column) else {
         return Err(Fault::Memory);
     };
-    match tell_text(line.as_bytes(), output) {
-        Ok(()) => Ok(REFUSED),
-        Err(fault) => Err(fault),
-    }
+    tell_text(line.as_bytes(), output)
 }

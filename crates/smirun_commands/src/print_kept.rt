@@ -1,4 +1,6 @@
 //! What `print` writes of a domain's text, made in memory, and with `--keep` written.
+ghost use Rattle.std.specs.Prelude.{◌≡◌, IfOk, false};
+ghost use Rattle.smirun_commands.specs.Printed.{IsPrintOf};
 
 use crate::audit::tell_text;
 use crate::fault::Fault;
@@ -28,7 +30,9 @@ pub(crate) fn printed_text<'a>(
     file: &'a str,
     keep: bool,
     text: &[u8],
-) -> Result<Vec<u8>, Fault<'a>> {
+) -> Result<Vec<u8>, Fault<'a>>
+    ensures { keep ≡ false → IfOk result (λ printed. IsPrintOf text.now printed.items) }
+{
     match canonical_text(heap, file, text) {
         Ok(canonical) if keep => with_kept(heap, text, canonical.as_slice()),
         printed => printed,
@@ -36,7 +40,9 @@ pub(crate) fn printed_text<'a>(
 }
 
 // The canonical text of the file that a text says.
-fn canonical_text<'a>(heap: Global, file: &'a str, text: &[u8]) -> Result<Vec<u8>, Fault<'a>> {
+fn canonical_text<'a>(heap: Global, file: &'a str, text: &[u8]) -> Result<Vec<u8>, Fault<'a>>
+    ensures { IfOk result (λ printed. IsPrintOf text.now printed.items) }
+{
     let mut canonical = Vec::new(heap);
     match print_in_arena(heap, file, text, &mut canonical) {
         Ok(()) => Ok(canonical),

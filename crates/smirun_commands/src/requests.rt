@@ -4,8 +4,9 @@ use explain_lines::{History, LineKind, SourceLine, explain_bad_line, explain_ref
 use smi_core::{Step, StepError, read_step};
 use smi_journal_entries::{AddressError, address};
 use sml_domain::Domain;
-use sml_text::{Sink, tell, tell_u64};
+use sml_text::Sink;
 use sml_tree::Name;
+use sml_writer::Out;
 use std::alloc::{AllocError, Global};
 use std::sync::Arc;
 
@@ -80,8 +81,7 @@ pub(crate) fn explain_requests<W: Sink>(
     domain: &Arc<Domain>,
     file: &str,
     text: &[u8],
-    writer: &mut W,
-    failed: &mut bool,
+    out: &mut Out<'_, W>,
 ) -> Result<(), AllocError> {
     let history = History::new(alloc, domain)?;
     let mut count = 0usize;
@@ -96,10 +96,10 @@ pub(crate) fn explain_requests<W: Sink>(
                 number: place.saturating_add(1),
                 text: bytes,
             };
-            explain_refused(&history, domain, &line, &step, error, writer, failed);
+            explain_refused(&history, domain, &line, &step, error, out);
         }
     }
-    tell_others(writer, failed, file, count.saturating_sub(MOST_TOLD));
+    tell_others(out, file, count.saturating_sub(MOST_TOLD));
     Ok(())
 }
 
@@ -110,8 +110,7 @@ pub(crate) fn explain_bad_lines<W: Sink>(
     domain: &Domain,
     file: &str,
     text: &[u8],
-    writer: &mut W,
-    failed: &mut bool,
+    out: &mut Out<'_, W>,
 ) {
     let mut count = 0usize;
     let mut said = Vec::new(alloc);
@@ -122,23 +121,27 @@ pub(crate) fn explain_bad_lines<W: Sink>(
             text: bytes,
         };
         said.clear();
-        explain_bad_line(kind, domain, &line, &mut said, failed);
+        let mut about = Out::new(&mut said);
+        explain_bad_line(kind, domain, &line, &mut about);
+        if about.failed {
+            out.failed = true;
+        }
         if said.len() > 0 {
             count = count.saturating_add(1);
             if count <= MOST_TOLD {
-                tell(writer, failed, said.as_slice());
+                out.say(said.as_slice());
             }
         }
     }
-    tell_others(writer, failed, file, count.saturating_sub(MOST_TOLD));
+    tell_others(out, file, count.saturating_sub(MOST_TOLD));
 }
 
 // How many others there are, if any.
-fn tell_others<W: Sink>(writer: &mut W, failed: &mut bool, file: &str, count: usize) {
+fn tell_others<W: Sink>(out: &mut Out<'_, W>, file: &str, count: usize) {
     if count > 0 {
-        tell(writer, failed, file.as_bytes());
-        tell(writer, failed, b": ");
-        tell_u64(writer, failed, count as u64);
-        tell(writer, failed, b" more refused\n");
+        out.say(file.as_bytes());
+        out.say(b": ");
+        out.number(count as u64);
+        out.say(b" more refused\n");
     }
 }

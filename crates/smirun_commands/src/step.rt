@@ -32,6 +32,7 @@ use smi_core::{Core, Input, Lookout, run_watched_schedule};
 use smi_journal::write_journal;
 use sml_domain::Domain;
 use sml_text::{Sink, WriteFault, put};
+use sml_writer::Out;
 use std::alloc::{AllocError, Global};
 use std::cell::RefCell;
 use std::fs;
@@ -413,16 +414,13 @@ fn standing_text<N: Recording>(
     notes: &N,
 ) -> Result<Vec<u8>, AllocError> {
     let mut text = Vec::new(heap);
-    let mut failed = false;
-    tell_standing(
-        heap,
-        notes.domain(),
-        core,
-        notes.history(),
-        &mut text,
-        &mut failed,
-    )?;
-    if failed { Err(AllocError) } else { Ok(text) }
+    let mut out = Out::new(&mut text);
+    tell_standing(heap, notes.domain(), core, notes.history(), &mut out)?;
+    if out.failed {
+        Err(AllocError)
+    } else {
+        Ok(text)
+    }
 }
 
 /// Runs the steps of a schedule of this path in a core, and writes what they write. The lookout hears of each line.

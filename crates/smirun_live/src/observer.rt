@@ -6,7 +6,7 @@ use smi_core::{Answer, Core, Lookout, Step, StepError, Taken};
 use smi_journal::Entry;
 use smi_live::Observer;
 use sml_domain::{Domain, ObjId};
-use sml_text::{tell, tell_u64};
+use sml_writer::Out;
 use std::alloc::{AllocError, Global};
 use std::sync::Arc;
 
@@ -63,9 +63,9 @@ impl<'a> LiveNotes<'a> {
             return;
         }
         self.is_limit_told = true;
-        let mut failed = false;
-        tell(remark, &mut failed, self.file.as_bytes());
-        tell(remark, &mut failed, b" limit\n");
+        let mut out = Out::new(remark);
+        out.say(self.file.as_bytes());
+        out.say(b" limit\n");
     }
 
     /// Whether an action is open at an object.
@@ -75,16 +75,9 @@ impl<'a> LiveNotes<'a> {
 
     /// Writes how all stands. The error is out of memory; then less is written, or nothing.
     pub(crate) fn tell_states(&self, core: &Core, text: &mut Vec<u8>) -> Result<(), AllocError> {
-        let mut failed = false;
-        tell_standing(
-            self.alloc,
-            &self.domain,
-            core,
-            &self.history,
-            text,
-            &mut failed,
-        )?;
-        if failed { Err(AllocError) } else { Ok(()) }
+        let mut out = Out::new(text);
+        tell_standing(self.alloc, &self.domain, core, &self.history, &mut out)?;
+        if out.failed { Err(AllocError) } else { Ok(()) }
     }
 }
 
@@ -112,13 +105,11 @@ impl Lookout for LiveNotes<'_> {
         }
         let line = told(self.log, taken);
         let before = self.why.len();
-        let mut failed = false;
         explain_bad_line(
             LineKind::Schedule,
             core.domain(),
             &line,
-            &mut self.why,
-            &mut failed,
+            &mut Out::new(&mut self.why),
         );
         if self.why.len() == before {
             explain_own_line(&line, &mut self.why);
@@ -143,7 +134,6 @@ impl Lookout for LiveNotes<'_> {
             self.is_start_refused = true;
         }
         if self.explain {
-            let mut failed = false;
             let line = told(self.log, taken);
             explain_refused(
                 &self.history,
@@ -151,8 +141,7 @@ impl Lookout for LiveNotes<'_> {
                 &line,
                 step,
                 *error,
-                &mut self.why,
-                &mut failed,
+                &mut Out::new(&mut self.why),
             );
         }
     }
@@ -160,21 +149,16 @@ impl Lookout for LiveNotes<'_> {
 
 // Writes why a line is refused that is one of the manager's own steps.
 fn explain_own_line(line: &SourceLine<'_>, why: &mut Vec<u8>) {
-    let mut failed = false;
-    tell(why, &mut failed, line.file.as_bytes());
-    tell(why, &mut failed, b":");
-    tell_u64(why, &mut failed, line.number as u64);
-    tell(
-        why,
-        &mut failed,
-        b": the manager makes every `start` and every `go` by itself\n",
-    );
+    let mut out = Out::new(why);
+    out.say(line.file.as_bytes());
+    out.say(b":");
+    out.number(line.number as u64);
+    out.say(b": the manager makes every `start` and every `go` by itself\n");
 }
 
 impl Observer for LiveNotes<'_> {
     fn remark(&mut self, core: &Core, is_asked: bool, remark: &mut Vec<u8>) {
-        let mut failed = false;
-        tell(remark, &mut failed, self.why.as_slice());
+        Out::new(&mut *remark).say(self.why.as_slice());
         self.why.clear();
         self.tell_limit(remark);
         if is_asked {

@@ -1,41 +1,17 @@
 -- Lines that are written one after the other.
 use Rattle.std.proofs.Common.{◌≡◌, ◌∙◌, sym, ap, refl, ℕ, zero, suc, ◌+◌, ◌<◌, List, [], ◌∷◌, ◌++◌, length, map}
-use Rattle.std.proofs.Common.{flat_map, Option, Bool, arith}
+use Rattle.std.proofs.Common.{flat_map, arith}
 use Rattle.std.specs.List.{range_with_len}
-use Rattle.std.proofs.KnownBytes.{Appends-nil}
 use Rattle.std.proofs.lemmas.List.{flat_map_more}
 use Rattle.std.proofs.lemmas.List.Concat.{flat_map-append}
 use Rattle.std.proofs.lemmas.List.Folds.{flat_map-map}
-use Rattle.sml_text.specs.Written.{Told}
 use Rattle.sml_text.specs.Decimal.{decimal_text}
-use Rattle.sml_text.proofs.Writes.{told_both, told_as}
 use Rattle.sml_domain.specs.Domain.{Domain}
 use Rattle.smi_journal_entries.specs.declared.entry.Sender.{Sender}
 use Rattle.smi_journal_entries.specs.declared.entry.Sender.TheVariants.{Operator, Object}
 use Rattle.smi_mail.proofs.Opening.{range_more}
 use Rattle.smi_mail.specs.declared.mailboxes.TheConstants.{MAX_SESSIONS}
 use Rattle.smirun_run.specs.Summary.{all_senders, counted_line}
-
-module _ {old new mid : Option (List ℕ)} {f g h : Bool} {bs cs : List ℕ} where
-  -- one text behind the other
-  pub then_told : Told old f mid g bs → Told mid g new h cs → Told old f new h (bs ++ cs)
-  then_told x y = told_both old f mid g new h bs cs x y
-
--- the same text, said otherwise
-pub said : {old new : Option (List ℕ)} {f h : Bool} {bs cs : List ℕ} →
-    Told old f new h bs → bs ≡ cs → Told old f new h cs
-said {old} {new} {f} {h} {bs} {cs} x e = told_as old f new h bs cs x e
-
--- nothing was written
-pub told_nothing : {old : Option (List ℕ)} {f : Bool} → Told old f old f []
-told_nothing {old} {f} = record {
-  front = [];
-  rest = [];
-  split = refl;
-  appends = Appends-nil old;
-  whole = λ e. refl;
-  stays = λ e. (e, refl);
-}
 
 -- the lines of one place more
 pub line_more : (line : ℕ → List ℕ) (n : ℕ) →

@@ -194,7 +194,7 @@ fn tell_same<R: Files + AllocGlobal>(rt: &R, path: &str, place: &mut Place) -> i
     Ok(())
 }
 
-// Tells whether the last output has at most so many lines, and each at most so many bytes.
+// Tells whether the last output has no more lines than the first number, and none of more bytes than the second.
 fn tell_fit(words: &str, place: &mut Place) -> io::Result<()> {
     let (lines, columns) = words.split_once(' ').unwrap_or((words, ""));
     let columns = number(columns)?;

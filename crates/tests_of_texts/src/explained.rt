@@ -9,6 +9,7 @@ use explain_journals::explain;
 use smi_audit::{Judgement, Rule, audit};
 use smi_journal::read_journal;
 use sml_load::domain_of;
+use sml_writer::Out;
 use std::alloc::Global;
 use std::test::*;
 
@@ -22,7 +23,7 @@ fn told_of(alloc: Global, setting: Setting, text: &[u8], place: Place) -> Option
     let (line, rule) = place;
     let judgement = Judgement::Illegal { line, rule };
     let mut told = Vec::new(alloc);
-    let mut failed = false;
+    let mut out = Out::new(&mut told);
     explain(
         alloc,
         format,
@@ -30,11 +31,10 @@ fn told_of(alloc: Global, setting: Setting, text: &[u8], place: Place) -> Option
         None,
         journal.entries(),
         judgement,
-        &mut told,
-        &mut failed,
+        &mut out,
     )
     .ok()?;
-    if failed { None } else { Some(told) }
+    if out.failed { None } else { Some(told) }
 }
 
 // The first illegal line of a journal, and the first rule that it breaks.

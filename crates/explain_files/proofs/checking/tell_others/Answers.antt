@@ -1,9 +1,10 @@
-use Rattle.sml_text.proofs.Writes.{told_as}
-use Rattle.explain_files.proofs.Tolds.{then_told, others_whole}
+use Rattle.explain_files.proofs.Tolds.{others_whole}
+use Rattle.sml_writer.proofs.Telling.{tells_again, then_tells}
 use Rattle.explain_files.proofs.checking.tell_others.Goals as goal
 
-pub returns-clause-told : goal.returns-clause-told
-returns-clause-told g c =
-    let file = told_as _ _ _ _ _ _ c.tell.ensures.told c.as_bytes.ensures.value in
-    let word = told_as _ _ _ _ _ _ c.tell-3.ensures.told c.faults_word.ensures in
-    others_whole _ c.args.count c.requires (then_told (then_told (then_told file c.tell-2.ensures.told) c.tell_u64.ensures.told) word)
+pub returns : goal.returns
+returns g c =
+    let file = tells_again c.say.ensures c.as_bytes.ensures.value in
+    let word = tells_again c.say-3.ensures c.faults_word.ensures in
+    tells_again (then_tells (then_tells (then_tells file c.say-2.ensures) c.number.ensures) word)
+    (others_whole _ c.args.count c.requires)

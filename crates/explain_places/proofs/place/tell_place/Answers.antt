@@ -1,8 +1,7 @@
-use Rattle.sml_text.proofs.Writes.{told_as}
-use Rattle.explain_places.proofs.Tolds.{then_told}
+use Rattle.sml_writer.proofs.Telling.{tells_again, then_tells}
 use Rattle.explain_places.proofs.place.tell_place.Goals as goal
 
-pub returns-clause-told : goal.returns-clause-told
-returns-clause-told g c =
-    let file = told_as _ _ _ _ _ _ c.tell.ensures.told c.as_bytes.ensures.value in
-    then_told (then_told (then_told file c.tell-2.ensures.told) c.tell_spot.ensures.told) c.tell-3.ensures.told
+pub returns : goal.returns
+returns g c =
+    let file = tells_again c.say.ensures c.as_bytes.ensures.value in
+    then_tells (then_tells (then_tells file c.say-2.ensures) c.tell_spot.ensures) c.say-3.ensures

@@ -1,5 +1,5 @@
-use Rattle.show_states.proofs.Tolds.{then_told}
+use Rattle.sml_writer.proofs.Telling.{then_tells}
 use Rattle.show_states.proofs.lines.tell_spaced.Goals as goal
 
 pub returns : goal.returns
-returns g c = then_told c.tell.ensures.told c.tell_name.ensures
+returns g c = then_tells c.say.ensures c.tell_name.ensures

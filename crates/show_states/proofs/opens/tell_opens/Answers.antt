@@ -1,7 +1,8 @@
 use Rattle.std.proofs.Common.{◌++◌}
 use Rattle.smi_journal_entries.specs.Words.{open_at}
 use Rattle.show_states.specs.StandingText.{standing_open_line}
-use Rattle.show_states.proofs.Tolds.{open_lines_more, then_told, told_again}
+use Rattle.show_states.proofs.Tolds.{open_lines_more}
+use Rattle.sml_writer.proofs.Telling.{tells_again, then_tells}
 use Rattle.show_states.proofs.opens.tell_opens.Goals as goal
 
 -- what is open at one object more
@@ -15,7 +16,7 @@ loop-o-preserved g c =
     let lines = c.loop-o.invariant.0 in (
       lines ++ standing_open_line d o (open_at o J) waits,
       open_lines_more d J o lines waits c.loop-o.invariant.1,
-      then_told c.loop-o.invariant.2
-          (told_again c.in_ok-tell_open_at.ensures.1
+      then_tells c.loop-o.invariant.2
+          (tells_again c.in_ok-tell_open_at.ensures.1
           (λ i. standing_open_line d (c.new.ensures i) (open_at (c.new.ensures i) J) waits)),
     )

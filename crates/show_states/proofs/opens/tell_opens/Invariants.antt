@@ -1,5 +1,5 @@
 use Rattle.std.proofs.Common.{List, ℕ}
-use Rattle.sml_text.specs.Written.{Told}
+use Rattle.sml_writer.specs.Tells.{Tells}
 use Rattle.show_states.specs.StandingText.{AreOpenLines}
 use Rattle.show_states.proofs.opens.tell_opens.Given as goal
 
@@ -7,4 +7,4 @@ use Rattle.show_states.proofs.opens.tell_opens.Given as goal
 abbrev pub invariant-loop-o : goal.invariant-loop-o
 invariant-loop-o g l =
     (lines : List ℕ) × AreOpenLines (g.S.Standing.of_domain l.standing) (g.S.Standing.behind l.standing) l.o lines
-    × Told (g.W.Sink.contents l.fn.writer) l.fn.failed (g.W.Sink.contents l.writer) l.failed lines
+    × Tells g.W.Sink.contents g.W.Sink.has_refused l.fn.out l.out lines

@@ -1,6 +1,6 @@
 use Rattle.std.proofs.Common.{◌++◌, refl}
 use Rattle.show_states.specs.StandingText.{standing_states}
-use Rattle.show_states.proofs.Tolds.{then_told}
+use Rattle.sml_writer.proofs.Telling.{then_tells}
 use Rattle.show_states.proofs.standing.tell_past.Goals as goal
 
 pub returns : goal.returns
@@ -18,5 +18,5 @@ returns g c =
         are_opens = opens.1;
         whole = refl;
       },
-      then_told c.tell_states.ensures (then_told params.2 (then_told opens.2 c.tell.ensures.told)),
+      then_tells c.tell_states.ensures (then_tells params.2 (then_tells opens.2 c.say.ensures)),
     )

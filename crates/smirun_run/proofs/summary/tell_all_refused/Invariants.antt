@@ -1,11 +1,11 @@
 use Rattle.std.proofs.Common.{flat_map}
 use Rattle.std.specs.List.{range_with_len}
-use Rattle.sml_text.specs.Written.{Told}
+use Rattle.sml_writer.specs.Tells.{Tells}
 use Rattle.smirun_run.specs.Summary.{refused_line}
 use Rattle.smirun_run.proofs.summary.tell_all_refused.Given as goal
 
 -- what was written is the lines of the sessions before
 abbrev pub invariant-loop-place : goal.invariant-loop-place
 invariant-loop-place g l =
-    Told (g.W.Sink.contents l.fn.text) l.fn.failed (g.W.Sink.contents l.text) l.failed
+    Tells g.W.Sink.contents g.W.Sink.has_refused l.fn.out l.out
     (flat_map (refused_line l.refused) (range_with_len 0 l.place))

@@ -1,11 +1,11 @@
 use Rattle.std.proofs.Common.{flat_map}
 use Rattle.std.specs.List.{range_with_len}
-use Rattle.sml_text.specs.Written.{Told}
+use Rattle.sml_writer.specs.Tells.{Tells}
 use Rattle.smirun_run.specs.Summary.{stalled_line}
 use Rattle.smirun_run.proofs.summary.tell_all_stalled.Given as goal
 
 -- what was written is the lines of the objects before
 abbrev pub invariant-loop-o : goal.invariant-loop-o
 invariant-loop-o g l =
-    Told (g.W.Sink.contents l.fn.text) l.fn.failed (g.W.Sink.contents l.text) l.failed
+    Tells g.W.Sink.contents g.W.Sink.has_refused l.fn.out l.out
     (flat_map (stalled_line g.K.MailNames.names.domain l.report.journal) (range_with_len 0 l.o))
