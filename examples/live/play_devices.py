@@ -52,21 +52,34 @@ class Device:
 
     def __init__(self, name, asking, failure, factor):
         self.name, self.asking, self.failure, self.factor = name, asking, failure, factor
-        self.clock = None
+        # The request whose action it is at, by its sender and number. A clock's own thread ends an action.
+        self.request, self.clock, self.lock = None, None, threading.Lock()
 
-    def begin(self, action):
-        """Begins an action. One that is told again, because the manager was started again, goes on as it does."""
-        if self.clock is not None and self.clock.is_alive():
-            return
+    def begin(self, request, action):
+        """Begins the action of a request. One that is told again, because the manager was started again, goes on."""
+        with self.lock:
+            if self.request == request:
+                return
+            self.request = request
         state, seconds = ACTIONS[action]
         state, self.failure = self.failure or state, None
         line = f"fault {self.name}" if state == "FAULT" else f"answer {self.name} {state}"
-        self.clock = threading.Timer(seconds * self.factor, self.asking.ask, [line])
+        self.clock = threading.Timer(seconds * self.factor, self.end, [request, line])
         self.clock.daemon = True
         self.clock.start()
 
+    def end(self, request, line):
+        """The action of a request is done. It is ended before that is told, since the next may begin at once."""
+        with self.lock:
+            if self.request != request:
+                return
+            self.request = None
+        self.asking.ask(line)
+
     def stop(self):
         """The object was killed, or there is nothing to do: nothing is answered."""
+        with self.lock:
+            self.request = None
         if self.clock is not None:
             self.clock.cancel()
             self.clock = None
@@ -79,7 +92,7 @@ def follow(told, devices):
         words = line.split()
         device = devices.get(words[1]) if len(words) > 2 else None
         if device and words[0] == "start":  # start OBJECT SENDER NUMBER ACTION (arguments)
-            device.begin(words[4])
+            device.begin((words[2], words[3]), words[4])
         elif device and (words[0] == "kill" or words[0] == "end" and words[2] == "skipped"):
             device.stop()
 
