@@ -1,8 +1,8 @@
 //! Journals under the first line of either format: what splits a send, what sends to nobody, and what waits.
 
-use crate::changed::{Change, FormatRow, is_said_in_both};
-use crate::domains::Setting;
+use crate::changed_journals::{Change, FormatRow, is_said_in_both};
 use crate::judged::Said;
+use crate::settings::Setting;
 use crate::standard::STANDARD;
 use smi_audit::Rule;
 use std::test::*;

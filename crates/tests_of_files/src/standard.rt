@@ -1,8 +1,8 @@
 //! A run of two supplies that are switched on, and what may not be changed in its journal.
 
-use crate::changed::{Change, ChangeRow, is_said_changed};
-use crate::domains::Setting;
+use crate::changed_journals::{Change, ChangeRow, is_said_changed};
 use crate::judged::{Said, is_said};
+use crate::settings::Setting;
 use smi_audit::Rule;
 use std::test::*;
 

@@ -1,6 +1,6 @@
 //! What the judge says about journals.
 
-use crate::domains::{Setting, text_of};
+use crate::settings::{Setting, text_of};
 use smi_audit::{JournalError, Judgement, Rule, audit};
 use sml_load::domain_of;
 use std::alloc::Global;

@@ -1,6 +1,6 @@
 //! Illegal journals and their explanations: the line, one sentence, and the earlier line that this rests on.
 
-use crate::domains::Setting;
+use crate::settings::Setting;
 
 /// A row: its name, the domain, the lines of a journal behind its header, and what is said about the first illegal
 /// line.

@@ -1,7 +1,7 @@
 //! Illegal ends, kills, sends and changes of sets, and their explanations.
 
-use crate::domains::Setting;
 use crate::explained_rows::Explained;
+use crate::settings::Setting;
 
 /// An end, of what is not open, of another kind or in another state; and a kill of what is killed, or by a device
 /// that does nothing or is not there.

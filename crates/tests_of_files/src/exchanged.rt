@@ -1,8 +1,8 @@
 //! A run of forty lines, and what becomes of it where two neighbouring lines are exchanged.
 
-use crate::changed::{Change, is_said_changed, is_said_in_second};
-use crate::domains::Setting;
+use crate::changed_journals::{Change, is_said_changed, is_said_in_second};
 use crate::judged::Said;
+use crate::settings::Setting;
 use smi_audit::Rule;
 use std::test::*;
 

@@ -3,37 +3,14 @@
 ghost use Rattle.std.specs.Prelude.{◌≤◌, IfOk, length};
 
 use crate::cores::{core_of, written};
+use crate::one_byte::one_byte_writer;
 use crate::schedule_texts::CONFIGURE_READY;
 use crate::transcript::{Transcript, part_of, whole_of};
 use smi_core::{Core, ScheduleFault, run_schedule};
 use std::alloc::{AllocError, Global};
-use std::io::{Error, Read, Write};
+use std::io::{Error, Read};
 use std::test::Fail;
 use test_domains::SUPPLIES;
-
-// Takes one byte a call, and fails at a call.
-#[derive(Drop)]
-struct OneByte {
-    taken: Vec<u8>,
-    good_calls: usize,
-}
-
-impl Write for OneByte {
-    fn write(&mut self, buf: &[u8]) -> std::io::Result<usize> {
-        if self.taken.len() >= self.good_calls {
-            return Err(Error::from(AllocError));
-        }
-        let [first, ..] = buf else {
-            return Ok(0);
-        };
-        self.taken.push(*first)?;
-        Ok(1)
-    }
-
-    fn flush(&mut self) -> std::io::Result<()> {
-        Ok(())
-    }
-}
 
 // Reads the first bytes of a text, one a call, and then fails or reads line feeds for ever.
 #[derive(Drop)]
@@ -141,10 +118,7 @@ fn steps_made(alloc: Global, length: usize) -> Option<usize> {
 fn is_cut_at(alloc: Global, core: &mut Core, whole: &Transcript, room: usize) -> Option<bool> {
     let expected = whole.output.as_bytes().get(..room)?;
     let mut reader = whole.schedule.as_bytes();
-    let mut writer = OneByte {
-        taken: Vec::new(alloc),
-        good_calls: room,
-    };
+    let mut writer = one_byte_writer(alloc, room, true);
     let ran = run_schedule(alloc, core, &mut reader, &mut writer);
     Some(ran == Err(ScheduleFault::Write) && writer.taken.as_slice() == expected)
 }

@@ -1,7 +1,7 @@
 //! Journals of which some lines are changed.
 
-use crate::domains::Setting;
 use crate::judged::{Said, is_said, joined};
+use crate::settings::Setting;
 use std::alloc::Global;
 
 /// How a journal is changed. Lines count from 1, and the first one is the header.

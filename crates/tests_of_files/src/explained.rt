@@ -1,10 +1,10 @@
 //! The explanations of illegal lines.
 
-use crate::changed::{FIRST, SECOND};
-use crate::domains::{Setting, text_of};
+use crate::changed_journals::{FIRST, SECOND};
 use crate::explained_ends::{ENDS, SETS};
 use crate::explained_rows::{POSTS, READINGS, STARTS};
 use crate::judged::joined;
+use crate::settings::{Setting, text_of};
 use explain_journals::explain;
 use smi_audit::{Judgement, Rule, audit};
 use smi_journal::read_journal;
