@@ -5,38 +5,21 @@ ghost use Rattle.std.specs.Prelude.{◌≡◌, IfSome};
 ghost use Rattle.std.specs.Arc.{arc_value};
 ghost use Rattle.smi_mail.specs.Drains.{AreAllEnds};
 
+use crate::at_last::{boxes_at_last, domain_at_last};
 use crate::envelopes::request_by;
 use smi_journal::{Envelope, Sender};
 use smi_mail::{Drained, MailNames, Mailboxes, OperatorEnd, RuledMail, ruled};
 use sml_domain::{Domain, ObjId};
-use sml_load::domain_of;
 use std::alloc::Global;
 use std::marker::Brand;
 use std::sync::{Arc, Wait};
 use std::test::*;
 use test_domains::ALONE;
 
-// The domain, asked for a second time if it was refused.
-fn domain_at_last(alloc: Global) -> Option<Arc<Domain>> {
-    match domain_of(alloc, ALONE) {
-        Ok(domain) => Some(domain),
-        Err(_) => domain_of(alloc, ALONE).ok(),
-    }
-}
+// The capacity of the mailboxes, and their sessions.
+const CAPACITY: usize = 2;
 
-// Mailboxes for eight sessions, asked for a second time if they were refused.
-fn boxes_at_last<R: Wait + Copy + Send + Drop>(
-    rt: R,
-    alloc: Global,
-    domain: &Arc<Domain>,
-) -> Option<Mailboxes<R>>
-    ensures { IfSome result (λ boxes. boxes.domain ≡ arc_value domain.now) }
-{
-    match Mailboxes::new(rt, alloc, Arc::try_clone(domain).ok()?, 2, 8) {
-        Ok(boxes) => Some(boxes),
-        Err(_) => Mailboxes::new(rt, alloc, Arc::try_clone(domain).ok()?, 2, 8).ok(),
-    }
-}
+const SESSIONS: usize = 8;
 
 // The ends of mailboxes, asked for a second time if they were refused.
 fn ends_at_last<K: MailNames, R: Wait + Copy + Send>(
@@ -98,10 +81,10 @@ fn go_on<K: MailNames, R: Wait + Copy + Send>(
 }
 
 fn goes_on<R: Wait + Copy + Send + Drop>(rt: R, alloc: Global) -> bool {
-    let Some(domain) = domain_at_last(alloc) else {
+    let Some(domain) = domain_at_last(alloc, ALONE) else {
         return false;
     };
-    match boxes_at_last(rt, alloc, &domain) {
+    match boxes_at_last(rt, alloc, &domain, CAPACITY, SESSIONS) {
         Some(boxes) => go_on::<Brand, _>(alloc, &domain, boxes),
         None => false,
     }

@@ -1,6 +1,6 @@
 //! The run that is configured, with a kill at each of its places, and with a fault in the place of an answer.
 
-use crate::schedules::core_of;
+use crate::broken_schedules::core_of;
 use crate::steps::CONFIGURE_READY;
 use smi_audit::{Judgement, audit};
 use smi_core::{Core, run_schedule};

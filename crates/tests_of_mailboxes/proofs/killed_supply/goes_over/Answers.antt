@@ -1,4 +1,4 @@
-use Rattle.tests_of_mishaps.proofs.runs.goes_over.Goals as goal
+use Rattle.tests_of_mailboxes.proofs.killed_supply.goes_over.Goals as goal
 
 -- nothing was sent by ends that were just made
 pub open-requires-clause-unused : goal.open-requires-clause-unused

@@ -1,4 +1,4 @@
-use Rattle.tests_of_mishaps.proofs.memory.go_on.Goals as goal
+use Rattle.tests_of_mailboxes.proofs.memory_of_runs.go_on.Goals as goal
 
 -- nothing was sent by ends that were just made
 pub opens_at_last-requires-in-Ok-ruled-clause-unused : goal.opens_at_last-requires-in-Ok-ruled-clause-unused

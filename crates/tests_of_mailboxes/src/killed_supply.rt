@@ -2,7 +2,7 @@
 ghost use Rattle.std.specs.Prelude.{◌≡◌};
 ghost use Rattle.std.specs.Arc.{arc_value};
 
-use crate::memory::{Obeying, supplies};
+use crate::memory_of_runs::{Obeying, supplies};
 use smi_journal::{Envelope, SessionId, write_journal};
 use smi_mail::{MailNames, Mailboxes, ruled};
 use smi_run::{Accepted, Config, Report, Runtime, ServeEnd, Session};

@@ -1,13 +1,14 @@
 //! A run that is refused memory: what was passed comes back, and the same call then returns its answer.
 //!
 //! It says little unless an allocation is refused, as `tools/refused-memory` does: here it runs with all its memory.
-ghost use Rattle.std.specs.Prelude.{◌≡◌, [], ℕ, IfSome};
+ghost use Rattle.std.specs.Prelude.{◌≡◌, [], ℕ};
 ghost use Rattle.std.specs.Arc.{arc_value};
 ghost use Rattle.smi_journal_entries.specs.declared.entry.Sender.{Sender};
 ghost use Rattle.smi_mail.specs.Drains.{AreAllEnds};
 ghost use Rattle.smi_mail.specs.Mails.{requests_sent, requests_taken};
 ghost use Rattle.smi_run_runtime.specs.Sessions.{AreUnused};
 
+use crate::at_last::{boxes_at_last, domain_at_last};
 use smi_journal::Args;
 use smi_mail::{MailNames, Mailboxes, OperatorEnd, RuledMail, ruled};
 use smi_run::{
@@ -15,7 +16,6 @@ use smi_run::{
     ServeEnd, Session,
 };
 use sml_domain::{ActionId, Domain, ObjId, StateId};
-use sml_load::domain_of;
 use sml_tree::Name;
 use std::alloc::Global;
 use std::marker::Brand;
@@ -25,6 +25,9 @@ use test_domains::SUPPLIES;
 
 // The states of the objects in the end, by number: both supplies are on, and the run is ready.
 const STATES: [usize; 3] = [1, 1, 3];
+
+// The capacity of the mailboxes.
+const CAPACITY: usize = 16;
 
 const CONFIG: Config = Config {
     workers: 1,
@@ -45,14 +48,6 @@ impl Device for Obeying {
         _given: &Args,
     ) -> Result<StateId, DeviceFault> {
         Ok(StateId::new(1))
-    }
-}
-
-// The domain, asked for a second time if it was refused.
-fn domain_at_last(alloc: Global) -> Option<Arc<Domain>> {
-    match domain_of(alloc, SUPPLIES) {
-        Ok(domain) => Some(domain),
-        Err(_) => domain_of(alloc, SUPPLIES).ok(),
     }
 }
 
@@ -190,23 +185,9 @@ fn go_on<K: MailNames, R: Wait + Copy + Send>(
     }
 }
 
-// Mailboxes for one session, asked for a second time if they were refused.
-fn boxes_at_last<R: Wait + Copy + Send + Drop>(
-    rt: R,
-    alloc: Global,
-    domain: &Arc<Domain>,
-) -> Option<Mailboxes<R>>
-    ensures { IfSome result (λ boxes. boxes.domain ≡ arc_value domain.now) }
-{
-    match Mailboxes::new(rt, alloc, Arc::try_clone(domain).ok()?, 16, 1) {
-        Ok(boxes) => Some(boxes),
-        Err(_) => Mailboxes::new(rt, alloc, Arc::try_clone(domain).ok()?, 16, 1).ok(),
-    }
-}
-
 fn goes_on<R: Wait + Copy + Send + Drop>(rt: R, alloc: Global) -> Option<bool> {
-    let domain = domain_at_last(alloc)?;
-    match boxes_at_last(rt, alloc, &domain) {
+    let domain = domain_at_last(alloc, SUPPLIES)?;
+    match boxes_at_last(rt, alloc, &domain, CAPACITY, 1) {
         Some(boxes) => go_on::<Brand, _>(&rt, alloc, &domain, boxes),
         None => None,
     }
