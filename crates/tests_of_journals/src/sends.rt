@@ -2,8 +2,8 @@
 
 use crate::acts::Made::{Ended, Posted, Seen, Set, Shelved, Waiting};
 use crate::boards::{Call, Opened, Run};
-use crate::requests::Asked;
 use crate::domains::{ECHO, MANY, NOBODY, PAIR, TWICE, VALVE};
+use crate::requests::Asked;
 use crate::rows::Plain;
 use smi_board::{AnswerError, RequestRefusal, StartError};
 use test_domains::{COUNTER, SUPPLIES};

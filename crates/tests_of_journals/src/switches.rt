@@ -1,8 +1,8 @@
 //! Boards of a switch and a lamp, call by call.
 
 use crate::boards::{Call, Opened, Run};
-use crate::requests::Asked;
 use crate::domains::SWITCH;
+use crate::requests::Asked;
 use smi_board::{AnswerError, StartError};
 
 // Requests to the switch, and one to the lamp.

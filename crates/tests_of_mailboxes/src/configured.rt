@@ -3,8 +3,8 @@ ghost use Rattle.std.specs.Prelude.{◌≡◌, ◌<◌, length};
 ghost use Rattle.std.specs.Arc.{arc_value};
 
 use crate::acts::{Made, acts, performs, resumes};
-use crate::envelopes::request_by;
 use crate::domains::SUPPLIES_WITHOUT_SPARE;
+use crate::envelopes::request_by;
 use smi_board::Board;
 use smi_journal::{Entry, Sender, SessionId, write_journal};
 use smi_mail::{Mail, MailNames, Mailboxes, PlainMail, ruled};
