@@ -1,6 +1,6 @@
 //! Files that are printed, to writers that fail too. (Which text is printed are rows of `tests_by_scripts`.)
 
-use crate::text::one_byte_writer;
+use crate::one_byte::one_byte_writer;
 use crate::texts::has_file;
 use sml_print::{PrintFault, print, write_to};
 use sml_tree::{Group, Item, Name, Object, SmlFile};

@@ -1,12 +1,12 @@
 //! Tokens, and the writing of bytes and numbers.
 
+use crate::one_byte::one_byte_writer;
 use crate::texts::repeated;
 use sml_text::{
     Front, Lexeme, Sign, Source, Token, WriteFault, first_bad, front_at, next_token, put, tell,
     tell_i64, tell_u64,
 };
-use std::alloc::{AllocError, Global};
-use std::io::{Error, Write};
+use std::alloc::Global;
 use std::test::Fail;
 
 // A name, a text, and what is at its front.
@@ -356,47 +356,6 @@ const BAD: &[(&str, Source, &[u8], Option<usize>)] = &[
 fn finds_the_first_bad_place(rt: HostRuntime) {
     for (name, source, text, bad) in BAD {
         assert!(rt; first_bad(*source, *text) == *bad, "{name}");
-    }
-}
-
-/// Takes one byte a call, and fails at a call or takes nothing there.
-#[derive(Drop)]
-pub struct Slow {
-    pub taken: Vec<u8>,
-    good_calls: usize,
-    by_error: bool,
-    calls: usize,
-}
-
-impl Write for Slow {
-    fn write(&mut self, buf: &[u8]) -> std::io::Result<usize> {
-        self.calls = self.calls.saturating_add(1);
-        if self.taken.len() >= self.good_calls {
-            return if self.by_error {
-                Err(Error::from(AllocError))
-            } else {
-                Ok(0)
-            };
-        }
-        let [first, ..] = buf else {
-            return Ok(0);
-        };
-        self.taken.push(*first)?;
-        Ok(1)
-    }
-
-    fn flush(&mut self) -> std::io::Result<()> {
-        Ok(())
-    }
-}
-
-/// A writer that is good for `good_calls` calls.
-pub fn one_byte_writer(alloc: Global, good_calls: usize, by_error: bool) -> Slow {
-    Slow {
-        taken: Vec::new(alloc),
-        good_calls,
-        by_error,
-        calls: 0,
     }
 }
 

@@ -3,8 +3,8 @@
 ghost use Rattle.std.specs.Prelude.{◌≡◌, ◌<◌, IfSome, length};
 ghost use Rattle.smi_journal_entries.specs.Sets as says;
 
-use crate::completing::{Plain, value_of};
 use crate::facts::sender_of;
+use crate::rows::{Plain, args_of};
 use crate::runs::{By, Line};
 use smi_journal::{
     ActionEnd, Args, Cause, Envelope, Members, Reading, Readings, Sender, SessionId, Verdict,
@@ -12,15 +12,6 @@ use smi_journal::{
 use smi_ledger::Ledger;
 use sml_domain::{ActionId, ObjId, SetId, StateId};
 use std::alloc::Global;
-
-/// The arguments that a row writes.
-pub fn args_of(alloc: Global, given: &[Plain]) -> Option<Args> {
-    let mut values = Vec::new(alloc);
-    for plain in given {
-        values.push(value_of(alloc, *plain)?).ok()?;
-    }
-    Args::new(alloc, values).ok()
-}
 
 fn readings_of(alloc: Global, rows: &[(usize, usize)]) -> Option<Readings> {
     let mut list = Vec::new(alloc);

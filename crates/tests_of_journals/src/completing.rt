@@ -1,7 +1,8 @@
 //! What values passed by name make for the actions of a counter and of its sink.
 
+use crate::rows::{Plain, are_values, value_of};
 use smi_journal::{Args, Passed, complete};
-use sml_domain::{ActionId, Domain, ObjId, Text, Value};
+use sml_domain::{ActionId, Domain, ObjId};
 use sml_load::domain_of;
 use sml_text::{Lexeme, Source, next_token};
 use sml_tree::Name;
@@ -23,29 +24,6 @@ pub const PUT: usize = 1;
 
 /// The action of the counter that has none.
 pub const SHOW: usize = 2;
-
-/// A value, as a row writes it.
-#[derive(Clone, Copy)]
-pub enum Plain {
-    Int(i64),
-    Str(&'static [u8]),
-}
-
-/// The value that a row writes.
-pub fn value_of(alloc: Global, plain: Plain) -> Option<Value> {
-    match plain {
-        Plain::Int(n) => Some(Value::Int(n)),
-        Plain::Str(bytes) => Some(Value::Text(Text::new(alloc, bytes).ok()?)),
-    }
-}
-
-fn is_value(value: &Value, plain: Plain) -> bool {
-    match (value, plain) {
-        (Value::Int(n), Plain::Int(m)) => *n == m,
-        (Value::Text(text), Plain::Str(bytes)) => text.as_bytes() == bytes,
-        _ => false,
-    }
-}
 
 // Values that are passed by name, what they make for an object's action, and the name of it all.
 #[derive(Clone, Copy)]
@@ -180,21 +158,10 @@ fn passed_of(alloc: Global, row: Row) -> Option<Vec<Passed>> {
     Some(passed)
 }
 
-// Whether arguments are these values.
-fn are(args: &Args, values: &[Plain]) -> bool {
-    for (place, plain) in values.iter().enumerate() {
-        match args.values().get(place) {
-            Some(value) if is_value(value, *plain) => {}
-            _ => return false,
-        }
-    }
-    args.values().len() == values.len()
-}
-
 // Whether what was made is this.
 fn is_made(made: &Result<Option<Args>, AllocError>, wanted: Option<&[Plain]>) -> bool {
     match (made, wanted) {
-        (Ok(Some(args)), Some(values)) => are(args, values),
+        (Ok(Some(args)), Some(values)) => are_values(args.values(), values),
         (Ok(None), None) => true,
         _ => false,
     }

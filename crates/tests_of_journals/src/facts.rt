@@ -2,8 +2,8 @@
 ghost use Rattle.std.specs.Prelude.{◌<◌, length, IfSome};
 ghost use Rattle.smi_ledger.specs.Tables.{IsKnown};
 
+use crate::rows::are_objects;
 use crate::runs::By;
-use crate::sets::are;
 use smi_journal::{Members, MoveReply, Sender, SessionId};
 use smi_ledger::Ledger;
 use sml_domain::{Domain, ObjId, SetId, StateId};
@@ -78,7 +78,7 @@ fn had(ledger: &Ledger, answer: Option<&MoveReply>, set: usize, members: &[usize
         return false;
     };
     match sets_at(answer) {
-        Some(sets) => are(sets.of(ledger.domain(), SetId::new(set)), members),
+        Some(sets) => are_objects(sets.of(ledger.domain(), SetId::new(set)), members),
         None => false,
     }
 }
@@ -142,7 +142,7 @@ pub fn is_so(ledger: &Ledger, fact: Fact) -> bool {
     }
     match (fact, second.map(ObjId::new)) {
         (Fact::Starts(count), _) => ledger.starts() == count,
-        (Fact::Has(set, members), _) => are(ledger.members(SetId::new(set)), members),
+        (Fact::Has(set, members), _) => are_objects(ledger.members(SetId::new(set)), members),
         (Fact::Started(by, _, count), _) => has_started(ledger, by, o, count),
         (_, None) => is_so_at(ledger, fact, o),
         (_, Some(target)) => {

@@ -1,7 +1,7 @@
 //! Whether envelopes fit a counter and its sink, and what each of their four owners is given.
 
-use crate::adding::args_of;
-use crate::completing::{C, OUT, PUT, Plain, SHOW, TAKE};
+use crate::completing::{C, OUT, PUT, SHOW, TAKE};
+use crate::rows::{Plain, args_of};
 use smi_journal::{Envelope, Letter, Sender, SessionId};
 use sml_domain::{ActionId, Domain, ObjId};
 use sml_load::domain_of;

@@ -1,7 +1,7 @@
 //! The texts of journals.
 
 use crate::adding::adds_all;
-use crate::completing::Plain;
+use crate::rows::Plain;
 use crate::runs::{ARGUMENTS, By, CHANGES, KILLED_SUPPLY, KILLS, Line, Run, STANDARD};
 use crate::tests_of_runs::ledger_of;
 use smi_journal::{Entry, write_journal};

@@ -1,7 +1,7 @@
 //! Lines of schedules: what they ask, and what answers write.
 
-use crate::adding::args_of;
-use crate::completing::{C, Plain, value_of};
+use crate::completing::C;
+use crate::rows::{Plain, args_of, value_of};
 use smi_journal::{ActionEnd, Entry, Passed};
 use smi_lines::{LineError, read_step, tell_answer};
 use smi_world::{Answer, Step, StepError};

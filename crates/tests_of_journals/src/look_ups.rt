@@ -1,7 +1,7 @@
 //! The look-ups of a ledger beside walks over its journal.
 ghost use Rattle.std.specs.Prelude.{◌<◌, length};
 
-use crate::walks;
+use crate::journal_walks;
 use smi_journal::{Entry, Letter, MoveReply, Sender, SessionId};
 use smi_ledger::Ledger;
 use sml_domain::{ObjId, SetId, same_values};
@@ -63,7 +63,7 @@ fn tells(entry: &Entry, o: ObjId) -> bool {
 
 // Whether answers are those that an object was given since its action was opened.
 fn are_told(answers: &[MoveReply], entries: &[Entry], o: ObjId) -> bool {
-    let Some(opening) = walks::opening(entries, o) else {
+    let Some(opening) = journal_walks::opening(entries, o) else {
         return answers.is_empty();
     };
     let mut told = 0usize;
@@ -84,13 +84,13 @@ fn is_as_walked_at(ledger: &Ledger, o: ObjId) -> bool
     requires { o < length ledger.now.domain.objects }
 {
     let entries = ledger.journal();
-    let opening = walks::opening(entries, o);
-    ledger.state(o) == walks::state(ledger.domain(), entries, o)
+    let opening = journal_walks::opening(entries, o);
+    ledger.state(o) == journal_walks::state(ledger.domain(), entries, o)
         && is_opened_at(ledger.opened(o), entries, opening)
         && ledger.is_open(o) == opening.is_some()
         && are_told(ledger.answers(o), entries, o)
-        && ledger.waits(o) == walks::waits(entries, o)
-        && ledger.killed(o) == walks::killed(entries, o)
+        && ledger.waits(o) == journal_walks::waits(entries, o)
+        && ledger.killed(o) == journal_walks::killed(entries, o)
 }
 
 // Whether the starts of each session at an object are counted as the journal says.
@@ -102,7 +102,7 @@ fn counts_sessions(ledger: &Ledger, o: ObjId) -> bool
             return false;
         };
         let sender = Sender::Operator(session);
-        if ledger.started(&sender, o) != walks::started(ledger.journal(), &sender, o) {
+        if ledger.started(&sender, o) != journal_walks::started(ledger.journal(), &sender, o) {
             return false;
         }
     }
@@ -116,9 +116,9 @@ fn is_as_walked_between(ledger: &Ledger, a: ObjId, o: ObjId) -> bool
 {
     let entries = ledger.journal();
     let sender = Sender::Object(a);
-    ledger.started(&sender, o) == walks::started(entries, &sender, o)
-        && ledger.posted(a, o) == walks::posted(entries, a, o)
-        && ledger.is_clear(a, o) == walks::is_clear(entries, a, o)
+    ledger.started(&sender, o) == journal_walks::started(entries, &sender, o)
+        && ledger.posted(a, o) == journal_walks::posted(entries, a, o)
+        && ledger.is_clear(a, o) == journal_walks::is_clear(entries, a, o)
 }
 
 // Whether what is known of an object with each other is what the journal says.
@@ -138,7 +138,7 @@ fn is_as_walked_with_each(ledger: &Ledger, o: ObjId) -> bool
 fn is_in_as_walked(ledger: &Ledger, o: ObjId) -> bool {
     for place in 0..ledger.domain().groups().len() {
         let set = SetId::new(place);
-        let walked = walks::is_member(ledger.domain(), ledger.journal(), set, o);
+        let walked = journal_walks::is_member(ledger.domain(), ledger.journal(), set, o);
         if ledger.members(set).contains(&o) != walked {
             return false;
         }
@@ -159,5 +159,5 @@ pub fn is_as_walked(ledger: &Ledger) -> bool {
             return false;
         }
     }
-    ledger.starts() == walks::starts(ledger.journal())
+    ledger.starts() == journal_walks::starts(ledger.journal())
 }

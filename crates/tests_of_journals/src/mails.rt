@@ -4,8 +4,7 @@ ghost use Rattle.smi_journal_entries.specs.declared.entry.Sender.{Sender};
 ghost use Rattle.smi_journal_entries.specs.Fits.{letter_fits};
 ghost use Rattle.smi_mail_plain.specs.Mails.{is_sender};
 
-use crate::adding::args_of;
-use crate::completing::Plain;
+use crate::rows::{Plain, args_of};
 use crate::runs::By;
 use smi_journal::{Envelope, Sender, SessionId};
 use smi_mail_plain::Mail;

@@ -1,7 +1,7 @@
 //! Journals, entry by entry, with facts that are known of them beforehand.
 
-use crate::completing::Plain;
 use crate::facts::Fact;
+use crate::rows::Plain;
 use crate::sets::{A, B, E, G, LAMPS, X};
 use smi_journal::Verdict;
 use test_domains::{COUNTER, SUPPLIES};

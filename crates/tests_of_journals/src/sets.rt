@@ -1,5 +1,6 @@
 //! The members of sets, as changes leave them.
 
+use crate::rows::are_objects;
 use smi_journal::Members;
 use sml_domain::{Domain, ObjId, SetId};
 use sml_load::domain_of;
@@ -39,16 +40,6 @@ pub const E: usize = 1;
 
 // An object that is put into a set (true) or taken out of it.
 type Change = (bool, usize, usize);
-
-/// Whether objects are these, in this order.
-pub fn are(objects: &[ObjId], numbers: &[usize]) -> bool {
-    for (place, number) in numbers.iter().enumerate() {
-        if objects.get(place) != Some(&ObjId::new(*number)) {
-            return false;
-        }
-    }
-    objects.len() == numbers.len()
-}
 
 // The members of sets after these changes.
 fn members_after(alloc: Global, domain: &Domain, changes: &[Change]) -> Option<Members> {
@@ -139,8 +130,8 @@ fn is_so(alloc: Global, domain: &Domain, row: Row) -> bool {
     let (_, changes, first, second) = row;
     match members_after(alloc, domain, changes) {
         Some(members) => {
-            are(members.of(domain, SetId::new(G)), first)
-                && are(members.of(domain, SetId::new(E)), second)
+            are_objects(members.of(domain, SetId::new(G)), first)
+                && are_objects(members.of(domain, SetId::new(E)), second)
                 && members.of(domain, SetId::new(2)).is_empty()
         }
         None => false,

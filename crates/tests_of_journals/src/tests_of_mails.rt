@@ -1,7 +1,8 @@
 //! The mail of one thread, step by step.
 
-use crate::completing::{C, OUT, PUT, Plain, SHOW, TAKE};
+use crate::completing::{C, OUT, PUT, SHOW, TAKE};
 use crate::mails::{Asked, Move, wrong_step};
+use crate::rows::Plain;
 use crate::runs::By;
 use smi_mail_plain::PlainMail;
 use sml_load::domain_of;

@@ -3,8 +3,8 @@ ghost use Rattle.std.specs.Prelude.{◌≡◌, ◌<◌, length};
 ghost use Rattle.std.specs.Arc.{arc_value};
 
 use crate::acts::{Made, acts, performs, resumes};
+use crate::domains::SUPPLIES_WITHOUT_SPARE;
 use crate::envelopes::request_by;
-use crate::texts::SUPPLIES;
 use smi_board::Board;
 use smi_journal::{Entry, Sender, SessionId, write_journal};
 use smi_mail::{Mail, MailNames, Mailboxes, PlainMail, ruled};
@@ -133,7 +133,7 @@ fn ruled_goes<K: MailNames, R: Wait + Copy + Send>(
 #[test]
 fn two_mails_one_journal(rt: HostRuntime) {
     let alloc: Global = rt.alloc();
-    let domain = domain_of(alloc, SUPPLIES).ok();
+    let domain = domain_of(alloc, SUPPLIES_WITHOUT_SPARE).ok();
     assert!(rt; domain.is_some());
     let Some(domain) = domain else {
         return;

@@ -2,8 +2,8 @@
 ghost use Rattle.std.specs.Prelude.{◌≡◌, ◌<◌, length};
 ghost use Rattle.std.specs.Arc.{arc_value};
 
+use crate::domains::THREE;
 use crate::envelopes::request_by;
-use crate::texts::THREE;
 use smi_journal::{Envelope, Sender};
 use smi_mail::{Mail, MailNames, Mailboxes, OperatorEnd, RuledMail, ruled};
 use sml_domain::{Domain, ObjId};

@@ -19,6 +19,28 @@ object: HV7 is_of_class SUPPLY
 object: HV8 is_of_class SUPPLY
 ";
 
+/// Two objects that send to one another for ever.
+pub const RING: &[u8] = b"class: A_TYPE
+  state: S
+    action: GO
+      do GO B
+class: B_TYPE
+  state: S
+    action: GO
+      do GO A
+object: A is_of_class A_TYPE
+object: B is_of_class B_TYPE
+";
+
+/// One object that sends to itself for ever, and another that sends to it.
+pub const ITSELF: &[u8] = b"class: T
+  state: S
+    action: GO
+      do GO X
+object: X is_of_class T
+object: Y is_of_class T
+";
+
 /// The first supply.
 pub const FIRST: usize = 0;
 

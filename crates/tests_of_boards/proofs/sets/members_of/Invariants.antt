@@ -1,6 +1,0 @@
--- Sets have objects of the domain, none of them twice.
-use Rattle.smi_journal_entries.specs.Sets.{AreOf}
-use Rattle.tests_of_boards.proofs.sets.members_of.Given as goal
-
-abbrev pub invariant-loop-change : goal.invariant-loop-change
-invariant-loop-change l = AreOf l.domain l.members

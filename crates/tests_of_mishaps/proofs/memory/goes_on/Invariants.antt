@@ -1,4 +1,0 @@
-use Rattle.tests_of_mishaps.proofs.memory.goes_on.Given as goal
-
-abbrev pub ghosts-go_on : goal.ghosts-go_on
-ghosts-go_on g a = record { names = a.boxes }

@@ -1,4 +1,0 @@
-use Rattle.tests_of_mishaps.proofs.runs.goes_once.Given as goal
-
-abbrev pub ghosts-goes_over : goal.ghosts-goes_over
-ghosts-goes_over g a = record { names = a.boxes }
