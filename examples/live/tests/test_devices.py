@@ -1,35 +1,41 @@
 """The played devices, beside a manager that is played too: every start of a device is answered."""
 import os
+import signal
 import subprocess
 import sys
 import tempfile
 import unittest
 
 LIVE = os.path.dirname(os.path.dirname(os.path.realpath(__file__)))
-# The text of a domain with one device.
-DOMAIN = """class: SUPPLY /associated
-  state: OFF
-    action: SWITCH_ON
-  state: ON
-    action: SWITCH_OFF
-object: HV is_of_class SUPPLY
+# What stands in the place of the program: it tells what a domain with one device declares.
+PROGRAM = """#!/bin/sh
+[ "$1" = list ] || exit 0
+echo 'class SUPPLY associated'
+echo 'state SUPPLY OFF'
+echo 'action SUPPLY OFF SWITCH_ON'
+echo 'state SUPPLY ON'
+echo 'action SUPPLY ON SWITCH_OFF'
+echo 'object HV SUPPLY'
 """
 STARTS = 1000
+# Nothing here takes so many seconds, unless it stands still.
+LIMIT = 60
 
 
 class Player:
-    """The program, over two FIFOs."""
+    """The program that plays devices, over two FIFOs."""
 
     def __init__(self, folder: str, factor: str) -> None:
-        paths = [f"{folder}/domain.sml", f"{folder}/in", f"{folder}/out"]
-        with open(paths[0], "w", encoding="ascii") as file:
-            file.write(DOMAIN)
-        for path in paths[1:]:
-            os.mkfifo(path)
-        words = [sys.executable, f"{LIVE}/play_devices.py", *paths, "--factor", factor]
-        self.process = subprocess.Popen(words, stdout=subprocess.DEVNULL)
-        self.asked = open(paths[1], encoding="ascii")
-        self.told = open(paths[2], "w", encoding="ascii", buffering=1)
+        program, asked, told = f"{folder}/smirun", f"{folder}/in", f"{folder}/out"
+        with open(program, "w", encoding="ascii") as file:
+            file.write(PROGRAM)
+        os.chmod(program, 0o755)
+        os.mkfifo(asked)
+        os.mkfifo(told)
+        words = [sys.executable, f"{LIVE}/play_devices.py", f"{folder}/domain.sml", asked, told, "--factor", factor]
+        self.process = subprocess.Popen(words, stdout=subprocess.DEVNULL, env={**os.environ, "SMIRUN": program})
+        self.asked = open(asked, encoding="ascii")
+        self.told = open(told, "w", encoding="ascii", buffering=1)
 
     def tell(self, line: str) -> None:
         self.told.write(f"{line}\n")
@@ -37,7 +43,11 @@ class Player:
     def leave(self) -> None:
         self.told.close()
         self.asked.close()
-        self.process.wait(10)
+        self.process.wait()
+
+
+def stands_still(*_: object) -> None:
+    raise TimeoutError(f"nothing came within {LIMIT} seconds")
 
 
 class Devices(unittest.TestCase):
@@ -45,11 +55,19 @@ class Devices(unittest.TestCase):
         room = tempfile.TemporaryDirectory()
         self.addCleanup(room.cleanup)
         self.folder = room.name
+        signal.signal(signal.SIGALRM, stands_still)
+        signal.alarm(LIMIT)
+        self.addCleanup(signal.alarm, 0)
+
+    def player(self, factor: str) -> Player:
+        player = Player(self.folder, factor)
+        self.addCleanup(player.leave)
+        self.addCleanup(player.process.kill)
+        return player
 
     def test_each_start_is_answered(self) -> None:
-        """The next start comes at once when an action is answered, so that a device that still counts it is found."""
-        player = Player(self.folder, "0.0005")
-        self.addCleanup(player.leave)
+        """The next start comes at once when an action is answered, so that a device which still counts it is found."""
+        player = self.player("0.0005")
         wrong = []
         for number in range(STARTS):
             action, state = ("SWITCH_ON", "ON") if number % 2 == 0 else ("SWITCH_OFF", "OFF")
@@ -60,8 +78,7 @@ class Devices(unittest.TestCase):
 
     def test_what_is_told_again_goes_on(self) -> None:
         """A start that is told again begins no second action: the answer to the next start is its own."""
-        player = Player(self.folder, "0.5")
-        self.addCleanup(player.leave)
+        player = self.player("0.5")
         for line in ("start HV @1 7 SWITCH_ON", "! restarted", "start HV @1 7 SWITCH_ON"):
             player.tell(line)
         first = player.asked.readline()
@@ -69,11 +86,9 @@ class Devices(unittest.TestCase):
         self.assertEqual([first, player.asked.readline()], ["answer HV ON\n", "answer HV OFF\n"])
 
     def test_a_killed_device_answers_nothing(self) -> None:
-        player = Player(self.folder, "0.5")
-        self.addCleanup(player.leave)
-        player.tell("start HV @1 0 SWITCH_ON")
-        player.tell("kill HV @2")
-        player.tell("start HV @1 1 SWITCH_OFF")
+        player = self.player("0.5")
+        for line in ("start HV @1 0 SWITCH_ON", "kill HV @2", "start HV @1 1 SWITCH_OFF"):
+            player.tell(line)
         self.assertEqual(player.asked.readline(), "answer HV OFF\n")
 
 
