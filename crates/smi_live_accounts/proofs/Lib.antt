@@ -1,0 +1,5 @@
+mod Adding
+mod Accounting
+mod Pairing
+mod Answering
+mod Putting

@@ -1,0 +1,64 @@
+-- What a manager keeps of what it did.
+use Rattle.std.specs.Prelude.{◌≡◌, ◌<◌, ◌≤◌, ◌⊎◌, ℕ, Bool, true, false, List, [], All, MatchBool, Result, Some, length, map, slice_get, take}
+use Rattle.sml_domain.specs.declared.value.Value.{Value}
+use Rattle.sml_domain.specs.Domain.{Domain}
+use Rattle.smi_journal_entries.specs.declared.entry.Entry.{Entry}
+use Rattle.smi_journal_entries.specs.declared.entry.Sender.TheVariants.{Operator}
+use Rattle.smi_world.specs.declared.step.Step.{Step}
+use Rattle.smi_world.specs.declared.step.Answer.{Answer}
+use Rattle.smi_world.specs.declared.refusal.StepError.{StepError}
+use Rattle.smi_world.specs.Steps.{StepsTo}
+use Rattle.smi_lines.specs.Answers.{accept_text, refused_text}
+use Rattle.smi_core.specs.Machines.{CoreView}
+use Rattle.smi_live_once.specs.Tables.{OnceTold}
+use Rattle.smi_request_fates.specs.Kept.{Asked, FatesView, IsOfCounted, Tells, request_in}
+
+-- what was told last to each name, and counts and last requests
+pub record AccountsView : Type 0 where
+  pub told : List OnceTold
+  pub fates : FatesView
+
+-- this was told of an accepted request: the line of its acceptance
+pub record IsAcceptOf (d : Domain) (a : Asked) (answer : List ℕ) : Type 0 where
+  pub session : ℕ
+  pub sender : a.sender ≡ Operator session
+  pub action : ℕ
+  pub args : List Value
+  pub text : answer ≡ accept_text d session a.object a.number action args
+
+-- this was told of a refused one: the line of a refusal
+abbrev pub IsSomeRefusal : List ℕ → Type 0
+IsSomeRefusal answer = (word : List ℕ) × (answer ≡ refused_text word)
+
+-- this was told of a request
+abbrev pub IsAnswerTo : Domain → Asked → List ℕ → Type 0
+IsAnswerTo d a answer = MatchBool a.refused (IsSomeRefusal answer) (IsAcceptOf d a answer)
+
+-- what was told last to each name was told of the request at its place
+pub record ArePaired (d : Domain) (told : List OnceTold) (asked : List Asked) : Type 0 where
+  pub count : length asked ≡ length told
+  pub each :
+      (p : ℕ) (t : OnceTold) (a : Asked) → slice_get told p ≡ Some t → slice_get asked p ≡ Some a
+      → IsAnswerTo d a t.answer
+
+-- all of it is what the journal says
+pub record AccountsTell (d : Domain) (J : List Entry) (a : AccountsView) : Type 0 where
+  pub tells : Tells d J a.fates
+  pub count : length a.fates.counts ≡ length d.objects
+  pub known : All (IsOfCounted (length d.objects)) J
+  pub paired : ArePaired d a.told (map request_in a.fates.watched)
+
+-- it is what the first entries of a core's journal say
+pub record IsNotedTo (m : CoreView) (first : ℕ) (a : AccountsView) : Type 0 where
+  pub within : first ≤ length m.world.journal
+  pub tells : Tells m.setup.domain (take first m.world.journal) a.fates
+  pub count : length a.fates.counts ≡ length m.setup.domain.objects
+  pub known : All (IsOfCounted (length m.setup.domain.objects)) m.world.journal
+  pub paired : ArePaired m.setup.domain a.told (map request_in a.fates.watched)
+
+-- a core made one step at most
+abbrev pub MakesOneStep : CoreView → CoreView → Type 0
+MakesOneStep m m2 =
+    (m2.setup ≡ m.setup)
+    × ((m2.world ≡ m.world)
+    ⊎ ((s : Step) × (r : Result Answer StepError) × StepsTo m.setup m.world s r m2.world))
