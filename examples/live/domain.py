@@ -2,9 +2,14 @@
 import re
 import subprocess
 
-from lines import PROGRAM
+from lines import PROGRAM, is_once_answer
 
-STANDING_WORDS = ("state", "param", "open", "waiting", "member")
+STANDING_WORDS = ("state", "param", "open", "waiting", "member", "started", "ended", "once", "stands")
+
+
+def tells_standing(line: str) -> bool:
+    """Whether a line of a manager tells how all stands. An answer to who asks once begins with the same word as one."""
+    return line.split(" ", 1)[0] in STANDING_WORDS and not is_once_answer(line.encode("latin1"))
 
 
 class Class:
@@ -84,10 +89,11 @@ class Domain:
 class Standing:
     """How all stands: at first as the domain declares it, then as the lines of a manager change it.
 
-    It follows the lines alone, and asks the manager nothing. Lines `state` .. `member`, which come where a manager was
-    resumed, say it anew. What an action `set` are its object's parameters once it has ended; a kill undoes it. No line
-    `param` says it before, so `sets` of open actions outlive a standing. A `set` whose line was lost with a manager that
-    was killed is missing, until the next standing behind its action's end.
+    It follows the lines alone, and asks the manager nothing. Lines `state` .. `stands`, which come where a manager was
+    resumed, say it anew; counts, and what became of requests that are made once, are passed over. What an action `set`
+    are its object's parameters once it has ended; a kill undoes it. No line `param` says it before, so `sets` of open
+    actions outlive a standing. A `set` whose line was lost with a manager that was killed is missing, until the next
+    standing behind its action's end.
     """
 
     def __init__(self, domain):
@@ -120,7 +126,7 @@ class Standing:
     def take(self, line):
         """Takes a line that the manager wrote."""
         word, *rest = line.split(" ", 3)
-        was_told, self.is_told = self.is_told, word in STANDING_WORDS
+        was_told, self.is_told = self.is_told, tells_standing(line)
         if self.is_told and not was_told:
             self.begin()
         elif word == "start" and rest[0] in self.domain.devices:
@@ -128,7 +134,8 @@ class Standing:
         getattr(self, f"take_{word}", self.pass_over)(*rest)
 
     def pass_over(self, *_):
-        """Lines that change nothing here: refused, wait, empty, and remarks."""
+        """Lines that change nothing here: refused, empty, remarks; answers to who asks once (the request's own line
+        `accept` stands before); and of how all stands the counts, and what became of such requests."""
 
     def take_state(self, name, state):
         self.states[name] = state

@@ -10,7 +10,9 @@ client sends the secret as its first line. Each client has a session of its own,
 What a client may write, one line each, at most 8,192 bytes:
 
   request OBJECT ACTION [(NAME = VALUE, ..)]     the gateway puts the client's session in: request @3 OBJECT ..
-  kill OBJECT                                    the same: kill OBJECT @3
+  once K request OBJECT ACTION [(..)]            the same, for a request that is made once, whatever happens to its
+                                                 answer: once S3 K request @3 OBJECT ..
+  kill OBJECT                                    the session is put in: kill OBJECT @3
   answer OBJECT STATE, fault OBJECT              a device's driver; it has no session
   ! remark                                       gets into the log; it has no answer, as a line of blanks alone
   ?                                              asks how all stands
@@ -20,16 +22,24 @@ What a client is told, one line each, with two bytes in front:
   # SENTENCE     of the gateway: the client's session at first; why it is turned away; what the manager complains of
   = LINE         the answer to the oldest of its lines that has none yet; a line of none of these forms is answered
                  `= refused BadLine` by the gateway itself, and does not get into the log
-  - LINE         any other line of the manager, but for the refusals of others' lines
-  ? LINE         how all stands, as `smirun step --states` tells it; `?` alone is its end. Who asks again before it
-                 was told is told once
+  - LINE         any other line of the manager, but for the refusals of others' lines, and what was told to others of
+                 requests that are made once
+  ? LINE         how all stands, as the manager tells it, from `state ..` to `stands E`; `?` alone is its end. Who asks
+                 again before it was told is told once. Where the manager tells nothing, it is `? not told` and `?`
 
 At first a client is told by lines `-` how all stands, what open actions have `set`, and the `start` of what each
 device has in hand. So what follows fits to it, and a driver that was started anew knows what it has to do.
 
+K is a number in decimal, without a zero in front: the greater of the client's last K + 1 and its clock in microseconds
+since 1970, so that numbers grow on where a session is lent again. One that is more than an hour ahead of the gateway's
+clock is answered `= refused BadLine`: all those of the session's later clients would be old. The answer is `= once S3 K
+accept ..` or `= once S3 K refused ..`; the line `accept ..` that the manager writes where it makes the request is told
+to all by `-`, to this client too. After a line `once` nothing of its client is handed on until it has its answer.
+
 Without the two bytes, `=` and `-` are what the manager wrote, in its order. Where it was killed and started again, `!
-restarted` and how all stands come by `-`, and `= ! unanswered ..` is an answer: the line may have been made or not. A
-last line without its line feed is not taken.
+restarted` and how all stands come by `-`, and `= ! unanswered ..` is an answer: the line may have been made or not. But
+a line `once` that the killed manager did not answer is asked again by the gateway, until there is the true answer: what
+was made is not made twice. A last line without its line feed is not taken.
 """
 import argparse
 import collections
@@ -44,8 +54,9 @@ import subprocess
 import sys
 import time
 
-from domain import STANDING_WORDS, Domain, Standing
-from lines import HERE, LONGEST_LINE, LONGEST_TOLD, PROGRAM, Inlet, Outlet, has_answer, is_answer
+from domain import Domain, Standing, tells_standing
+from lines import HERE, LONGEST_LINE, LONGEST_TOLD, PROGRAM, Inlet, Outlet
+from lines import answers, asked_once, has_answer, is_once_answer
 
 MOST_CLIENTS = 8
 # So many may be connected without a session, and each of them for so many seconds; less, where it was told to leave.
@@ -56,15 +67,37 @@ MOST_UNANSWERED = 64
 LINES_A_TURN, MOST_UNREAD = 16, 1 << 20
 # How long the manager may take to rest, once it is to end.
 PATIENCE = 6.0
+# The number of a request that is made once may be so many microseconds ahead of the clock.
+MOST_AHEAD = 3_600_000_000
+# What the manager says on standard error where it does not tell how all stands.
+NOT_TOLD = b"? not told"
 NAME = rb"[A-Za-z][A-Za-z0-9_]*"
 REQUEST = re.compile(rb"[ \t\r]*request(?![A-Za-z0-9_])(.*)", re.I)
 KILL = re.compile(rb"[ \t\r]*kill[ \t\r]+(%b)[ \t\r]*(?:!.*)?" % NAME, re.I)
 ANSWER = re.compile(rb"[ \t\r]*answer[ \t\r]+%b[ \t\r]+%b[ \t\r]*(?:!.*)?" % (NAME, NAME), re.I)
 FAULT = re.compile(rb"[ \t\r]*fault[ \t\r]+%b[ \t\r]*(?:!.*)?" % NAME, re.I)
+ONCE = re.compile(rb"once (0|[1-9][0-9]{0,19}) (.*)")
 
 
-def for_manager(line, session):
-    """A client's line as the manager gets it, or None where it is none that a client may write.
+def with_session(line: bytes, session: int) -> bytes | None:
+    """A client's request with its session, or None where it is no request."""
+    found = REQUEST.fullmatch(line)
+    return b"request @%d %b" % (session, found[1].strip(b" \t\r")) if found else None
+
+
+def once_with_session(line: bytes, session: int, now: int) -> bytes | None:
+    """A client's request that is made once, with the name of its session; None where it is none, or its number is of
+    more than 64 bits or too far ahead of the clock."""
+    found = ONCE.fullmatch(line)
+    if not found or int(found[1]) > min(now + MOST_AHEAD, (1 << 64) - 1):
+        return None
+    request = with_session(found[2], session)
+    return b"once S%d %b %b" % (session, found[1], request) if request else None
+
+
+def for_manager(line: bytes, session: int, now: int) -> bytes | None:
+    """A client's line as the manager gets it, or None where it is none that a client may write; `now` is the clock, in
+    microseconds since 1970.
 
     The session stands where no comment and no other word of the client can hide it: directly behind `request`, and
     behind the one name of a `kill`, whose comment is left out. A client that writes a session writes one too many.
@@ -73,19 +106,40 @@ def for_manager(line, session):
         return None
     if not has_answer(line) or ANSWER.fullmatch(line) or FAULT.fullmatch(line):
         return line
-    if found := REQUEST.fullmatch(line):
-        line = b"request @%d %b" % (session, found[1].strip(b" \t\r"))
-        return line if len(line) <= LONGEST_LINE else None
     if found := KILL.fullmatch(line):
         return b"kill %b @%d" % (found[1], session)
-    return None
+    made = with_session(line, session) or once_with_session(line, session, now)
+    return made if made and len(made) <= LONGEST_LINE else None
 
 
 class Asked:
-    """A line of a client that has an answer to come."""
+    """A line of a client that has an answer to come, as the manager gets it."""
 
-    def __init__(self, client):
-        self.client, self.answer = client, None
+    def __init__(self, client: "Client", line: bytes = b"") -> None:
+        self.client, self.line, self.answer = client, line, None
+        self.is_once = asked_once(line) != b""
+
+
+class Unanswered:
+    """The lines that have an answer to come, in the order in which the manager gets them."""
+
+    def __init__(self, manager: Outlet, devices: set[str]) -> None:
+        self.manager, self.devices, self.lines = manager, devices, collections.deque()
+
+    def put(self, asked: Asked) -> None:
+        self.manager.put(asked.line)
+        self.lines.append(asked)
+
+    def take(self, told: bytes) -> Asked | None:
+        """The line that has its answer by this line of the manager, if one has. A request that is made once and whose
+        answer was swallowed is put again: after all others, which does not matter, as its client waits for it."""
+        if not self.lines or not answers(told, self.lines[0].line, self.devices):
+            return None
+        asked = self.lines.popleft()
+        if asked.is_once and told.startswith(b"! unanswered "):
+            self.put(asked)
+            return None
+        return asked
 
 
 class Client:
@@ -113,8 +167,10 @@ class Client:
         self.is_leaving, self.session, self.since = True, None, time.monotonic()
         self.lines.clear()
 
-    def may_speak(self):
-        return self.lines and len(self.asked) < MOST_UNANSWERED and not self.is_leaving
+    def may_speak(self) -> bool:
+        """Whether its next line may be handed on. After a request that is made once and has no answer none may."""
+        is_held = bool(self.asked) and self.asked[-1].is_once
+        return bool(self.lines) and len(self.asked) < MOST_UNANSWERED and not is_held and not self.is_leaving
 
     def reads(self):
         return not self.inlet.has_ended and not self.lines
@@ -141,43 +197,51 @@ class Client:
 
 
 class Standings:
-    """How all stands, for those who ask for it: the manager tells it on standard error, with no word for its end.
+    """How all stands, for those who ask for it, which the manager tells on standard error.
 
-    So it is asked for twice in one go, and the first is whole where the second begins: with the state of the first
-    object. The rest of the second is passed over.
+    It begins with the state of the first object, and ends with `stands E`; `? not told` is all where it is not told.
+    What has no such beginning is the rest of what was asked for before the manager was started again.
     """
 
-    def __init__(self, first, manager):
+    def __init__(self, first: str, manager: Outlet) -> None:
         self.first, self.manager = f"state {first} ".encode(), manager
         self.wanting, self.asking, self.lines = [], [], None
 
-    def want(self, client):
+    def want(self, client: Client) -> None:
         if client not in self.wanting:
             self.wanting.append(client)
         if not self.asking:
             self.ask()
 
-    def has(self, client):
+    def has(self, client: Client) -> bool:
         return client in self.wanting or client in self.asking
 
-    def ask(self):
+    def ask(self) -> None:
         """It is also called where the manager was started again, with those who were asking."""
         self.asking, self.wanting, self.lines = self.asking + self.wanting, [], None
         if self.asking:
-            self.manager.put(b"?\n?")
+            self.manager.put(b"?")
 
-    def take(self, line):
-        if line.startswith(self.first) and self.asking:
-            if self.lines is None:
-                self.lines = [line]
-                return
-            for client in self.asking:
-                for told in [*self.lines, b""]:
-                    client.tell(b"?", told)
-            self.asking = []
-            self.ask()
-        elif self.lines is not None:
-            self.lines.append(line)
+    def take(self, line: bytes) -> None:
+        """Takes a line of standard error that is of how all stands."""
+        if line == NOT_TOLD:
+            self.tell([b"not told"])
+            return
+        if line.startswith(self.first):
+            self.lines = []
+        if self.lines is None:
+            return
+        self.lines.append(line)
+        if line.startswith(b"stands "):
+            self.tell(self.lines)
+
+    def tell(self, lines: list[bytes]) -> None:
+        """Tells it to those who ask, and asks for those who came since."""
+        for client in self.asking:
+            for line in [*lines, b""]:
+                client.tell(b"?", line)
+        self.asking = []
+        self.ask()
 
 
 class Gateway:
@@ -195,7 +259,8 @@ class Gateway:
         self.complaints = Inlet(self.manager.stderr.fileno(), LONGEST_TOLD)
         self.standing = Standing(domain)
         self.standings = Standings(next(iter(domain.objects)), self.to)
-        self.clients, self.asked, self.leaving_since = [], collections.deque(), None
+        self.unanswered = Unanswered(self.to, domain.devices)
+        self.clients, self.leaving_since = [], None
 
     def run(self):
         while not self.told.has_ended:
@@ -282,31 +347,30 @@ class Gateway:
             for line in self.standing.lines():
                 client.tell(b"-", line.encode())
 
-    def hear(self, client, line):
+    def hear(self, client: Client, line: bytes) -> None:
         if line.startswith(b"?"):
             self.standings.want(client)
             return
-        asked = Asked(client)
-        made = for_manager(line, client.session)
+        made = for_manager(line, client.session, time.time_ns() // 1000)
         if made is None:
+            asked = Asked(client)
             client.asked.append(asked)
             client.answer(asked, b"refused BadLine")
-            return
-        self.to.put(made)
-        if has_answer(made):
+        elif has_answer(made):
+            asked = Asked(client, made)
             client.asked.append(asked)
-            self.asked.append(asked)
+            self.unanswered.put(asked)
+        else:
+            self.to.put(made)
 
-    def hear_manager(self, _):
+    def hear_manager(self, _) -> None:
         for line in self.told.read():
             self.standing.take(line.decode())
-            asker = None
-            if is_answer(line, self.domain.devices) and self.asked:
-                asked = self.asked.popleft()
-                asker = asked.client
-                asker.answer(asked, line)
-            if not line.startswith((b"refused ", b"! unanswered ")):
-                self.tell_all(b"-", line, asker)
+            asked = self.unanswered.take(line)
+            if asked:
+                asked.client.answer(asked, line)
+            if not line.startswith((b"refused ", b"! unanswered ")) and not is_once_answer(line):
+                self.tell_all(b"-", line, asked and asked.client)
 
     def tell_all(self, mark, line, but=None):
         for client in self.clients:
@@ -317,7 +381,7 @@ class Gateway:
         for line in self.complaints.read():
             if line.startswith(b"! restarted"):
                 self.standings.ask()
-            if line.split(b" ")[0].decode("latin1") in STANDING_WORDS:
+            if line == NOT_TOLD or tells_standing(line.decode("latin1")):
                 self.standings.take(line)
                 continue
             print(line.decode("latin1"), file=sys.stderr, flush=True)

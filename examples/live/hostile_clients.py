@@ -158,18 +158,21 @@ def silent_strangers(served):
 
 
 def forged_sessions(served):
-    """Nobody speaks for another session."""
+    """Nobody speaks for another session, or takes away the numbers of its requests that are made once."""
     one = served.client()
-    other = "@1" if one.session[-1] != "1" else "@2"
+    other, name = ("@1", "S1") if one.session[-1] != "1" else ("@2", "S2")
     for line in (f"request {other} DETECTOR SWITCH_ON", f"kill TRACKER {other}", f"kill TRACKER {other} !", "start RUN",
-                 f"request{other} TRACKER TUNE (TO = 1)", "! x\rkill TRACKER", "go TRACKER", "R\xe9quest", "\0"):
+                 f"request{other} TRACKER TUNE (TO = 1)", "! x\rkill TRACKER", "go TRACKER", "R\xe9quest", "\0",
+                 f"once {name} 1 request DETECTOR SWITCH_ON", f"once 1 request {other} DETECTOR SWITCH_ON",
+                 f"request DETECTOR SWITCH_ON ! once {name} 1", f"! x ! once {name} 1", "! smirun live 1",
+                 f"once {2 ** 64 - 1} request DETECTOR SWITCH_ON"):
         one.say(line)
     one.say("kill NOBODY ! by me")
-    answers = [one.hear(b"= ") for _ in range(9)]
+    answers = [one.hear(b"= ") for _ in range(15)]
     one.leave()
     with open(served.log) as log:
-        is_forged = any(other in line for line in log)
-    return answers == ["= refused BadLine"] * 8 + ["= refused UnknownObject"] and not is_forged
+        is_forged = any(other in line or f"once {name} " in line for line in log)
+    return answers == ["= refused BadLine"] * 14 + ["= refused UnknownObject"] and not is_forged
 
 
 def long_line(served):

@@ -11,22 +11,69 @@ LONGEST_LINE, LONGEST_TOLD = 8192, 65536
 PIECE = 4096
 # More than this must not wait to be written; else nothing more is read from whoever causes it.
 MOST_WAITING = 65536
+# What has no token: blanks, and a remark after them.
+REMARK = re.compile(rb"[ \t\r]*(?:![\t\r\x20-\x7f]*)?")
+# The mark of a request that is made once, and how one is asked for; both with the digits of its number.
+MARK = re.compile(rb".* ! once [A-Z0-9_]{1,64} (0|[1-9][0-9]{0,19})", re.DOTALL)
+ASKED_ONCE = re.compile(rb"once [A-Z0-9_]{1,64} (0|[1-9][0-9]{0,19}) ")
 
 
-def has_answer(line):
-    """Whether the manager answers a line from outside: not one without a token, nor one that asks how all stands."""
+def is_of_64_bits(digits: bytes) -> bool:
+    return int(digits) < 1 << 64
+
+
+def has_mark(line: bytes) -> bool:
+    """Whether a line ends with the mark that the manager puts after a request that is made once. From outside such a
+    line is refused, also a remark."""
+    found = MARK.fullmatch(line)
+    return found is not None and is_of_64_bits(found[1])
+
+
+def has_answer(line: bytes) -> bool:
+    """Whether the manager answers a line from outside.
+
+    It answers none without a token, and none that asks how all stands. A remark is refused, as a line of any other kind
+    is, where it is too long, has a byte that no line may have, begins as a log does, or has the mark of a request.
+    """
     if line.startswith(b"?"):
         return False
-    if len(line) > LONGEST_LINE or not line.isascii():
+    if len(line) > LONGEST_LINE or line.startswith(b"! smirun live ") or not REMARK.fullmatch(line):
         return True
-    return not re.fullmatch(rb"[ \t\r]*(!.*)?", line, re.DOTALL)
+    return has_mark(line)
 
 
-def is_answer(line, devices):
-    """Whether a line that the manager wrote answers a line from outside.
+def asked_once(line: bytes) -> bytes:
+    """The front `once NAME K ` of a line that asks for a request that is made once; nothing of any other line."""
+    found = ASKED_ONCE.match(line)
+    return found[0] if found and is_of_64_bits(found[1]) else b""
+
+
+def is_once_answer(line: bytes) -> bool:
+    """Whether a line that the manager wrote is `once NAME K ANSWER`. One of how all stands, which begins so too, has an
+    object or `-` as its fourth word, and names of objects are in upper case."""
+    words = line.split(b" ", 4)
+    return words[0] == b"once" and words[3:4] in ([b"accept"], [b"refused"], [b"past"])
+
+
+def is_plain_answer(line: bytes, devices: set[str]) -> bool:
+    """Whether a line that the manager wrote answers a line from outside, if that asks for nothing once."""
+    words = line.split(b" ", 3)
+    if words[0] == b"end":
+        return words[1].decode() in devices and words[2] != b"skipped"
+    return words[0] in (b"accept", b"refused", b"kill")
+
+
+def answers(told: bytes, asked: bytes, devices: set[str]) -> bool:
+    """Whether a line that the manager wrote answers this line from outside, the oldest that has no answer yet.
 
     Each line from outside that has an answer has exactly one, and they come in the order of the lines. The manager's
     own steps, a start and a go, are never refused and never still. So of what it writes
+
+      once NAME K ANSWER    answers `once NAME K ..`. Where the request is made, the line `accept ..` or `refused ..`
+                            that it writes comes before this one, and is no answer
+      refused BadLine       answers `once NAME K ..` too: no request writes it
+
+    and where the oldest line asks for nothing once
 
       accept ..             answers a request
       refused ..            answers a line of any kind (`post .. refused ..` begins with another word)
@@ -40,12 +87,11 @@ def is_answer(line, devices):
     start lines that are told again behind it) answers nothing. `! unanswered` is what supervise.py writes for a line
     whose answer the end of a manager has swallowed.
     """
-    words = line.split(b" ", 3)
-    if words[0] in (b"accept", b"refused", b"kill"):
+    if told.startswith(b"! unanswered "):
         return True
-    if words[0] == b"end":
-        return words[1].decode() in devices and words[2] != b"skipped"
-    return words[:2] == [b"!", b"unanswered"]
+    if front := asked_once(asked):
+        return told == b"refused BadLine" or told.startswith(front) and is_once_answer(told)
+    return is_plain_answer(told, devices)
 
 
 def read_contact(path):

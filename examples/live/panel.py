@@ -8,6 +8,10 @@ The first starts a gateway with a manager of its own, and with --play the device
 examples/partition.sml too. The second goes to a gateway that runs, which wrote CONTACT (gateway.py FILE --contact
 CONTACT). All who look at the panel have the one session that it has at the gateway.
 
+Actions are asked for by requests that are made once, so that one whose answer was lost can be asked for again. Where
+the connection to the gateway is cut, the panel connects again, for a minute. At the same gateway, with the same
+session, it asks again what has no answer and is still waited for; else the page shows `not known` for it.
+
 It prints the address of the page. The secret in it is made at each start: whoever has the address may command.
 """
 import argparse
@@ -26,6 +30,8 @@ import sys
 import tempfile
 import threading
 import time
+from collections.abc import Callable, Iterator
+from typing import TextIO
 
 from domain import Domain, Standing
 from lines import HERE, read_contact
@@ -38,52 +44,163 @@ LEAST_SECONDS, LIFE_SECONDS = 0.1, 15.0
 PATIENCE = 10.0
 MOST_CONNECTIONS, MOST_STREAMS, LONGEST_BODY = 48, 16, 8192
 ANSWER_SECONDS = 5.0
+# A connection that was cut is tried again for so long, and this is between two tries.
+RETRY_SECONDS, PAUSE_SECONDS = 60.0, 0.5
+NOT_KNOWN = "not known"
+
+
+def said_of(answer: str, is_again: bool) -> str:
+    """What the page shows of an answer. A request that was asked for again and is old may have been made or not."""
+    once = re.fullmatch(r"once \w+ \d+ (.*)", answer)
+    told = once[1] if once else answer
+    if told.startswith("accept "):
+        return "accepted"
+    return NOT_KNOWN if is_again and told == "refused Old" else told
+
+
+class Asked:
+    """A line that was sent: whether it was sent again, whether its answer is waited for, and what is said of it."""
+
+    def __init__(self, line: str) -> None:
+        self.line, self.is_again, self.is_waited_for = line, False, True
+        self.said: queue.SimpleQueue[str] = queue.SimpleQueue()
+
+    def may_be_asked_again(self) -> bool:
+        return self.line.startswith("once ") and self.is_waited_for
 
 
 class Manager:
     """What the gateway tells: how all stands, the last lines, and the answers to what was asked."""
 
-    def __init__(self, domain, contact):
-        host, port, secret = read_contact(contact)
-        self.domain, self.standing = domain, Standing(domain)
+    def __init__(self, domain: Domain, contact: str) -> None:
+        self.domain, self.contact, self.standing = domain, contact, Standing(domain)
         self.last, self.count = collections.deque(maxlen=LINES_SHOWN), 0
-        self.changed, self.asking, self.answers = threading.Condition(), threading.Lock(), collections.deque()
-        self.has_ended = False
-        self.link = socket.create_connection((host, int(port)))
-        self.link.sendall(secret.encode() + b"\n")
-        threading.Thread(target=self.follow, daemon=True).start()
+        # Lines that have no answer, in order; and the number of the last that is to be made once.
+        self.asked, self.number = collections.deque(), 0
+        # Who writes to the gateway has `asking`, and who looks at what is here `changed`, which is taken second.
+        self.changed, self.asking = threading.Condition(), threading.Lock()
+        # No link: the connection was cut. `at` is which gateway it was, by its secret, and with which session.
+        self.link, self.at, self.has_ended = None, None, False
+        threading.Thread(target=self.follow, args=[self.connect()], daemon=True).start()
 
-    def follow(self):
-        for marked in self.link.makefile("r", encoding="latin1"):
-            mark, line = marked[:1], marked[2:].rstrip("\n")
-            with self.changed:
-                if mark in "=-":
-                    self.standing.take(line)
-                if mark == "=" and self.answers:
-                    self.answers.popleft().put(line)
-                self.keep(marked.rstrip("\n"))
+    def connect(self) -> TextIO:
+        """Connects to the gateway that the contact tells of: what it tells after the client's session."""
+        host, port, secret = read_contact(self.contact)
+        link = socket.create_connection((host, int(port)), ANSWER_SECONDS)
+        link.sendall(secret.encode() + b"\n")
+        told = link.makefile("r", encoding="latin1", newline="\n")
+        first = told.readline()
+        if not first.startswith("# session "):
+            raise OSError(first.removeprefix("# ").strip() or "the gateway says nothing")
+        link.settimeout(None)
+        with self.asking:
+            self.ask_again(link, (secret, first))
+        return told
+
+    def ask_again(self, link: socket.socket, at: tuple[str, str]) -> None:
+        """Goes on with a new connection. What has no answer is asked again, if that is the same request there."""
         with self.changed:
-            self.has_ended = True
-            self.keep("# the manager has ended; start the panel anew")
+            again = [asked for asked in self.asked if at == self.at and asked.may_be_asked_again()]
+            self.give_up(lambda asked: asked not in again)
+            self.standing = Standing(self.domain)
+            self.keep(at[1].rstrip("\n"))
+            self.link, self.at = link, at
+        for asked in again:
+            asked.is_again = True
+            self.write(link, asked.line)
 
-    def keep(self, line):
+    def give_up(self, is_lost: Callable[[Asked], bool]) -> None:
+        """Says of what has no answer, if it is lost, that it is not known what became of it."""
+        for asked in filter(is_lost, self.asked):
+            asked.said.put(NOT_KNOWN)
+        self.asked = collections.deque(asked for asked in self.asked if not is_lost(asked))
+
+    @staticmethod
+    def write(link: socket.socket, line: str) -> None:
+        """Writes a line. Where that fails the connection was cut, which is seen by who reads it."""
+        try:
+            link.sendall(line.encode("ascii") + b"\n")
+        except OSError:
+            hang_up(link)
+
+    def follow(self, told: TextIO | None) -> None:
+        """Follows what the gateway tells. Where the connection is cut, another is made, if that can be."""
+        while told:
+            with told:
+                self.hear_all(told)
+            told = self.connect_again()
+        with self.changed:
+            self.give_up(lambda _: True)
+            self.has_ended = True
+            self.keep("# there is no gateway; start the panel anew")
+
+    def hear_all(self, told: TextIO) -> None:
+        try:
+            for marked in told:
+                self.hear(marked)
+        except OSError:
+            pass
+
+    def hear(self, marked: str) -> None:
+        """A line of the gateway. A last one that was cut off is passed over."""
+        mark, line = marked[:1], marked[2:].rstrip("\n")
+        if not marked.endswith("\n"):
+            return
+        with self.changed:
+            if mark in "=-":
+                self.standing.take(line)
+            if mark == "=" and self.asked:
+                asked = self.asked.popleft()
+                asked.said.put(said_of(line, asked.is_again))
+            self.keep(marked.rstrip("\n"))
+
+    def connect_again(self) -> TextIO | None:
+        """Tries to connect until it can, or for a while. What is not asked again has no answer to come."""
+        hang_up(self.link)  # so that nobody writes any more
+        with self.asking, self.changed:
+            self.link.close()
+            self.link = None
+            self.give_up(lambda asked: not asked.may_be_asked_again())
+            self.keep("# the connection to the gateway is cut")
+        ends = time.monotonic() + RETRY_SECONDS
+        while time.monotonic() < ends:
+            try:
+                return self.connect()
+            except (OSError, OverflowError, SystemExit):  # (the last where the contact tells of no gateway)
+                time.sleep(PAUSE_SECONDS)
+        return None
+
+    def keep(self, line: str) -> None:
         self.last.append(line)
         self.count += 1
         self.changed.notify_all()
 
-    def ask(self, line):
-        """Asks by a line, and waits for its answer."""
-        answer = queue.SimpleQueue()
+    def send(self, line: str) -> Asked | None:
+        """Sends a line, a request as one that is made once; nothing where there is no gateway."""
         with self.asking:
             with self.changed:
-                if self.has_ended:
-                    return "the manager has ended"
-                self.answers.append(answer)
-            self.link.sendall(line.encode("ascii") + b"\n")
+                if self.link is None:
+                    return None
+                if line.startswith("request "):
+                    self.number = max(self.number + 1, time.time_ns() // 1000)
+                    line = f"once {self.number} {line}"
+                asked, link = Asked(line), self.link
+                self.asked.append(asked)
+            self.write(link, line)
+        return asked
+
+    def ask(self, line: str) -> Iterator[str]:
+        """Asks by a line: `sent` once it was sent, and then what was answered, which is waited for."""
+        asked = self.send(line)
+        if asked is None:
+            yield "not sent: there is no gateway"
+            return
+        yield "sent"
         try:
-            return answer.get(timeout=ANSWER_SECONDS)
+            yield asked.said.get(timeout=ANSWER_SECONDS)
         except queue.Empty:
-            return "no answer yet"
+            asked.is_waited_for = False
+            yield "no answer yet" if self.link else NOT_KNOWN
 
     def wait_for_more(self, count):
         """Waits until more was told than that, or for a while."""
@@ -95,7 +212,7 @@ class Manager:
         with self.changed:
             objects = {name: self.picture_of(name) for name in self.domain.objects}
             return self.count, {"objects": objects, "sets": self.standing.members, "lines": [*self.last],
-                                "ended": self.has_ended}
+                                "cut": self.link is None, "ended": self.has_ended}
 
     def picture_of(self, name):
         standing, kind = self.standing, self.domain.classes[self.domain.objects[name]]
@@ -154,6 +271,13 @@ def value_of(kind, value):
     return value if kind == "int" else f'"{value}"'
 
 
+def hang_up(link: socket.socket) -> None:
+    try:
+        link.shutdown(socket.SHUT_RDWR)
+    except OSError:
+        pass
+
+
 class Page(http.server.BaseHTTPRequestHandler):
     """One request of a browser."""
 
@@ -171,10 +295,7 @@ class Page(http.server.BaseHTTPRequestHandler):
         super().finish()
 
     def hang_up(self):
-        try:
-            self.connection.shutdown(socket.SHUT_RDWR)
-        except OSError:
-            pass
+        hang_up(self.connection)
 
     def is_ours(self):
         """Whether the request is one of our own page: by the name of the server, by where it comes from, and by the
@@ -206,14 +327,19 @@ class Page(http.server.BaseHTTPRequestHandler):
         else:
             body = self.rfile.read(int(length))
             self.deadline.cancel()
-            self.reply(200, "text/plain", self.answer(body).encode() + b"\n")
+            self.begin(200, "text/plain")
+            self.end_headers()
+            for said in self.answers(body):
+                self.wfile.write(said.encode() + b"\n")
 
-    def answer(self, body):
+    def answers(self, body: bytes) -> Iterator[str]:
+        """What is said of what a page asks, line by line as it comes."""
         try:
             line = line_of(self.server.manager.domain, json.loads(body))
         except (ValueError, KeyError, TypeError, AttributeError, RecursionError) as fault:
-            return f"not asked: {fault}"
-        return self.server.manager.ask(line)
+            yield f"not asked: {fault}"
+            return
+        yield from self.server.manager.ask(line)
 
     def reply(self, status, kind, body, nonce="none"):
         self.begin(status, kind, nonce)

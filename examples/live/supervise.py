@@ -12,9 +12,11 @@ Each start again is shown in the output: a torn last line is not passed on, then
 
     ! restarted
     ! unanswered LINE      for each line that the old manager was given and did not answer, in order. It may have been
-                           made or not: the standing behind says how all stands. Ask again where that is needed
+                           made or not: the standing behind says how all stands. Ask again where that is needed. A line
+                           `once NAME K ..` can always be asked again: what was made is not made twice
     state OBJECT STATE ..  the standing, and the `start` lines of what devices have in hand, as --resume writes them
 
+A last line that lacks its line feed is not passed on: what was cut off may be a good line that asks for something else.
 SIGTERM and SIGINT close the manager's input, so that it goes to rest and ends; after five seconds it is terminated.
 """
 import argparse
@@ -26,7 +28,7 @@ import sys
 import time
 
 from domain import Domain
-from lines import LONGEST_TOLD, PROGRAM, Inlet, Outlet, has_answer, is_answer
+from lines import LONGEST_TOLD, PROGRAM, Inlet, Outlet, answers, has_answer
 
 MOST_ENDS, WITHIN = 5, 60.0
 # How long a manager may take to rest once its input was closed.
@@ -88,20 +90,17 @@ class Supervisor:
             if outlet.waiting:
                 ready.register(outlet.descriptor, selectors.EVENT_WRITE, outlet.write)
 
-    def hear(self):
-        """Hands on what came; at the end also a last line without its line feed."""
-        lines = self.input.read()
-        if self.input.has_ended and self.input.rest:
-            lines = [self.input.rest]
-        for line in lines:
+    def hear(self) -> None:
+        """Hands on the lines that came whole."""
+        for line in self.input.read():
             self.to.put(line)
             if has_answer(line):
                 self.unanswered.append(line)
 
-    def pass_on(self):
+    def pass_on(self) -> None:
         for line in self.told.read():
             self.output.put(line)
-            if is_answer(line, self.devices) and self.unanswered:
+            if self.unanswered and answers(line, self.unanswered[0], self.devices):
                 self.unanswered.popleft()
         if self.output.is_broken:
             self.leave()

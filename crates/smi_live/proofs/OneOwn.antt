@@ -1,5 +1,5 @@
 -- One step of a manager's own can be made, and one thing becomes of a line from outside.
-use Rattle.std.proofs.Common.{◌≡◌, ◌∙◌, sym, ap, refl, subst, ◌+◌, ◌++◌, ◌⊎◌, ℕ, Bool, true, false, List, Option, Some, None, Result, Ok, Err, arith, inl, inr, codes}
+use Rattle.std.proofs.Common.{◌≡◌, ◌∙◌, sym, ap, refl, subst, ◌+◌, ◌++◌, ◌∷◌, [], ◌⊎◌, ℕ, Bool, true, false, List, Option, Some, None, Result, Ok, Err, arith, inl, inr, codes}
 use Rattle.std.specs.Prelude.{is_some}
 use Rattle.sml_text.specs.Laws.{SomeReading}
 use Rattle.sml_domain.specs.Domain.{Domain}
@@ -19,7 +19,14 @@ use Rattle.smi_lines.specs.declared.line.LineError.TheVariants as line
 use Rattle.smi_core.specs.Machines.{CoreView}
 use Rattle.smi_core.specs.Output.{LineWrites}
 use Rattle.smi_core.proofs.OneOutput.{line_one, reads_one}
-use Rattle.smi_live.specs.Managing.{AllRest, IsAtObject, IsBefore, IsIdleObject, IsMadeAt, IsOwnLine, ManagerView, StandsFor, ManagerTakesLine, TakesTurn, first_in, makes_line}
+use Rattle.smi_live_once.specs.declared.table.Verdict.{Verdict}
+use Rattle.smi_live_once.specs.declared.table.Verdict.TheVariants as once
+use Rattle.smi_live_once.specs.Forms.{is_reserved, marked_text, told_text}
+use Rattle.smi_live_once.specs.Making.{Keeper, KeeperDoes, MakesKept}
+use Rattle.smi_live_once.specs.Tables.{OnceTold, verdict_in}
+use Rattle.smi_live_once.proofs.Again.{made_one}
+use Rattle.smi_live_once.proofs.Reading.{one_asked}
+use Rattle.smi_live.specs.Managing.{AllRest, IsAtObject, IsBefore, IsIdleObject, IsMadeAt, IsOwnLine, ManagerView, StandsFor, StandsForOnce, ManagerTakesLine, TakesAsked, TakesLine, TakesNew, TakesOnce, TakesOther, TakesOutside, TakesPlain, TakesTurn, TellsAgain, TellsOnly, first_in, keeper_of, line_for_bad, logged, makes_line}
 use Rattle.smi_live.proofs.Resting.{no_go, no_start}
 
 -- ---- an idle object makes nothing
@@ -54,8 +61,8 @@ either_first first o p = grind arith
 
 one_object : (m : ManagerView) (l k : List ℕ) (m2 m3 : ManagerView) (p : TakesTurn m l m2) (q : TakesTurn m k m3) → (p.object ≡ q.object) ⊎ (IsBefore (first_in m) p.object q.object ⊎ IsBefore (first_in m) q.object p.object) → p.object ≡ q.object
 one_object m l k m2 m3 p q (inl e) = e
-one_object m l k m2 m3 p q (inr (inl b)) = absurd (not_made m.core p.object l m2.core (q.before p.object p.within b) p.made)
-one_object m l k m2 m3 p q (inr (inr b)) = absurd (not_made m.core q.object k m3.core (p.before q.object q.within b) q.made)
+one_object m l k m2 m3 p q (inr (inl b)) = absurd (not_made m.core p.object p.line m2.core (q.before p.object p.within b) p.made)
+one_object m l k m2 m3 p q (inr (inr b)) = absurd (not_made m.core q.object q.line m3.core (p.before q.object q.within b) q.made)
 
 -- ---- one step can be made at it
 
@@ -98,20 +105,37 @@ one_line_of m w o (step.Answer y z) t a b w2 w3 l k at at2 g h e f = absurd e
 one_line_of m w o (step.Fault y) t a b w2 w3 l k at at2 g h e f = absurd e
 one_line_of m w o (step.Kill y i) t a b w2 w3 l k at at2 g h e f = absurd e
 
-same_manager : (a b : ManagerView) → a.core ≡ b.core → a.turn ≡ b.turn → a ≡ b
-same_manager a b p q = ap (λ c. record { core = c; turn = a.turn }) p ∙ ap (λ t. record { core = b.core; turn = t }) q
+same_manager : (a b : ManagerView) → keeper_of a ≡ keeper_of b → a.turn ≡ b.turn → a ≡ b
+same_manager a b p q =
+    ap (λ (k : Keeper CoreView). record { core = k.core; turn = a.turn; told = k.told }) p ∙ ap (λ t. record { core = b.core; turn = t; told = b.told }) q
 
 -- the two lines of one turn are one
 turn_line : (m : ManagerView) (l k : List ℕ) (m2 m3 : ManagerView) (p : TakesTurn m l m2) (q : TakesTurn m k m3) → p.object ≡ q.object → l ≡ k
 turn_line m l k m2 m3 p q e =
-    let r : IsMadeAt m.core k p.object m3.core = subst (λ o. IsMadeAt m.core k o m3.core) (sym e) q.made in
-    one_line_of m.core.setup m.core.world p.object p.made.step r.step p.made.made.gives r.made.gives m2.core.world m3.core.world l k p.made.of r.of p.made.made.steps r.made.steps p.made.made.own r.made.own
+    let r : IsMadeAt m.core q.line p.object m3.core = subst (λ o. IsMadeAt m.core q.line o m3.core) (sym e) q.made in
+    p.keeps ∙ ap logged (one_line_of m.core.setup m.core.world p.object p.made.step r.step p.made.made.gives r.made.gives m2.core.world m3.core.world p.line q.line p.made.of r.of p.made.made.steps r.made.steps p.made.made.own r.made.own) ∙ sym q.keeps
+
+-- a text of a line is not empty
+some_text : (line kept : List ℕ) → kept ≡ logged line → kept ≡ [] → ⊥
+some_text [] kept e f = let g : ◌≡◌ {A = List ℕ} (10 ∷ []) [] = sym e ∙ f in cc g
+some_text (b ∷ bs) kept e f = let g : ◌≡◌ {A = List ℕ} (b ∷ (bs ++ 10 ∷ [])) [] = sym e ∙ f in cc g
+
+-- where a line is kept, it was made
+was_made : (k : Keeper CoreView) (line kept out : List ℕ) (k2 : Keeper CoreView) → kept ≡ logged line → KeeperDoes LineWrites k kept out k2 → MakesKept LineWrites k kept out k2
+was_made k line kept out k2 e (inl h) = h
+was_made k line kept out k2 e (inr h) = absurd (some_text line kept e h.keeps)
+
+-- what is kept decides what was told, and what it leads to
+does_one : SomeReading → (k : Keeper CoreView) (line a b out out2 : List ℕ) (k2 k3 : Keeper CoreView) → a ≡ logged line → a ≡ b → KeeperDoes LineWrites k a out k2 → KeeperDoes LineWrites k b out2 k3 → (out ≡ out2) × (k2 ≡ k3)
+does_one some k line a b out out2 k2 k3 e same p q =
+    let q2 = subst (λ x. KeeperDoes LineWrites k x out2 k3) (sym same) q in
+    made_one LineWrites (line_one some) k a out out2 k2 k3 (was_made k line a out k2 e p) (was_made k line a out2 k3 e q2)
 
 pub own_one : SomeReading → (m : ManagerView) (l k out out2 : List ℕ) (m2 m3 : ManagerView) → makes_line m l out m2 → TakesTurn m l m2 → makes_line m k out2 m3 → TakesTurn m k m3 → (l ≡ k) × (out ≡ out2) × (m2 ≡ m3)
 own_one some m l k out out2 m2 m3 a p b q =
     let e = one_object m l k m2 m3 p q (either_first (first_in m) p.object q.object) in
     let line = turn_line m l k m2 m3 p q e in
-    let w = line_one some m.core l out out2 m2.core m3.core a (subst (λ n. LineWrites m.core n out2 m3.core) (sym line) b) in
+    let w = does_one some (keeper_of m) p.line l k out out2 (keeper_of m2) (keeper_of m3) p.keeps line a b in
     (line, w.0, same_manager m2 m3 w.1 (p.next ∙ ap (λ o. o + 1) e ∙ sym q.next))
 
 -- ---- where all rests, no turn is taken
@@ -127,7 +151,7 @@ is_own_step (step.Kill x k) l h = h
 pub no_own : (m : ManagerView) (l : List ℕ) (m2 : ManagerView) → AllRest m → TakesTurn m l m2 → ⊥
 no_own m l m2 rests p =
     let made = p.made.made in
-    not_idle made.gives made.moves (rests p.made.step (is_own_step p.made.step l made.own) (Ok made.gives) m2.core.world made.steps)
+    not_idle made.gives made.moves (rests p.made.step (is_own_step p.made.step p.line made.own) (Ok made.gives) m2.core.world made.steps)
 
 -- ---- one thing becomes of a line from outside
 
@@ -145,9 +169,97 @@ one_kept (Ok (Some (step.Answer x y))) asked l k p q = p ∙ sym q
 one_kept (Ok (Some (step.Fault x))) asked l k p q = p ∙ sym q
 one_kept (Ok (Some (step.Kill x i))) asked l k p q = p ∙ sym q
 
-pub took_one : SomeReading → (m : ManagerView) (asked l k out out2 : List ℕ) (m2 m3 : ManagerView) → makes_line m l out m2 → ManagerTakesLine m asked l m2 → makes_line m k out2 m3 → ManagerTakesLine m asked k m3 → (l ≡ k) × (out ≡ out2) × (m2 ≡ m3)
-took_one some m asked l k out out2 m2 m3 a p b q =
-    let read = reads_one some asked q.read p.read (no_want q.read asked k q.stands) (no_want p.read asked l p.stands) q.reads p.reads in
-    let line = one_kept p.read asked l k p.stands (subst (λ r. StandsFor r asked k) read q.stands) in
-    let w = line_one some m.core l out out2 m2.core m3.core a (subst (λ n. LineWrites m.core n out2 m3.core) (sym line) b) in
-    (line, w.0, same_manager m2 m3 w.1 (p.stays ∙ sym q.stays))
+once_kept : (r : Result (Option Step) LineError) (asked l k : List ℕ) → StandsForOnce r asked l → StandsForOnce r asked k → l ≡ k
+once_kept (Err line.BadLine) asked l k p q = p ∙ sym q
+once_kept (Err line.Memory) asked l k p q = absurd p
+once_kept (Ok None) asked l k p q = p ∙ sym q
+once_kept (Ok (Some (step.Start x))) asked l k p q = p ∙ sym q
+once_kept (Ok (Some (step.Go x))) asked l k p q = p ∙ sym q
+once_kept (Ok (Some (step.Request i x y args))) asked l k p q = p ∙ sym q
+once_kept (Ok (Some (step.Answer x y))) asked l k p q = p ∙ sym q
+once_kept (Ok (Some (step.Fault x))) asked l k p q = p ∙ sym q
+once_kept (Ok (Some (step.Kill x i))) asked l k p q = p ∙ sym q
+
+no_want_once : (r : Result (Option Step) LineError) (asked kept : List ℕ) → StandsForOnce r asked kept → r ≡ Err line.Memory → ⊥
+no_want_once r asked kept h e = subst (λ x. StandsForOnce x asked kept) e h
+
+plain_kept : SomeReading → (asked a b : List ℕ) → TakesPlain asked a → TakesPlain asked b → a ≡ b
+plain_kept some asked a b x y =
+    let p = x.taken in
+    let q = y.taken in
+    let read = reads_one some asked q.read p.read (no_want q.read asked y.line q.stands) (no_want p.read asked x.line p.stands) q.reads p.reads in
+    x.keeps ∙ ap logged (one_kept p.read asked x.line y.line p.stands (subst (λ r. StandsFor r asked y.line) read q.stands)) ∙ sym y.keeps
+
+new_kept : SomeReading → (marked a b : List ℕ) → TakesNew marked a → TakesNew marked b → a ≡ b
+new_kept some marked a b x y =
+    let p = x.taken in
+    let q = y.taken in
+    let read = reads_one some marked q.read p.read (no_want_once q.read marked y.line q.stands) (no_want_once p.read marked x.line p.stands) q.reads p.reads in
+    x.keeps ∙ ap logged (once_kept p.read marked x.line y.line p.stands (subst (λ r. StandsForOnce r marked y.line) read q.stands)) ∙ sym y.keeps
+
+-- from one keeper, one thing is kept and told, and it leads to one
+abbrev pub IsSame : List ℕ → List ℕ → List ℕ → List ℕ → Keeper CoreView → Keeper CoreView → Type 0
+IsSame a b out out2 k2 k3 = (a ≡ b) × (out ≡ out2) × (k2 ≡ k3)
+
+only_one : (k : Keeper CoreView) (name : List ℕ) (number : ℕ) (t u a b out out2 : List ℕ) (k2 k3 : Keeper CoreView) → t ≡ u → TellsOnly k name number t a out k2 → TellsOnly k name number u b out2 k3 → IsSame a b out out2 k2 k3
+only_one k name number t u a b out out2 k2 k3 e p q = (p.keeps ∙ sym q.keeps, p.tells ∙ ap (told_text name number) e ∙ sym q.tells, p.stays ∙ sym q.stays)
+
+again_one : (k : Keeper CoreView) (name : List ℕ) (number : ℕ) (a b out out2 : List ℕ) (k2 k3 : Keeper CoreView) → TellsAgain k name number a out k2 → TellsAgain k name number b out2 k3 → IsSame a b out out2 k2 k3
+again_one k name number a b out out2 k2 k3 p q =
+    let f : ◌≡◌ {A = Option OnceTold} (Some p.last) (Some q.last) = sym p.is_last ∙ q.is_last in
+    let e : p.last ≡ q.last = cc f in
+    only_one k name number p.last.answer q.last.answer a b out out2 k2 k3 (ap (λ (t : OnceTold). t.answer) e) p.only q.only
+
+-- where a line is kept, and one line, what was told and what it leads to are one
+line_same : SomeReading → (k : Keeper CoreView) (line a b out out2 : List ℕ) (k2 k3 : Keeper CoreView) → KeeperDoes LineWrites k a out k2 → KeeperDoes LineWrites k b out2 k3 → a ≡ logged line → a ≡ b → IsSame a b out out2 k2 k3
+line_same some k line a b out out2 k2 k3 p q e same =
+    let w = does_one some k line a b out out2 k2 k3 e same p q in
+    (same, w.0, w.1)
+
+once_one : SomeReading → (v : Verdict) (k : Keeper CoreView) (name : List ℕ) (number : ℕ) (request a b out out2 : List ℕ) (k2 k3 : Keeper CoreView) → KeeperDoes LineWrites k a out k2 → KeeperDoes LineWrites k b out2 k3
+    → TakesOnce v k name number request a out k2 → TakesOnce v k name number request b out2 k3 → IsSame a b out out2 k2 k3
+once_one some once.New k name number request a b out out2 k2 k3 x y p q = line_same some k p.line a b out out2 k2 k3 x y p.keeps (new_kept some (marked_text request name number) a b p q)
+once_one some once.Again k name number request a b out out2 k2 k3 x y p q = again_one k name number a b out out2 k2 k3 p q
+once_one some once.Old k name number request a b out out2 k2 k3 x y p q = only_one k name number _ _ a b out out2 k2 k3 refl p q
+once_one some once.TooMany k name number request a b out out2 k2 k3 x y p q = only_one k name number _ _ a b out out2 k2 k3 refl p q
+
+-- a text of a line is kept of what asks for nothing once
+other_line : (asked kept : List ℕ) → TakesOther asked kept → (line : List ℕ) × (kept ≡ logged line)
+other_line asked kept (inl h) = (line_for_bad, h.3)
+other_line asked kept (inr h) = (h.1.line, h.1.keeps)
+
+other_kept : SomeReading → (asked a b : List ℕ) → TakesOther asked a → TakesOther asked b → a ≡ b
+other_kept some asked a b (inl p) (inl q) = p.3 ∙ sym q.3
+other_kept some asked a b (inl p) (inr q) = absurd (q.0 p.0 p.1 p.2)
+other_kept some asked a b (inr p) (inl q) = absurd (p.0 q.0 q.1 q.2)
+other_kept some asked a b (inr p) (inr q) = plain_kept some asked a b p.1 q.1
+
+asked_one : SomeReading → (k : Keeper CoreView) (asked a b out out2 : List ℕ) (k2 k3 : Keeper CoreView) → KeeperDoes LineWrites k a out k2 → KeeperDoes LineWrites k b out2 k3 → TakesAsked k asked a out k2 → TakesAsked k asked b out2 k3 → IsSame a b out out2 k2 k3
+asked_one some k asked a b out out2 k2 k3 x y p q =
+    let same = one_asked asked q.name p.name q.number p.number q.request p.request q.asks p.asks in
+    let Q : List ℕ → ℕ → List ℕ → Type 0 = λ n i r. TakesOnce (verdict_in k.told n i) k n i r b out2 k3 in
+    let t = subst (λ r. Q p.name p.number r) same.2 (subst (λ i. Q p.name i q.request) same.1 (subst (λ n. Q n q.number q.request) same.0 q.takes)) in
+    once_one some (verdict_in k.told p.name p.number) k p.name p.number p.request a b out out2 k2 k3 x y p.takes t
+
+outside_one : SomeReading → (k : Keeper CoreView) (asked a b out out2 : List ℕ) (k2 k3 : Keeper CoreView) → KeeperDoes LineWrites k a out k2 → KeeperDoes LineWrites k b out2 k3 → TakesOutside k asked a out k2 → TakesOutside k asked b out2 k3 → IsSame a b out out2 k2 k3
+outside_one some k asked a b out out2 k2 k3 x y (inl p) (inl q) = asked_one some k asked a b out out2 k2 k3 x y p q
+outside_one some k asked a b out out2 k2 k3 x y (inl p) (inr q) = absurd (q.0 p.name p.number p.request p.asks)
+outside_one some k asked a b out out2 k2 k3 x y (inr p) (inl q) = absurd (p.0 q.name q.number q.request q.asks)
+outside_one some k asked a b out out2 k2 k3 x y (inr p) (inr q) =
+    let kept = other_line asked a p.1 in
+    line_same some k kept.0 a b out out2 k2 k3 x y kept.1 (other_kept some asked a b p.1 q.1)
+
+not_both : (b : Bool) → b ≡ true → b ≡ false → ⊥
+not_both true e f = cc f
+not_both false e f = cc e
+
+line_taken : SomeReading → (k : Keeper CoreView) (asked a b out out2 : List ℕ) (k2 k3 : Keeper CoreView) → KeeperDoes LineWrites k a out k2 → KeeperDoes LineWrites k b out2 k3 → TakesLine k asked a out k2 → TakesLine k asked b out2 k3 → IsSame a b out out2 k2 k3
+line_taken some k asked a b out out2 k2 k3 x y (inl p) (inl q) = line_same some k line_for_bad a b out out2 k2 k3 x y p.1 (p.1 ∙ sym q.1)
+line_taken some k asked a b out out2 k2 k3 x y (inl p) (inr q) = absurd (not_both (is_reserved asked) p.0 q.0)
+line_taken some k asked a b out out2 k2 k3 x y (inr p) (inl q) = absurd (not_both (is_reserved asked) q.0 p.0)
+line_taken some k asked a b out out2 k2 k3 x y (inr p) (inr q) = outside_one some k asked a b out out2 k2 k3 x y p.1 q.1
+
+pub took_one : SomeReading → (m : ManagerView) (asked a b out out2 : List ℕ) (m2 m3 : ManagerView) → makes_line m a out m2 → ManagerTakesLine m asked a out m2 → makes_line m b out2 m3 → ManagerTakesLine m asked b out2 m3 → (a ≡ b) × (out ≡ out2) × (m2 ≡ m3)
+took_one some m asked a b out out2 m2 m3 x p y q =
+    let w = line_taken some (keeper_of m) asked a b out out2 (keeper_of m2) (keeper_of m3) x y p.takes q.takes in
+    (w.0, w.1, same_manager m2 m3 w.2 (p.stays ∙ sym q.stays))

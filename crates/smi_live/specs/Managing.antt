@@ -1,5 +1,5 @@
 -- What a manager does, as a machine of lines.
-use Rattle.std.specs.Prelude.{◌≡◌, ◌≢◌, ◌<◌, ◌≤◌, ◌+◌, ◌++◌, ◌⊎◌, length, min, ℕ, List, Option, Some, None, Result, Ok, Err, codes}
+use Rattle.std.specs.Prelude.{◌≡◌, ◌≢◌, ◌<◌, ◌≤◌, ◌+◌, ◌++◌, ◌∷◌, ◌⊎◌, [], length, min, ℕ, List, Option, Some, None, Result, Ok, Err, codes, true, false}
 use Rattle.sml_domain.specs.Domain.{Domain}
 use Rattle.sml_domain.specs.Lookups.{object_named}
 use Rattle.smi_world.specs.declared.step.Step.{Step}
@@ -10,22 +10,37 @@ use Rattle.smi_world.specs.declared.refusal.StepError.{StepError}
 use Rattle.smi_world.specs.World.{World}
 use Rattle.smi_world.specs.Steps.{StepsTo}
 use Rattle.smi_world_rest.specs.OwnSteps.{IsIdle, IsOwnStep}
+use Rattle.smi_lines.specs.Answers.{refused_text}
 use Rattle.smi_lines.specs.declared.line.LineError.{LineError}
 use Rattle.smi_lines.specs.declared.line.LineError.TheVariants as fault
 use Rattle.smi_lines.specs.Line.{LineReads}
 use Rattle.smi_core.specs.Machines.{CoreView}
 use Rattle.smi_core.specs.Output.{LineWrites}
+use Rattle.smi_live_once.specs.declared.table.Verdict.{Verdict}
+use Rattle.smi_live_once.specs.declared.table.Verdict.TheVariants as once
+use Rattle.smi_live_once.specs.Forms.{IsAsked, IsMarked, IsUnmarked, is_reserved, marked_text, told_text}
+use Rattle.smi_live_once.specs.Making.{Keeper, KeeperDoes}
+use Rattle.smi_live_once.specs.Tables.{OnceTold, told_to, verdict_in}
 
 -- ---- a manager
 
--- a manager: its core, and the object whose turn is next
+-- a manager: its core, the object whose turn is next, and what was told last to each of those who ask once
 pub record ManagerView : Type 0 where
   pub core : CoreView
   pub turn : ℕ
+  pub told : List OnceTold
 
--- what a line writes, and the core after it
+-- its core, and what was told last
+abbrev pub keeper_of : ManagerView → Keeper CoreView
+keeper_of m = record { core = m.core; told = m.told }
+
+-- a line was made, kept with its line feed and told, with the answer to its mark beside; or an answer was told alone
 abbrev pub makes_line : ManagerView → List ℕ → List ℕ → ManagerView → Type 0
-makes_line m line out m2 = LineWrites m.core line out m2.core
+makes_line m kept out m2 = KeeperDoes LineWrites (keeper_of m) kept out (keeper_of m2)
+
+-- a line as it is kept
+abbrev pub logged : List ℕ → List ℕ
+logged line = line ++ 10 ∷ []
 
 -- ---- lines from outside
 
@@ -46,11 +61,98 @@ StandsFor (Ok (Some (step.Answer x y))) asked kept = kept ≡ asked
 StandsFor (Ok (Some (step.Fault x))) asked kept = kept ≡ asked
 StandsFor (Ok (Some (step.Kill x k))) asked kept = kept ≡ asked
 
--- a line from outside is read, that is kept of it, and the turn stays
-pub record ManagerTakesLine (m : ManagerView) (asked kept : List ℕ) (m2 : ManagerView) : Type 0 where
+-- what is kept of a request that is to be made once, where its marked line is read so: the line, or a line that is no
+-- step if the line is no request
+abbrev pub StandsForOnce : Result (Option Step) LineError → List ℕ → List ℕ → Type 0
+StandsForOnce (Err fault.BadLine) asked kept = kept ≡ line_for_bad
+StandsForOnce (Err fault.Memory) asked kept = ⊥
+StandsForOnce (Ok None) asked kept = kept ≡ line_for_bad
+StandsForOnce (Ok (Some (step.Start x))) asked kept = kept ≡ line_for_bad
+StandsForOnce (Ok (Some (step.Go x))) asked kept = kept ≡ line_for_bad
+StandsForOnce (Ok (Some (step.Request k x y args))) asked kept = kept ≡ asked
+StandsForOnce (Ok (Some (step.Answer x y))) asked kept = kept ≡ line_for_bad
+StandsForOnce (Ok (Some (step.Fault x))) asked kept = kept ≡ line_for_bad
+StandsForOnce (Ok (Some (step.Kill x k))) asked kept = kept ≡ line_for_bad
+
+-- a line from outside is read, and this line stands for it
+pub record IsTakenAs (asked line : List ℕ) : Type 0 where
   pub read : Result (Option Step) LineError
   pub reads : LineReads asked read
-  pub stands : StandsFor read asked kept
+  pub stands : StandsFor read asked line
+
+-- the line that stands for it is kept
+pub record TakesPlain (asked kept : List ℕ) : Type 0 where
+  pub line : List ℕ
+  pub taken : IsTakenAs asked line
+  pub keeps : kept ≡ logged line
+
+-- a request that is new is read with its mark, and this line stands for it
+pub record IsMarkedAs (marked line : List ℕ) : Type 0 where
+  pub read : Result (Option Step) LineError
+  pub reads : LineReads marked read
+  pub stands : StandsForOnce read marked line
+
+-- the line that stands for it is kept
+pub record TakesNew (marked kept : List ℕ) : Type 0 where
+  pub line : List ℕ
+  pub taken : IsMarkedAs marked line
+  pub keeps : kept ≡ logged line
+
+-- nothing is made, nothing is kept, and that is told as the answer
+pub record TellsOnly (k : Keeper CoreView) (name : List ℕ) (number : ℕ) (answer kept out : List ℕ)
+    (k2 : Keeper CoreView) : Type 0 where
+  pub keeps : kept ≡ []
+  pub stays : k2 ≡ k
+  pub tells : out ≡ told_text name number answer
+
+-- the same is told again
+pub record TellsAgain (k : Keeper CoreView) (name : List ℕ) (number : ℕ) (kept out : List ℕ) (k2 : Keeper CoreView) :
+    Type 0 where
+  pub last : OnceTold
+  pub is_last : told_to k.told name ≡ Some last
+  pub only : TellsOnly k name number last.answer kept out k2
+
+-- what is done about a request that is to be made once, by the verdict on its number
+abbrev pub TakesOnce :
+    Verdict → Keeper CoreView → List ℕ → ℕ → List ℕ → List ℕ → List ℕ → Keeper CoreView → Type 0
+TakesOnce once.New k name number request kept out k2 = TakesNew (marked_text request name number) kept
+TakesOnce once.Again k name number request kept out k2 = TellsAgain k name number kept out k2
+TakesOnce once.Old k name number request kept out k2 =
+    TellsOnly k name number (refused_text (codes "Old")) kept out k2
+TakesOnce once.TooMany k name number request kept out k2 =
+    TellsOnly k name number (refused_text (codes "TooManyNames")) kept out k2
+
+-- a line asks for a request once
+pub record TakesAsked (k : Keeper CoreView) (asked kept out : List ℕ) (k2 : Keeper CoreView) : Type 0 where
+  pub name : List ℕ
+  pub number : ℕ
+  pub request : List ℕ
+  pub asks : IsAsked asked name number request
+  pub takes : TakesOnce (verdict_in k.told name number) k name number request kept out k2
+
+-- a line asks for nothing once
+abbrev pub IsNotAsked : List ℕ → Type 0
+IsNotAsked asked = (name : List ℕ) (number : ℕ) (request : List ℕ) → IsAsked asked name number request → ⊥
+
+-- a line that asks for nothing once: one with a mark is refused, since marks are the manager's own
+abbrev pub TakesOther : List ℕ → List ℕ → Type 0
+TakesOther asked kept =
+    ((name : List ℕ) × (number : ℕ) × IsMarked asked name number × (kept ≡ logged line_for_bad))
+    ⊎ (IsUnmarked asked × TakesPlain asked kept)
+
+-- a line that may come from outside: a request that is to be made once, or any other
+abbrev pub TakesOutside : Keeper CoreView → List ℕ → List ℕ → List ℕ → Keeper CoreView → Type 0
+TakesOutside k asked kept out k2 = TakesAsked k asked kept out k2 ⊎ (IsNotAsked asked × TakesOther asked kept)
+
+-- a line from outside: one that may not come is refused
+abbrev pub TakesLine : Keeper CoreView → List ℕ → List ℕ → List ℕ → Keeper CoreView → Type 0
+TakesLine k asked kept out k2 =
+    ((is_reserved asked ≡ true) × (kept ≡ logged line_for_bad))
+    ⊎ ((is_reserved asked ≡ false) × TakesOutside k asked kept out k2)
+
+-- a manager takes a line from outside so, and the turn stays
+pub record ManagerTakesLine (m : ManagerView) (asked kept out : List ℕ) (m2 : ManagerView) : Type 0 where
+  pub takes : TakesLine (keeper_of m) asked kept out (keeper_of m2)
   pub stays : m2.turn ≡ m.turn
 
 -- ---- the manager's own steps
@@ -118,8 +220,10 @@ abbrev pub IsBefore : ℕ → ℕ → ℕ → Type 0
 IsBefore first x o = (first ≤ x × ((x < o) ⊎ (o < first))) ⊎ ((x < o) × (o < first))
 
 -- the line is that of a start or a go that is neither refused nor waits on, at an object before which no other has one;
--- and the turn of the object behind it is next
-pub record TakesTurn (m : ManagerView) (line : List ℕ) (m2 : ManagerView) : Type 0 where
+-- and the turn of the object after it is next
+pub record TakesTurn (m : ManagerView) (kept : List ℕ) (m2 : ManagerView) : Type 0 where
+  pub line : List ℕ
+  pub keeps : kept ≡ logged line
   pub object : ℕ
   pub within : object < length m.core.setup.domain.objects
   pub made : IsMadeAt m.core line object m2.core

@@ -1,27 +1,36 @@
 //! The manager.
-ghost use Rattle.std.specs.Prelude.{◌≡◌, ◌<◌, ◌≤◌, ◌+◌, ℕ, IfOk, false, length, true};
+ghost use Rattle.std.specs.Prelude.{◌≡◌, ◌<◌, ◌≤◌, ◌+◌, [], ℕ, List, IfOk, false, length, true};
+ghost use Rattle.smi_core.specs.Output.{LineWrites};
+ghost use Rattle.smi_live_accounts.specs.Accounts.{AccountsTell};
+ghost use Rattle.smi_live_once.specs.Making.{KeeperWrites};
+ghost use Rattle.smi_world.specs.World.{opening};
 ghost use Rattle.smi_live.specs.Keeping.{FirstOf};
 ghost use Rattle.smi_live.specs.Managing as managing;
-ghost use Rattle.smi_live.specs.Managing.{IsIdleObject, IsMadeAt};
+ghost use Rattle.smi_live.specs.Managing.{IsIdleObject, IsMadeAt, logged};
 
-use crate::making::{take_read, try_lines};
+use crate::again::line_again;
+use crate::keeper::Keeper;
+use crate::making::try_lines;
 use crate::observer::Observer;
 use crate::own::{OwnLines, all_lines};
-use smi_core::{Core, Taken, read_step};
+use crate::taking::take_line;
+use crate::telling::end_line;
+use smi_core::{Core, Taken};
+use smi_live_accounts::Accounts;
 use smi_live_loop::{Machine, Made};
 use std::alloc::{AllocError, Global};
 use std::marker::Model;
 
-/// A core, the lines of the manager's own steps, and the object whose turn is next.
+/// A core with what is kept of what it did, the lines of the manager's own steps, and the object whose turn is next.
 ///
-/// It goes round the objects in the order of declaration, from the one behind that of its last step on.
+/// It goes round the objects in the order of declaration, from the one after that of its last step on.
 /// (docs/FORMATS.md, "A live manager".)
 #[derive(Drop)]
 pub struct Manager<L> {
-    core: Core,
+    keeper: Keeper,
     own: Vec<OwnLines>,
     turn: usize,
-    // How many lines were made.
+    // How many lines are kept.
     lines: usize,
     lookout: L,
     alloc: Global,
@@ -38,28 +47,26 @@ impl<L> Model for Manager<L> {
 
     ghost coded = { Prim.hlevel (codes, formula_code) };
 
-    ghost view = { λ m. record { core = m.core; turn = m.turn } };
+    ghost view = { λ m. record { core = m.keeper.core; turn = m.turn; told = m.keeper.told } };
 
-    ghost invariant = { λ m. AreOwn m.core.setup.domain m.own.items (length m.core.setup.domain.objects) };
+    ghost invariant = { λ m. AreOwn m.keeper.core.setup.domain m.own.items
+        (length m.keeper.core.setup.domain.objects) };
 }
 
 impl<L: Observer> Manager<L> {
-    /// The manager of a core, behind this count of lines, which were made before. Its first turn is that of the first
+    /// The manager of a core that did nothing yet, which has no line of a log. Its first turn is that of the first
     /// object. The cost is the square of the count of objects. The error is out of memory.
-    pub fn new(
-        alloc: Global,
-        core: Core,
-        lines: usize,
-        lookout: L,
-    ) -> Result<Manager<L>, AllocError>
-        ensures { IfOk result (λ m. m ≡ record { core = core; turn = 0 }) }
+    pub fn new(alloc: Global, core: Core, lookout: L) -> Result<Manager<L>, AllocError>
+        requires { core.world ≡ opening core.setup }
+        ensures { IfOk result (λ m. m ≡ record { core = core; turn = 0; told = [] }) }
     {
         let own = all_lines(alloc, core.domain())?;
+        let keeper = Keeper::new(alloc, core)?;
         Ok(Manager {
-            core,
+            keeper,
             own,
             turn: 0,
-            lines,
+            lines: 0,
             lookout,
             alloc,
         })
@@ -69,14 +76,75 @@ impl<L: Observer> Manager<L> {
     pub fn core(&self) -> &Core
         ensures { result.now ≡ self.now.core }
     {
-        &self.core
+        self.keeper.core()
+    }
+
+    /// What is kept of what the core did, so that no question about it walks the journal.
+    pub fn accounts(&self) -> &Accounts
+        ensures told { result.now.told ≡ self.now.told }
+        ensures tells { AccountsTell self.now.core.setup.domain self.now.core.world.journal result.now }
+    {
+        self.keeper.accounts()
+    }
+
+    /// Who looks on.
+    pub fn observer(&self) -> &L {
+        &self.lookout
+    }
+
+    /// The lines of a log were made again, of which it has this count: from here on, lines are made as they come.
+    pub fn begin(&mut self, lines: usize)
+        ensures { self.new ≡ self.old }
+    {
+        self.lines = lines;
+        self.lookout.begins();
+    }
+
+    /// Makes a line of a log again. What one with a mark writes was told last to its name. False if no manager would
+    /// have written it: its mark is not new, or stands after what is no request. Then nothing is made. The cost is
+    /// that of the step. The error is out of memory.
+    pub fn make_again(&mut self, line: &[u8], made: &mut Made) -> Result<bool, AllocError>
+        ensures made { IfOk result (λ b. b ≡ true
+            → KeeperWrites LineWrites (managing.keeper_of self.old) line.now made.new.text.items
+            (managing.keeper_of self.new)) }
+        ensures same { IfOk result (λ b. b ≡ false → self.new ≡ self.old) }
+        ensures turn { self.new.turn ≡ self.old.turn }
+    {
+        let taken = self.next_line(line);
+        match line_again(self.alloc, &mut self.keeper, &mut self.lookout, taken, made) {
+            Ok(true) => {
+                self.lines = self.lines.saturating_add(1);
+                Ok(true)
+            }
+            Ok(false) => Ok(false),
+            Err(error) => Err(error),
+        }
+    }
+
+    // A text as the line that follows those that are kept.
+    fn next_line<'a>(&self, text: &'a [u8]) -> Taken<'a>
+        ensures { result.text.now ≡ text.now }
+    {
+        Taken {
+            number: self.lines.saturating_add(1),
+            text,
+        }
+    }
+
+    // Counts a line, if one is kept of what was made.
+    fn count_line(&mut self, made: &Made)
+        ensures { self.new ≡ self.old }
+    {
+        if !made.kept.is_empty() {
+            self.lines = self.lines.saturating_add(1);
+        }
     }
 
     // How many objects there are.
     fn count(&self) -> usize
         ensures { result ≡ length self.now.core.setup.domain.objects }
     {
-        let _core = &self.core;
+        let _core = self.core();
         self.own.len()
     }
 
@@ -92,8 +160,9 @@ impl<L: Observer> Manager<L> {
     fn try_at(&mut self, o: usize, made: &mut Made) -> Result<bool, AllocError>
         requires { o < length self.old.core.setup.domain.objects }
         ensures makes { IfOk result (λ b. b ≡ true
-            → managing.makes_line self.old made.new.line.items made.new.text.items self.new) }
-        ensures own { IfOk result (λ b. b ≡ true → IsMadeAt self.old.core made.new.line.items o self.new.core) }
+            → managing.makes_line self.old made.new.kept.items made.new.text.items self.new) }
+        ensures own { IfOk result (λ b. b ≡ true → (line : List ℕ) × (made.new.kept.items ≡ logged line)
+            × IsMadeAt self.old.core line o self.new.core) }
         ensures next { IfOk result (λ b. b ≡ true → self.new.turn ≡ o + 1) }
         ensures idle { IfOk result (λ b. b ≡ false → IsIdleObject self.old.core o) }
         ensures same { IfOk result (λ b. b ≡ false → self.new ≡ self.old) }
@@ -102,18 +171,21 @@ impl<L: Observer> Manager<L> {
         let next = if o < count { o + 1 } else { o };
         let number = self.lines.saturating_add(1);
         match try_lines(
-            &mut self.core,
+            &mut self.keeper,
             &mut self.lookout,
             o,
             &self.own[o],
             number,
             made,
         ) {
-            Ok(true) => {
-                self.turn = next;
-                self.lines = number;
-                Ok(true)
-            }
+            Ok(true) => match end_line(made) {
+                Ok(()) => {
+                    self.turn = next;
+                    self.lines = number;
+                    Ok(true)
+                }
+                Err(error) => Err(error),
+            },
             Ok(false) => Ok(false),
             Err(error) => Err(error),
         }
@@ -124,8 +196,8 @@ impl<L: Observer> Manager<L> {
     fn try_all(&mut self, first: usize, end: usize, made: &mut Made) -> Result<bool, AllocError>
         requires { end ≤ length self.old.core.setup.domain.objects }
         ensures makes { IfOk result (λ b. b ≡ true
-            → managing.makes_line self.old made.new.line.items made.new.text.items self.new) }
-        ensures own { IfOk result (λ b. b ≡ true → FirstOf self.old first end made.new.line.items self.new) }
+            → managing.makes_line self.old made.new.kept.items made.new.text.items self.new) }
+        ensures own { IfOk result (λ b. b ≡ true → FirstOf self.old first end made.new.kept.items self.new) }
         ensures idle { IfOk result (λ b. b ≡ false → (o : ℕ) → first ≤ o → o < end → IsIdleObject self.old.core o) }
         ensures same { IfOk result (λ b. b ≡ false → self.new ≡ self.old) }
     {
@@ -152,22 +224,14 @@ impl<L: Observer> Machine for Manager<L> {
     ghost rests = { managing.AllRest };
 
     fn take(&mut self, asked: &[u8], made: &mut Made) -> Result<(), AllocError> {
-        self.lines = self.lines.saturating_add(1);
-        let taken = Taken {
-            number: self.lines,
-            text: asked,
-        };
-        let read = read_step(self.alloc, asked);
-        let done = take_read(
-            self.alloc,
-            &mut self.core,
-            &mut self.lookout,
-            taken,
-            &read,
-            made,
-        );
-        drop(read);
-        done
+        let taken = self.next_line(asked);
+        match take_line(self.alloc, &mut self.keeper, &mut self.lookout, taken, made) {
+            Ok(()) => {
+                self.count_line(made);
+                Ok(())
+            }
+            Err(error) => Err(error),
+        }
     }
 
     fn go_on(&mut self, made: &mut Made) -> Result<bool, AllocError> {
@@ -181,6 +245,6 @@ impl<L: Observer> Machine for Manager<L> {
     }
 
     fn remark(&mut self, is_asked: bool, remark: &mut Vec<u8>) {
-        self.lookout.remark(&self.core, is_asked, remark);
+        self.lookout.remark(self.keeper.core(), self.keeper.accounts(), is_asked, remark);
     }
 }

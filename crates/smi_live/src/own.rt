@@ -3,6 +3,7 @@ ghost use Rattle.std.specs.Prelude.{◌≡◌, ◌<◌, ◌++◌, IfOk, Ok, Some
 ghost use Rattle.sml_domain.specs.Lookups.{object_named};
 ghost use Rattle.smi_world.specs.declared.step.Step.TheVariants as asks;
 ghost use Rattle.smi_lines.specs.Line.{LineReads};
+ghost use Rattle.smi_live_once.specs.Forms.{HasNoBlank, IsUnmarked};
 ghost use Rattle.smi_live.specs.Keeping.{AreOwn, IsOwnOf};
 ghost use Rattle.smi_live.specs.Managing.{IsOwnLine};
 
@@ -22,6 +23,7 @@ pub(crate) struct OwnLine {
 impl Model for OwnLine {
     ghost use Rattle.std.specs.Prelude.{Ok, Some};
     ghost use Rattle.smi_lines.specs.Line.{LineReads};
+    ghost use Rattle.smi_live_once.specs.Forms.{IsUnmarked};
     ghost use Rattle.smi_live.specs.Keeping.{Said};
     ghost use Rattle.smi_live.specs.Managing.{IsOwnLine};
 
@@ -29,7 +31,8 @@ impl Model for OwnLine {
 
     ghost view = { λ l. record { line = l.text.items; step = l.step } };
 
-    ghost invariant = { λ l. LineReads l.text.items (Ok (Some l.step)) × IsOwnLine l.step l.text.items };
+    ghost invariant = { λ l. LineReads l.text.items (Ok (Some l.step)) × IsOwnLine l.step l.text.items
+        × IsUnmarked l.text.items };
 }
 
 // Whether a step is the start of what has a name.
@@ -52,9 +55,11 @@ fn is_go(step: &Step, name: &Name) -> bool
     }
 }
 
-// A word and a name behind it.
+// A word with its blank, and a name after it.
+#[tactic(auto, using(crate::proofs::Unmarked::no_blank_name))]
 fn two_words(alloc: Global, word: &[u8], name: &Name) -> Result<Vec<u8>, AllocError>
-    ensures { IfOk result (λ text. text.items ≡ word.now ++ name.now) }
+    ensures text { IfOk result (λ text. text.items ≡ word.now ++ name.now) }
+    ensures free { IfOk result (λ text. HasNoBlank name.now) }
 {
     let mut text = Vec::new(alloc);
     text.extend_from_slice(word)?;
@@ -75,9 +80,11 @@ impl OwnLine {
     }
 
     // A line with its step, where that is the start of what has a name.
+    #[tactic(auto, using(crate::proofs::Unmarked::start_unmarked))]
     fn start_of(text: Vec<u8>, step: Step, name: &Name) -> Result<OwnLine, AllocError>
         requires reads { LineReads text.items (Ok (Some step)) }
         requires text { text.items ≡ codes "start " ++ name.now }
+        requires free { HasNoBlank name.now }
         ensures { IfOk result (λ own. own.step ≡ asks.Start name.now) }
     {
         if is_start(&step, name) {
@@ -98,9 +105,11 @@ impl OwnLine {
     }
 
     // A line with its step, where that is the go of what has a name.
+    #[tactic(auto, using(crate::proofs::Unmarked::go_unmarked))]
     fn go_of(text: Vec<u8>, step: Step, name: &Name) -> Result<OwnLine, AllocError>
         requires reads { LineReads text.items (Ok (Some step)) }
         requires text { text.items ≡ codes "go " ++ name.now }
+        requires free { HasNoBlank name.now }
         ensures { IfOk result (λ own. own.step ≡ asks.Go name.now) }
     {
         if is_go(&step, name) {
@@ -114,6 +123,7 @@ impl OwnLine {
         ensures is { result.now ≡ self.now.line }
         ensures reads { LineReads result.now (Ok (Some self.now.step)) }
         ensures own { IsOwnLine self.now.step result.now }
+        ensures unmarked { IsUnmarked result.now }
     {
         &self.text
     }

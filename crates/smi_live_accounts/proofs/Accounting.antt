@@ -1,10 +1,8 @@
 -- What a manager keeps goes on saying what the journal says.
-use Rattle.std.proofs.Common.{◌≡◌, ◌∙◌, sym, ap, refl, subst, arith, ◌<◌, ◌≤◌, ◌+◌, ℕ, Bool, true, false, List, [], ◌∷◌, ◌++◌, ◌⊎◌, inl, inr, length, length-append, append-nil, map, Option, Some, None, Result, Ok, Err, take}
-use Rattle.std.specs.Prelude.{All, MatchBool, MatchOption, slice_get, slice_set}
+use Rattle.std.proofs.Common.{◌≡◌, ◌∙◌, sym, ap, refl, subst, arith, ◌≤◌, ◌+◌, ℕ, List, [], ◌∷◌, ◌++◌, ◌⊎◌, inl, inr, length, length-append, append-nil, map, Result, take}
+use Rattle.std.specs.Prelude.{All}
 use Rattle.std.proofs.Math.Seq.{take-append_seam}
 use Rattle.std.proofs.lemmas.List.Elements.{All-append, All-nil}
-use Rattle.sml_domain.specs.Domain.{Domain}
-use Rattle.smi_journal_entries.specs.declared.entry.Entry.{Entry}
 use Rattle.smi_world.specs.declared.step.Step.{Step}
 use Rattle.smi_world.specs.declared.step.Answer.{Answer}
 use Rattle.smi_world.specs.declared.refusal.StepError.{StepError}

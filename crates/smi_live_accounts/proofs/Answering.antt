@@ -1,8 +1,7 @@
 -- What a request that is made once was answered.
-use Rattle.std.proofs.Common.{◌≡◌, ◌≢◌, ◌∙◌, sym, ap, refl, subst, arith, ℕ, ◌≤◌, ◌+◌, Bool, true, false, List, [], ◌∷◌, ◌++◌, length, length-append, Option, Some, None, Result, Ok, Err}
+use Rattle.std.proofs.Common.{◌≡◌, ◌∙◌, sym, ap, subst, arith, ℕ, ◌≤◌, ◌+◌, List, length, length-append, Option, Some, None, Result, Ok, Err}
 use Rattle.std.specs.Prelude.{MatchOption}
 use Rattle.sml_domain.specs.declared.value.Value.{Value}
-use Rattle.sml_domain.specs.Domain.{Domain}
 use Rattle.sml_domain.specs.Completing.{Passed}
 use Rattle.sml_domain.specs.Lookups.{action_named, object_named}
 use Rattle.smi_journal_entries.specs.declared.entry.Entry.{Entry}
@@ -15,7 +14,7 @@ use Rattle.smi_world.specs.declared.step.Answer.{Answer}
 use Rattle.smi_world.specs.declared.step.Answer.TheVariants as answer
 use Rattle.smi_world.specs.declared.refusal.StepError.{StepError}
 use Rattle.smi_world.specs.World.{BeginRequests, Setup, World, accepted}
-use Rattle.smi_world.specs.Steps.{Accepts, Makes, StepsTo}
+use Rattle.smi_world.specs.Steps.{Makes, StepsTo}
 use Rattle.smi_world.specs.Runs.{EveryRunIsLegal, EveryRunKeepsFronts, IsReached}
 use Rattle.smi_world.proofs.Free.{free_request}
 use Rattle.smi_lines.specs.Answers.{accepted_at, answer_text, error_word}

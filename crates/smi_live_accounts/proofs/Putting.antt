@@ -1,12 +1,12 @@
 -- What a manager keeps, at first and as requests are made once.
-use Rattle.std.proofs.Common.{◌≡◌, ◌∙◌, sym, ap, refl, subst, arith, ℕ, zero, suc, ◌<◌, ◌≤◌, List, [], ◌∷◌, ◌++◌, ◌⊎◌, inl, inr, length, map}
+use Rattle.std.proofs.Common.{◌≡◌, ◌∙◌, sym, ap, refl, subst, arith, ℕ, zero, suc, ◌<◌, ◌≤◌, List, [], ◌∷◌, ◌++◌, inl, inr, length, map}
 use Rattle.std.specs.Prelude.{slice_get, slice_set}
 use Rattle.std.proofs.lemmas.List.{length-map, map-append}
 use Rattle.std.proofs.lemmas.List.Elements.{All-nil}
 use Rattle.sml_domain.specs.Domain.{Domain}
 use Rattle.smi_journal_entries.specs.declared.entry.Entry.{Entry}
 use Rattle.smi_live_once.specs.Tables.{IsPutAt, OnceTold}
-use Rattle.smi_request_fates.specs.Kept.{Asked, FatesView, IsCame, IsOfCounted, Tells, WatchedView, request_in}
+use Rattle.smi_request_fates.specs.Kept.{FatesView, IsCame, IsOfCounted, Tells, WatchedView, request_in}
 use Rattle.smi_request_fates.proofs.Keeping.{held_tell, replaced_tell, watched_tell}
 use Rattle.smi_live_accounts.specs.Accounts.{AccountsTell, AccountsView, ArePaired, IsAnswerTo}
 use Rattle.smi_live_accounts.proofs.Pairing.{paired_instead, paired_more}

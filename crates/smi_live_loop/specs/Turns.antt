@@ -1,18 +1,18 @@
 -- What a manager does, turn by turn.
 use Rattle.std.specs.Prelude.{◌≡◌, ℕ, Bool, true, List, [], ◌∷◌, ◌++◌, Option, Some, None, is_none, option_map, option_to_list, map}
-use Rattle.std.specs.List.{flat_map}
+use Rattle.std.specs.List.{concat, flat_map}
 use Rattle.std.specs.Io.KnownBytes.{Appends}
 use Rattle.smi_live_loop.specs.declared.feed.Fed.{Fed}
 use Rattle.smi_live_loop.specs.declared.feed.Fed.TheVariants.{Line, Asked, Nothing, End, Failed}
 use Rattle.smi_live_loop.specs.Feeding.{Heard}
 
--- a line that came, and the line that is kept of it
+-- a line that came, and the text that is kept of it in the log: whole lines, or nothing
 pub record Came : Type 0 where
   pub asked : List ℕ
   pub kept : List ℕ
 
--- a turn: the line of a step that the manager makes by itself, or None if all rests; and then the line that came, if
--- one did
+-- a turn: the text that is kept of a step that the manager makes by itself, or None if all rests; and then the line
+-- that came, if one did
 pub record Turn : Type 0 where
   pub own : Option (List ℕ)
   pub came : Option Came
@@ -21,14 +21,14 @@ pub record Turn : Type 0 where
 abbrev pub heard_in : Turn → Heard
 heard_in t = record { may_wait = is_none t.own; line = option_map (λ (c : Came). c.asked) t.came }
 
--- the line that is kept of the line that came, if one came
+-- the text that is kept of the line that came, if one came
 abbrev pub kept_of : Option Came → List (List ℕ)
 kept_of None = []
 kept_of (Some c) = c.kept ∷ []
 
--- the lines that are kept of a turn
-abbrev pub turn_lines : Turn → List (List ℕ)
-turn_lines t = option_to_list t.own ++ kept_of t.came
+-- the texts that are kept of a turn
+abbrev pub turn_texts : Turn → List (List ℕ)
+turn_texts t = option_to_list t.own ++ kept_of t.came
 
 -- what came is what a feed answered, after one of the manager's own steps or without one; and whether it continues
 abbrev pub Hears : Fed → Bool → Option Came → Bool → Type 0
@@ -39,22 +39,19 @@ Hears Nothing has_moved came goes_on = (came ≡ None) × (goes_on ≡ true)
 Hears End has_moved came goes_on = (came ≡ None) × (goes_on ≡ has_moved)
 Hears Failed has_moved came goes_on = ⊥
 
--- the lines that are kept of turns
-abbrev pub lines_in : List Turn → List (List ℕ)
-lines_in ts = flat_map turn_lines ts
+-- the texts that are kept of turns
+abbrev pub texts_in : List Turn → List (List ℕ)
+texts_in ts = flat_map turn_texts ts
 
--- a line of a log: its bytes and a line feed
-abbrev pub logged : List ℕ → List ℕ
-logged line = line ++ 10 ∷ []
-
--- the text of a log
+-- the text of a log: one after another
 abbrev pub log_text : List (List ℕ) → List ℕ
-log_text lines = flat_map logged lines
+log_text texts = concat texts
 
--- a machine of lines. In m a line writes out and leads to m2 (makes m line out m2); the line is the machine's own
--- (is_own m line m2), or is kept of one that came (takes m asked kept m2); nothing is left to do (rests m)
+-- a machine of lines. In m something is done of which kept is kept, which writes out, and which leads to m2
+-- (makes m kept out m2); it is a step of the machine's own (is_own m kept m2), or what a line that came asked
+-- (takes m asked kept out m2); nothing is left to do (rests m)
 module _ {S : Type 0} (makes : S → List ℕ → List ℕ → S → Type 0) (is_own : S → List ℕ → S → Type 0)
-    (takes : S → List ℕ → List ℕ → S → Type 0) (rests : S → Type 0) where
+    (takes : S → List ℕ → List ℕ → List ℕ → S → Type 0) (rests : S → Type 0) where
   -- the first half of a turn
   abbrev pub First : S → Option (List ℕ) → List ℕ → S → Type 0
   First m (Some kept) out m2 = makes m kept out m2 × is_own m kept m2
@@ -62,7 +59,7 @@ module _ {S : Type 0} (makes : S → List ℕ → List ℕ → S → Type 0) (is
 
   -- the second half
   abbrev pub Second : S → Option Came → List ℕ → S → Type 0
-  Second m (Some c) out m2 = makes m c.kept out m2 × takes m c.asked c.kept m2
+  Second m (Some c) out m2 = makes m c.kept out m2 × takes m c.asked c.kept out m2
   Second m None out m2 = (out ≡ []) × (m2 ≡ m)
 
   -- a turn
@@ -87,5 +84,5 @@ module _ {S : Type 0} (makes : S → List ℕ → List ℕ → S → Type 0) (is
     pub out : List ℕ
     pub runs : RunsTurns m turns out m2
     pub hears : heard2 ≡ heard ++ map heard_in turns
-    pub logs : Appends log log2 (log_text (lines_in turns))
+    pub logs : Appends log log2 (log_text (texts_in turns))
     pub writes : Appends output output2 out

@@ -1,5 +1,5 @@
 //! Requests that are made once: how they are asked for, marked in a log and answered, and what was told.
-//! (docs/PROMISES.md, "Requests that are made once".)
+//! (docs/FORMATS.md, "Requests that are made once".)
 #![tactic(auto)]
 
 mod blanks;

@@ -1,5 +1,6 @@
 //! The command `live`.
 ghost use Rattle.std.specs.Prelude.{◌≡◌, Err, IfSome};
+ghost use Rattle.smi_world.specs.World.{opening};
 ghost use Rattle.smirun_commands.specs.Paths.{IsReadAs};
 
 use crate::arriving::Arriving;
@@ -145,17 +146,29 @@ fn begin<'a, R: LiveHost, W: Write>(
     }
 }
 
-// Opens the log of what was prepared, and writes what is told about one that is resumed.
+// Makes a manager of what was prepared, opens the log, and writes what is told about one that is resumed.
 fn begin_log<'a, R: LiveHost, W: Write>(
     rt: &R,
     options: &LiveOptions<'a>,
     prepared: Prepared<'a>,
     output: &mut W,
-) -> Result<Begun<'a>, Fault<'a>> {
-    let mut prepared = prepared;
+) -> Result<Begun<'a>, Fault<'a>>
+    requires { prepared.core.world ≡ opening prepared.core.setup }
+{
+    let Prepared { core, notes, first } = prepared;
+    let Ok(mut manager) = Manager::new(rt.alloc(), core, notes) else {
+        return Err(Fault::Memory);
+    };
     let mut told = Vec::new(rt.alloc());
-    match open_wanted(rt, options, &mut prepared, &mut told) {
-        Ok(log) if put(output, &told).is_ok() => begun_of(rt.alloc(), options, prepared, log),
+    match open_wanted(rt, options, &mut manager, &first, &mut told) {
+        Ok(log) if put(output, &told).is_ok() => {
+            let lines = match &log {
+                Some(log) => log.lines,
+                None => 0,
+            };
+            manager.begin(lines);
+            Ok(Begun { manager, log })
+        }
         Ok(_) => Err(Fault::Output),
         Err(fault) => Err(fault),
     }
@@ -165,38 +178,16 @@ fn begin_log<'a, R: LiveHost, W: Write>(
 fn open_wanted<'a, R: LiveHost>(
     rt: &R,
     options: &LiveOptions<'a>,
-    prepared: &mut Prepared<'a>,
+    manager: &mut Manager<LiveNotes<'a>>,
+    first: &[u8],
     told: &mut Vec<u8>,
 ) -> Result<Option<OpenLog>, Fault<'a>> {
     let Some(path) = options.log else {
         return Ok(None);
     };
-    match open_log(rt, rt.alloc(), options, path, prepared, told) {
+    match open_log(rt, rt.alloc(), options, path, manager, first, told) {
         Ok(log) => Ok(Some(log)),
         Err(fault) => Err(fault),
-    }
-}
-
-// A manager of what was prepared.
-fn begun_of<'a>(
-    alloc: Global,
-    options: &LiveOptions<'a>,
-    prepared: Prepared<'a>,
-    log: Option<OpenLog>,
-) -> Result<Begun<'a>, Fault<'a>> {
-    let Prepared {
-        core,
-        mut notes,
-        first: _,
-    } = prepared;
-    notes.explain = options.explain;
-    let lines = match &log {
-        Some(log) => log.lines,
-        None => 0,
-    };
-    match Manager::new(alloc, core, lines, notes) {
-        Ok(manager) => Ok(Begun { manager, log }),
-        Err(_) => Err(Fault::Memory),
     }
 }
 

@@ -1,10 +1,13 @@
 //! What is noted about a manager's lines, and told beside its output.
 
+use crate::outside::explain_outside;
+use crate::standing::tell_accounts;
 use explain_lines::{History, LineKind, SourceLine, explain_bad_line, explain_refused};
 use show_states::tell_standing;
 use smi_core::{Answer, Core, Lookout, Step, StepError, Taken};
 use smi_journal::Entry;
 use smi_live::Observer;
+use smi_live_accounts::Accounts;
 use sml_domain::{Domain, ObjId};
 use sml_writer::Out;
 use std::alloc::{AllocError, Global};
@@ -26,8 +29,10 @@ pub struct LiveNotes<'a> {
     is_limit_told: bool,
     // Whether a start was refused, as one is that the manager did not make.
     pub(crate) is_start_refused: bool,
-    // Whether it is explained why a line was refused, and what is still to be told about that.
-    pub(crate) explain: bool,
+    // Whether it is explained why a line was refused, from when lines are made as they come, and what is still to be
+    // told about that.
+    wants_why: bool,
+    explain: bool,
     why: Vec<u8>,
 }
 
@@ -40,6 +45,7 @@ impl<'a> LiveNotes<'a> {
         file: &'a str,
         log: &'a str,
         max_starts: usize,
+        wants_why: bool,
     ) -> Result<LiveNotes<'a>, AllocError> {
         let history = History::new(alloc, &domain)?;
         Ok(LiveNotes {
@@ -52,6 +58,7 @@ impl<'a> LiveNotes<'a> {
             max_starts,
             is_limit_told: false,
             is_start_refused: false,
+            wants_why,
             explain: false,
             why: Vec::new(alloc),
         })
@@ -73,10 +80,17 @@ impl<'a> LiveNotes<'a> {
         self.history.opened(o).is_some()
     }
 
-    /// Writes how all stands. The error is out of memory; then less is written, or nothing.
-    pub(crate) fn tell_states(&self, core: &Core, text: &mut Vec<u8>) -> Result<(), AllocError> {
+    /// Writes how all stands; its last line is `stands E`. The error is out of memory; then less is written, or
+    /// nothing.
+    pub(crate) fn tell_all(
+        &self,
+        core: &Core,
+        accounts: &Accounts,
+        text: &mut Vec<u8>,
+    ) -> Result<(), AllocError> {
         let mut out = Out::new(text);
         tell_standing(self.alloc, &self.domain, core, &self.history, &mut out)?;
+        tell_accounts(&mut out, core, accounts);
         if out.failed { Err(AllocError) } else { Ok(()) }
     }
 }
@@ -104,6 +118,9 @@ impl Lookout for LiveNotes<'_> {
             return;
         }
         let line = told(self.log, taken);
+        if explain_outside(&line, &mut self.why) {
+            return;
+        }
         let before = self.why.len();
         explain_bad_line(
             LineKind::Schedule,
@@ -157,12 +174,16 @@ fn explain_own_line(line: &SourceLine<'_>, why: &mut Vec<u8>) {
 }
 
 impl Observer for LiveNotes<'_> {
-    fn remark(&mut self, core: &Core, is_asked: bool, remark: &mut Vec<u8>) {
+    fn begins(&mut self) {
+        self.explain = self.wants_why;
+    }
+
+    fn remark(&mut self, core: &Core, accounts: &Accounts, is_asked: bool, remark: &mut Vec<u8>) {
         Out::new(&mut *remark).say(self.why.as_slice());
         self.why.clear();
         self.tell_limit(remark);
         if is_asked {
-            let _ = self.tell_states(core, remark);
+            let _ = self.tell_all(core, accounts, remark);
         }
     }
 }

@@ -33,7 +33,9 @@ pub(crate) fn prepare<'a, R: Files + AllocGlobal>(
     rt: &R,
     options: &LiveOptions<'a>,
     advice: &mut Advice,
-) -> Result<Prepared<'a>, Fault<'a>> {
+) -> Result<Prepared<'a>, Fault<'a>>
+    ensures { IfOk result (λ made. made.core.world ≡ opening made.core.setup) }
+{
     match load_prefix(rt, &mut io::empty(), options.file, MOST_READ) {
         Ok(text) => prepare_advised(rt.alloc(), options, text.as_slice(), advice),
         Err(error) => Err(Fault::of_input(options.file, &error)),
@@ -132,5 +134,12 @@ fn notes_of<'a>(
 ) -> Result<LiveNotes<'a>, AllocError> {
     let shared = Arc::try_clone(domain)?;
     let log = options.log.unwrap_or(STANDARD_INPUT);
-    LiveNotes::new(alloc, shared, options.file, log, options.max_starts)
+    LiveNotes::new(
+        alloc,
+        shared,
+        options.file,
+        log,
+        options.max_starts,
+        options.explain,
+    )
 }

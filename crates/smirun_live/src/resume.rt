@@ -1,15 +1,15 @@
-//! The file of a log: how it is begun, and how a manager continues behind it.
+//! The file of a log: how it is begun, and how a manager continues after it.
 ghost use Rattle.std.specs.Prelude.{ℕ, List, OnOk};
-ghost use Rattle.sml_text.specs.Lines.{Outputs, lines_of};
-ghost use Rattle.smi_core.specs.Output.{LineWrites};
+ghost use Rattle.smi_live.specs.Logs.{LogOutputs};
+ghost use Rattle.smi_live.specs.Managing.{keeper_of};
 
-use crate::log::NoLog;
 use crate::log_lines::{is_of, lines_in, whole_lines};
 use crate::observer::LiveNotes;
 use crate::options::LiveOptions;
-use crate::preparing::Prepared;
-use smi_core::{Core, LONGEST_SCHEDULE, ScheduleFault, run_watched_schedule};
+use crate::performing::perform;
+use smi_core::LONGEST_SCHEDULE;
 use smi_journal::{Entry, tell_lines};
+use smi_live::Manager;
 use smirun_commands::Fault;
 use sml_domain::ObjId;
 use std::alloc::{AllocError, Global};
@@ -33,17 +33,18 @@ pub(crate) fn open_log<'a, R: Files<File = File>>(
     alloc: Global,
     options: &LiveOptions<'a>,
     path: &'a str,
-    prepared: &mut Prepared<'a>,
+    manager: &mut Manager<LiveNotes<'a>>,
+    first: &[u8],
     told: &mut Vec<u8>,
 ) -> Result<OpenLog, Fault<'a>> {
     match open_locked(rt, path, options.resume) {
-        Ok(file) if options.resume => resume(alloc, path, file, prepared, told),
-        Ok(file) => begin_new(path, file, &prepared.first),
+        Ok(file) if options.resume => resume(alloc, path, file, manager, first, told),
+        Ok(file) => begin_new(path, file, first),
         Err(fault) => Err(fault),
     }
 }
 
-// Opens the file of a log, to read it and to write behind it, and locks it. It is made only if nothing is resumed.
+// Opens the file of a log, to read it and to write after it, and locks it. It is made only if nothing is resumed.
 fn open_locked<'a, R: Files<File = File>>(
     rt: &R,
     path: &'a str,
@@ -95,11 +96,12 @@ fn resume<'a>(
     alloc: Global,
     path: &'a str,
     mut file: File,
-    prepared: &mut Prepared<'a>,
+    manager: &mut Manager<LiveNotes<'a>>,
+    first: &[u8],
     told: &mut Vec<u8>,
 ) -> Result<OpenLog, Fault<'a>> {
     match read_log(alloc, path, &mut file) {
-        Ok(text) => resume_text(alloc, path, file, &text, prepared, told),
+        Ok(text) => resume_text(alloc, path, file, &text, manager, first, told),
         Err(fault) => Err(fault),
     }
 }
@@ -111,28 +113,29 @@ fn resume_text<'a>(
     path: &'a str,
     file: File,
     text: &[u8],
-    prepared: &mut Prepared<'a>,
+    manager: &mut Manager<LiveNotes<'a>>,
+    first: &[u8],
     told: &mut Vec<u8>,
 ) -> Result<OpenLog, Fault<'a>> {
     let size = whole_lines(text);
-    if !is_of(text, size, &prepared.first) {
+    if !is_of(text, size, first) {
         return Err(Fault::LogOfAnother(path));
     }
     if let Err(error) = cut_off(&file, text.len(), size) {
         return Err(Fault::JournalUnwritten(path, Some(error)));
     }
     let whole = text.split_at(size).0;
-    if let Err(fault) = make_again(alloc, path, whole, prepared, told) {
+    if let Err(fault) = make_again(alloc, path, whole, manager, told) {
         return Err(fault);
     }
     if size == 0 {
-        return begin(path, file, &prepared.first);
+        return begin(path, file, first);
     }
     let lines = lines_in(whole);
     Ok(OpenLog { file, size, lines })
 }
 
-// Cuts off what is behind the whole lines of a file.
+// Cuts off what stands after the whole lines of a file.
 fn cut_off(file: &File, length: usize, size: usize) -> io::Result<()> {
     if size < length {
         file.set_len(size as u64)
@@ -146,16 +149,15 @@ fn make_again<'a>(
     alloc: Global,
     path: &'a str,
     text: &[u8],
-    prepared: &mut Prepared<'a>,
+    manager: &mut Manager<LiveNotes<'a>>,
     told: &mut Vec<u8>,
 ) -> Result<(), Fault<'a>>
-    ensures { OnOk result ((out : List ℕ) × Outputs LineWrites prepared.old.core
-        (lines_of text.now) out prepared.new.core) }
+    ensures { OnOk result ((out : List ℕ) × LogOutputs (keeper_of manager.old) text.now out (keeper_of manager.new)) }
 {
-    if let Err(fault) = perform(alloc, path, &mut prepared.core, &mut prepared.notes, text) {
+    if let Err(fault) = perform(alloc, path, manager, text) {
         return Err(fault);
     }
-    match tell_again(alloc, &prepared.core, &prepared.notes, told) {
+    match tell_again(manager, told) {
         Ok(()) => Ok(()),
         Err(_) => Err(Fault::Memory),
     }
@@ -175,38 +177,14 @@ fn read_log<'a>(alloc: Global, path: &'a str, file: &mut File) -> Result<Vec<u8>
     }
 }
 
-// Makes the lines of a log again, in silence.
-fn perform<'a>(
-    alloc: Global,
-    path: &'a str,
-    core: &mut Core,
-    notes: &mut LiveNotes<'a>,
-    text: &[u8],
-) -> Result<(), Fault<'a>>
-    ensures { OnOk result ((out : List ℕ) × Outputs LineWrites core.old (lines_of text.now) out core.new) }
-{
-    let mut reader = text;
-    match run_watched_schedule(alloc, core, &mut reader, &mut NoLog, notes) {
-        // A manager's own start is only refused if the limit of starts is lower than it was.
-        Ok(()) if notes.is_start_refused => Err(Fault::LogOfAnother(path)),
-        Ok(()) => Ok(()),
-        Err(ScheduleFault::Memory) => Err(Fault::Memory),
-        Err(fault) => Err(Fault::of_schedule(path, fault)),
-    }
-}
-
-// Writes how all stands, and behind it once more the start of each action that a device has in hand.
-fn tell_again(
-    alloc: Global,
-    core: &Core,
-    notes: &LiveNotes<'_>,
-    told: &mut Vec<u8>,
-) -> Result<(), AllocError> {
-    notes.tell_states(core, told)?;
+// Writes how all stands, and after it once more the start of each action that a device has in hand.
+fn tell_again(manager: &Manager<LiveNotes<'_>>, told: &mut Vec<u8>) -> Result<(), AllocError> {
+    let core = manager.core();
+    manager.observer().tell_all(core, manager.accounts(), told)?;
     let mut failed = false;
     for o in 0..core.domain().objects() {
         let o = ObjId::new(o);
-        if core.domain().associated(o) && notes.has_open(o) {
+        if core.domain().associated(o) && manager.observer().has_open(o) {
             if let Some(start) = open_start(core.journal(), o) {
                 tell_lines(told, &mut failed, core.domain(), start);
             }

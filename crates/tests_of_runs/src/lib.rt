@@ -13,6 +13,8 @@ mod live_rows;
 #[cfg(test)]
 mod managing;
 #[cfg(test)]
+mod once;
+#[cfg(test)]
 mod one_by_one;
 #[cfg(test)]
 mod openings;

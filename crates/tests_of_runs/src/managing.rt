@@ -1,15 +1,18 @@
 //! A manager over a row.
+ghost use Rattle.std.specs.Prelude.{◌≡◌, IfSome};
+ghost use Rattle.smi_world.specs.World.{opening};
 
 use crate::feed::{Come, ToldFeed};
 use smi_core::{Answer, Core, Lookout, Step, StepError, Taken};
 use smi_journal_entries::Entry;
-use smi_live::{LiveFault, Manager, Observer, live};
+use smi_live::{LiveFault, Machine, Made, Manager, Observer, live};
+use smi_live_accounts::Accounts;
 use sml_text::Sink;
 use std::alloc::{AllocError, Global};
 
-// An observer that only says that it was asked.
+/// An observer that only says that it was asked.
 #[derive(Drop)]
-struct Asked;
+pub(crate) struct Asked;
 
 impl Lookout for Asked {
     fn bad_line(&mut self, _core: &Core, _taken: Taken<'_>) {}
@@ -25,7 +28,9 @@ impl Lookout for Asked {
 }
 
 impl Observer for Asked {
-    fn remark(&mut self, _core: &Core, is_asked: bool, remark: &mut Vec<u8>) {
+    fn begins(&mut self) {}
+
+    fn remark(&mut self, _core: &Core, _accounts: &Accounts, is_asked: bool, remark: &mut Vec<u8>) {
         if is_asked && remark.extend_from_slice(b"asked\n").is_err() {
             remark.clear();
         }
@@ -40,9 +45,24 @@ pub(crate) struct Limits<'a> {
 }
 
 /// A core of a domain.
-pub(crate) fn core_of(alloc: Global, limits: Limits<'_>) -> Option<Core> {
-    let domain = sml_load::domain_of(alloc, limits.domain).ok()?;
-    Core::new(alloc, domain, 16, limits.max_starts).ok()
+pub(crate) fn core_of(alloc: Global, limits: Limits<'_>) -> Option<Core>
+    ensures { IfSome result (λ core. core.world ≡ opening core.setup) }
+{
+    let Ok(domain) = sml_load::domain_of(alloc, limits.domain) else {
+        return None;
+    };
+    match Core::new(alloc, domain, 16, limits.max_starts) {
+        Ok(core) => Some(core),
+        Err(_) => None,
+    }
+}
+
+/// A manager of a domain.
+pub(crate) fn manager_of(alloc: Global, limits: Limits<'_>) -> Option<Manager<Asked>> {
+    match core_of(alloc, limits) {
+        Some(core) => Manager::new(alloc, core, Asked).ok(),
+        None => None,
+    }
 }
 
 /// How a manager ended, and which remarks its feed got.
@@ -61,10 +81,30 @@ pub(crate) fn manage<L: Sink, W: Sink>(
     log: &mut L,
     output: &mut W,
 ) -> Option<Managed> {
-    let core = core_of(alloc, limits)?;
-    let mut manager = Manager::new(alloc, core, 0, Asked).ok()?;
+    let mut manager = manager_of(alloc, limits)?;
     let mut feed = ToldFeed::new(alloc, lines, fails);
     let ended = live(alloc, &mut manager, &mut feed, log, output);
     let ToldFeed { told, .. } = feed;
     Some(Managed { ended, told })
+}
+
+/// A manager after the lines of a log. None also if no manager would have written one of them.
+pub(crate) fn made_again(alloc: Global, limits: Limits<'_>, log: &[u8]) -> Option<Manager<Asked>> {
+    let mut manager = manager_of(alloc, limits)?;
+    let mut made = Made::new(alloc);
+    for line in log.split(|b| *b == b'\n') {
+        if !manager.make_again(line, &mut made).ok()? {
+            return None;
+        }
+    }
+    manager.begin(0);
+    Some(manager)
+}
+
+/// What a manager after a log keeps and writes for one line more.
+pub(crate) fn goes_on(alloc: Global, limits: Limits<'_>, log: &[u8], line: &[u8]) -> Option<Made> {
+    let mut manager = made_again(alloc, limits, log)?;
+    let mut made = Made::new(alloc);
+    manager.take(line, &mut made).ok()?;
+    Some(made)
 }

@@ -17,7 +17,7 @@ pub const KEPT_LOG: ArgumentHelp = ArgumentHelp {
 
 pub const RESUME: ArgumentHelp = ArgumentHelp {
     short: "Make the lines of the log again first, and go on",
-    full: "Makes the lines of the log again first, and goes on behind them",
+    full: "Makes the lines of the log again first, and goes on after them",
 };
 
 pub const IN_TURN: ArgumentHelp = ArgumentHelp {
@@ -43,11 +43,13 @@ What goes in, one line each, of at most 8192 bytes of ASCII; a comment begins wi
   answer OBJECT STATE                       the device of OBJECT has done its action, and is in STATE
   fault OBJECT                              the device of OBJECT fails at its action: OBJECT is killed
   kill OBJECT @S                            session @S kills OBJECT
-  ? ..                                      a question: how all stands goes to standard error, as `step --states`
-                                            writes it; neither the log nor standard output has anything of it
+  once NAME K request ..                    a request that is made once, however often it is asked for
+  ? ..                                      a question: how all stands goes to standard error; neither the log nor
+                                            standard output has anything of it
 
-Any other line is `refused BadLine`: also `start` and `go`, which are the manager's own. A line that has only
-blanks and a comment writes nothing, and stands in the log: so a driver can leave remarks there.
+Any other line is `refused BadLine`: also `start` and `go`, which are the manager's own, and a last line that
+lacks its line feed, since it may be cut off. A line that has only blanks and a comment writes nothing, and
+stands in the log: so a driver can leave remarks there.
 
 What goes out is what `smirun step` writes for the lines that are made, those of others and the manager's own, in
 their order: `accept`, `start`, `set`, `post`, `empty`, `insert`, `remove`, `wait`, `seen`, `end`, `kill` and
@@ -74,18 +76,32 @@ what the manager tells; `exec 3>&-` ends it:
   done <told 3>&- &
   echo \"request @1 RUN CONFIGURE\" >&3
 
-With `--log PATH` each line that is made is written to PATH before what it writes is written: behind a first line
-that names the domain and the capacity, each line that came, as it came, and each `start` and `go` of the manager.
-In place of one that is `refused BadLine` for its form stands the line `refused BadLine`. PATH is a schedule:
-`smirun step FILE PATH` writes what the manager wrote, with `--journal` its journal too, and with `--states` how all
-stands, also while the manager runs. It needs the same `--capacity`. A log has 16777216 bytes at most; then the
-manager ends. PATH is not there before, or empty, and no other manager has it.
+Who may not learn whether a request was taken sends it as `once NAME K request @S OBJECT ..`, to the byte, and
+may send it again. NAME is its own for ever, 1 to 64 upper-case letters, digits and `_`; K is a number below 2^64
+that grows. If K is greater than the last of NAME, the request is made, and after what it writes comes
+`once NAME K ANSWER` with its `accept ..` or `refused ..` line. If K is the last, the same `once` line comes
+again, and nothing else is done. If K is less, it is `once NAME K refused Old`; of more than 64 names it is
+`once NAME K refused TooManyNames`. So it is also after a crash and `--resume`. In the log stands the request
+with the comment `! once NAME K`; from outside a line that ends so is refused.
+
+How all stands is what `step --states` writes, and then `started OBJECT N` and `ended OBJECT N`, how often each
+object began and ended an action, `once NAME K OBJECT STATE VERSION WHAT`, what became of the last request of
+each NAME (`waits`, `open`, `ended`, `skipped`, `killed` or `refused WORD`) with the state and the count of ends
+of its object then, and always as the last line `stands E`, how many entries the journal has.
+
+With `--log PATH` each line that is made is written to PATH before what it writes is written: after a first line
+that names the domain and the capacity, each line that came, as it came, and each `start` and `go` of the
+manager. In place of one that is `refused BadLine` for its form stands the line `refused BadLine`. PATH is a
+schedule: `smirun step FILE PATH` writes what the manager wrote but for its `once` lines, with `--journal` its
+journal too, and with `--states` how all stands, also while the manager runs. It needs the same `--capacity`. A
+log has 16777216 bytes at most; then the manager ends. PATH is not there before, or empty, and no other manager
+has it.
 
 With `--resume` PATH is there. What it holds is made again in silence, then how all stands is written to standard
-output, as `step --states` writes it, and behind that once more the `start` line of each action that a device has in
-hand. Then the manager goes on. An empty PATH is begun. A last line that was cut off is taken away. No accepted
-request is lost, but an answer that the log does not have comes once more to be given: so a driver looks first what
-its device does. FILE may have other comments and blanks than before, and nothing else may be changed.
+output, and after that once more the `start` line of each action that a device has in hand. Then the manager goes
+on. An empty PATH is begun. A last line that was cut off is taken away. No accepted request is lost, but an
+answer that the log does not have comes once more to be given: so a driver looks first what its device does. FILE
+may have other comments and blanks than before, and nothing else may be changed.
 
 Without `--in-turn` a thread reads standard input, and what comes between which steps depends on when it comes; the
 log has it. With `--in-turn` a line is taken only when nothing else is left to do, for tests, and where the lines are
@@ -100,11 +116,12 @@ one sentence, the line and a caret under the place; where there is no log, - sta
 When the lines end, the manager makes the steps that are left, and ends. Standard error has then the lines `open ..`
 and `waiting ..` of what is not done. Devices that are at work stay so.
 
-What else ends it is told on standard error: the faults of FILE (`smirun step --help` has them); `PATH is not empty`
-without `--resume`; with it `PATH unreadable`, `PATH too long`, and `PATH is of another domain`, where the first line
-names another domain or capacity, or the log has more starts than `--max-starts`; `PATH is in use`; `PATH full`;
-`- unreadable`; `output fault`, also where PATH cannot be made or written (then a second line has PATH and why); and
-`memory`. What the log has by then was told, but for its last line.
+What else ends it is told on standard error: the faults of FILE (`smirun step --help` has them);
+`PATH is not empty` without `--resume`; with it `PATH unreadable`, `PATH too long`, `PATH bad line N`, where a
+mark `! once NAME K` is none that a manager wrote, and `PATH is of another domain`, where the first line names
+another domain or capacity, or the log has more starts than `--max-starts`; `PATH is in use`; `PATH full`;
+`- unreadable`; `output fault`, also where PATH cannot be made or written (then a second line has PATH and why);
+and `memory`. What the log has by then was told, but for its last line.
 
 Exit status: 0 the lines ended and all was done that could be; 1 an input was refused, or a file could not be read,
 or the output or the log not be written; 2 a wrong command line; 3 not enough memory.";
