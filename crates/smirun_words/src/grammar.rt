@@ -39,18 +39,19 @@ pub(crate) fn smirun_command<'a>(
     length: HelpLength,
 ) -> Result<Command<'a>, AllocError> {
     let maker = Maker { alloc, length };
-    let command = with_subcommand(program(maker), check_command(maker))?;
-    let command = with_subcommand(command, lint_command(maker))?;
-    let command = with_subcommand(command, print_command(maker))?;
-    let command = with_subcommand(command, list_command(maker))?;
-    let command = with_subcommand(command, graph_command(maker))?;
-    let command = with_subcommand(command, page_command(maker))?;
-    let command = with_subcommand(command, states_command(maker))?;
-    let command = with_subcommand(command, cover_command(maker))?;
-    let command = with_subcommand(command, step_command(maker))?;
-    let command = with_subcommand(command, run_command(maker))?;
-    let command = with_subcommand(command, live_command(maker))?;
-    let command = with_subcommand(command, audit_command(maker))?;
+    let command = Ok(program(maker));
+    let command = with_subcommand(command, check_command(maker));
+    let command = with_subcommand(command, lint_command(maker));
+    let command = with_subcommand(command, print_command(maker));
+    let command = with_subcommand(command, list_command(maker));
+    let command = with_subcommand(command, graph_command(maker));
+    let command = with_subcommand(command, page_command(maker));
+    let command = with_subcommand(command, states_command(maker));
+    let command = with_subcommand(command, cover_command(maker));
+    let command = with_subcommand(command, step_command(maker));
+    let command = with_subcommand(command, run_command(maker));
+    let command = with_subcommand(command, live_command(maker));
+    let command = with_subcommand(command, audit_command(maker));
     with_subcommand(command, completions_command(maker))
 }
 
@@ -65,147 +66,150 @@ fn program<'a>(maker: Maker) -> Command<'a> {
     }
 }
 
-// Adds a command that was made.
+// Adds a command, where there was memory for both. The functions below hand commands and arguments on as results, since
+// the prover writes out at each `?` how all that is held there is dropped, and a command has some fifty fields.
 fn with_subcommand<'a>(
-    command: Command<'a>,
+    command: Result<Command<'a>, AllocError>,
     made: Result<Command<'a>, AllocError>,
 ) -> Result<Command<'a>, AllocError> {
-    command.subcommand(made?)
+    command?.subcommand(made?)
+}
+
+// Adds an argument, where there was memory for both.
+fn with_argument<'a>(
+    command: Result<Command<'a>, AllocError>,
+    made: Result<Arg<'a>, AllocError>,
+) -> Result<Command<'a>, AllocError> {
+    command?.arg(made?)
 }
 
 fn check_command<'a>(maker: Maker) -> Result<Command<'a>, AllocError> {
-    maker
-        .command("check", CHECK, CHECK_EXAMPLES, CHECK_MORE)
-        .arg(maker.required("FILE", FILES).num_args(1..))?
-        .arg(looked_at(maker, "script", CHECKED_SCRIPT))?
-        .arg(looked_at(maker, "schedule", CHECKED_SCHEDULE))?
-        .arg(explain(maker, WHY_REFUSED))?
-        .arg(no_explain(maker)?)
+    let command = Ok(maker.command("check", CHECK, CHECK_EXAMPLES, CHECK_MORE));
+    let command = with_argument(command, Ok(maker.required("FILE", FILES).num_args(1..)));
+    let command = with_argument(command, Ok(looked_at(maker, "script", CHECKED_SCRIPT)));
+    let command = with_argument(command, Ok(looked_at(maker, "schedule", CHECKED_SCHEDULE)));
+    let command = with_argument(command, Ok(explain(maker, WHY_REFUSED)));
+    with_argument(command, no_explain(maker))
 }
 
 fn lint_command<'a>(maker: Maker) -> Result<Command<'a>, AllocError> {
-    maker
-        .command("lint", LINT, LINT_EXAMPLES, LINT_MORE)
-        .arg(maker.required("FILE", LINTED).num_args(1..))?
-        .arg(maker.flag("all", ALL))?
-        .arg(maker.flag("strict", LINT_STRICT))?
-        .arg(explain(maker, WHY_SENSELESS))?
-        .arg(no_explain(maker)?)
+    let command = Ok(maker.command("lint", LINT, LINT_EXAMPLES, LINT_MORE));
+    let command = with_argument(command, Ok(maker.required("FILE", LINTED).num_args(1..)));
+    let command = with_argument(command, Ok(maker.flag("all", ALL)));
+    let command = with_argument(command, Ok(maker.flag("strict", LINT_STRICT)));
+    let command = with_argument(command, Ok(explain(maker, WHY_SENSELESS)));
+    with_argument(command, no_explain(maker))
 }
 
 fn print_command<'a>(maker: Maker) -> Result<Command<'a>, AllocError> {
-    maker
-        .command("print", PRINT, PRINT_EXAMPLES, PRINT_MORE)
-        .arg(file(maker))?
-        .arg(maker.flag("check", COMPARE))?
-        .arg(maker.flag("keep", KEEP))?
-        .arg(explain(maker, WHY_DIFFERS))?
-        .arg(no_explain(maker)?)
+    let command = Ok(maker.command("print", PRINT, PRINT_EXAMPLES, PRINT_MORE));
+    let command = with_argument(command, Ok(file(maker)));
+    let command = with_argument(command, Ok(maker.flag("check", COMPARE)));
+    let command = with_argument(command, Ok(maker.flag("keep", KEEP)));
+    let command = with_argument(command, Ok(explain(maker, WHY_DIFFERS)));
+    with_argument(command, no_explain(maker))
 }
 
 fn list_command<'a>(maker: Maker) -> Result<Command<'a>, AllocError> {
-    maker
-        .command("list", LIST, LIST_EXAMPLES, LIST_MORE)
-        .arg(file(maker))?
-        .arg(explain(maker, WHY_REFUSED))?
-        .arg(no_explain(maker)?)?
-        .arg(json(maker))
+    let command = Ok(maker.command("list", LIST, LIST_EXAMPLES, LIST_MORE));
+    let command = with_argument(command, Ok(file(maker)));
+    let command = with_argument(command, Ok(explain(maker, WHY_REFUSED)));
+    let command = with_argument(command, no_explain(maker));
+    with_argument(command, Ok(json(maker)))
 }
 
 fn graph_command<'a>(maker: Maker) -> Result<Command<'a>, AllocError> {
-    maker
-        .command("graph", GRAPH, GRAPH_EXAMPLES, GRAPH_MORE)
-        .arg(file(maker))?
-        .arg(maker.argument("JOURNAL", DRAWN_JOURNAL))?
-        .arg(objects(maker)?)?
-        .arg(members(maker)?)?
-        .arg(from(maker)?)?
-        .arg(count(maker)?)?
-        .arg(explain(maker, WHY_TEXTS))?
-        .arg(no_explain(maker)?)
+    let command = Ok(maker.command("graph", GRAPH, GRAPH_EXAMPLES, GRAPH_MORE));
+    let command = with_argument(command, Ok(file(maker)));
+    let command = with_argument(command, Ok(maker.argument("JOURNAL", DRAWN_JOURNAL)));
+    let command = with_argument(command, objects(maker));
+    let command = with_argument(command, members(maker));
+    let command = with_argument(command, from(maker));
+    let command = with_argument(command, count(maker));
+    let command = with_argument(command, Ok(explain(maker, WHY_TEXTS)));
+    with_argument(command, no_explain(maker))
 }
 
 fn page_command<'a>(maker: Maker) -> Result<Command<'a>, AllocError> {
-    maker
-        .command("page", PAGE, PAGE_EXAMPLES, PAGE_MORE)
-        .arg(file(maker))?
-        .arg(maker.required("JOURNAL", SHOWN_JOURNAL))
+    let command = Ok(maker.command("page", PAGE, PAGE_EXAMPLES, PAGE_MORE));
+    let command = with_argument(command, Ok(file(maker)));
+    with_argument(command, Ok(maker.required("JOURNAL", SHOWN_JOURNAL)))
 }
 
 fn states_command<'a>(maker: Maker) -> Result<Command<'a>, AllocError> {
-    maker
-        .command("states", STATES_COMMAND, STATES_EXAMPLES, STATES_MORE)
-        .arg(file(maker))?
-        .arg(maker.required("JOURNAL", TOLD_JOURNAL))?
-        .arg(line_number(maker, "at", "N", AT))?
-        .arg(line_number(maker, "with", "N2", WITH).requires_arg("at")?)?
-        .arg(explain(maker, WHY_TEXTS))?
-        .arg(no_explain(maker)?)
+    let command = Ok(maker.command("states", STATES_COMMAND, STATES_EXAMPLES, STATES_MORE));
+    let command = with_argument(command, Ok(file(maker)));
+    let command = with_argument(command, Ok(maker.required("JOURNAL", TOLD_JOURNAL)));
+    let command = with_argument(command, Ok(line_number(maker, "at", "N", AT)));
+    let command = with_argument(
+        command,
+        line_number(maker, "with", "N2", WITH).requires_arg("at"),
+    );
+    let command = with_argument(command, Ok(explain(maker, WHY_TEXTS)));
+    with_argument(command, no_explain(maker))
 }
 
 fn cover_command<'a>(maker: Maker) -> Result<Command<'a>, AllocError> {
-    maker
-        .command("cover", COVER, COVER_EXAMPLES, COVER_MORE)
-        .arg(file(maker))?
-        .arg(maker.required("JOURNAL", COUNTED_JOURNALS).num_args(1..))?
-        .arg(maker.flag("strict", COVER_STRICT))?
-        .arg(explain(maker, WHY_TEXTS))?
-        .arg(no_explain(maker)?)
+    let command = Ok(maker.command("cover", COVER, COVER_EXAMPLES, COVER_MORE));
+    let command = with_argument(command, Ok(file(maker)));
+    let command = with_argument(
+        command,
+        Ok(maker.required("JOURNAL", COUNTED_JOURNALS).num_args(1..)),
+    );
+    let command = with_argument(command, Ok(maker.flag("strict", COVER_STRICT)));
+    let command = with_argument(command, Ok(explain(maker, WHY_TEXTS)));
+    with_argument(command, no_explain(maker))
 }
 
 fn step_command<'a>(maker: Maker) -> Result<Command<'a>, AllocError> {
-    maker
-        .command("step", STEP, STEP_EXAMPLES, STEP_MORE)
-        .arg(file(maker))?
-        .arg(maker.required("SCHEDULE", SCHEDULE))?
-        .arg(capacity(maker))?
-        .arg(max_starts(maker))?
-        .arg(maker.option("journal", "PATH", KEPT_JOURNAL))?
-        .arg(explain(maker, WHY_LINES))?
-        .arg(no_explain(maker)?)?
-        .arg(maker.flag("strict", STRICT))?
-        .arg(maker.flag("states", STATES))?
-        .arg(json(maker))
+    let command = Ok(maker.command("step", STEP, STEP_EXAMPLES, STEP_MORE));
+    let command = with_argument(command, Ok(file(maker)));
+    let command = with_argument(command, Ok(maker.required("SCHEDULE", SCHEDULE)));
+    let command = with_argument(command, Ok(capacity(maker)));
+    let command = with_argument(command, Ok(max_starts(maker)));
+    let command = with_argument(command, Ok(maker.option("journal", "PATH", KEPT_JOURNAL)));
+    let command = with_argument(command, Ok(explain(maker, WHY_LINES)));
+    let command = with_argument(command, no_explain(maker));
+    let command = with_argument(command, Ok(maker.flag("strict", STRICT)));
+    let command = with_argument(command, Ok(maker.flag("states", STATES)));
+    with_argument(command, Ok(json(maker)))
 }
 
 fn run_command<'a>(maker: Maker) -> Result<Command<'a>, AllocError> {
-    maker
-        .command("run", RUN, RUN_EXAMPLES, RUN_MORE)
-        .arg(file(maker))?
-        .arg(maker.required("SCRIPT", SCRIPT))?
-        .arg(workers(maker))?
-        .arg(capacity(maker))?
-        .arg(max_starts(maker))?
-        .arg(maker.option("journal", "PATH", RUN_JOURNAL))?
-        .arg(maker.flag("progress", PROGRESS))?
-        .arg(explain(maker, WHY_LINES))?
-        .arg(no_explain(maker)?)?
-        .arg(maker.flag("strict", RUN_STRICT))?
-        .arg(maker.flag("states", RUN_STATES))?
-        .arg(json(maker))
+    let command = Ok(maker.command("run", RUN, RUN_EXAMPLES, RUN_MORE));
+    let command = with_argument(command, Ok(file(maker)));
+    let command = with_argument(command, Ok(maker.required("SCRIPT", SCRIPT)));
+    let command = with_argument(command, Ok(workers(maker)));
+    let command = with_argument(command, Ok(capacity(maker)));
+    let command = with_argument(command, Ok(max_starts(maker)));
+    let command = with_argument(command, Ok(maker.option("journal", "PATH", RUN_JOURNAL)));
+    let command = with_argument(command, Ok(maker.flag("progress", PROGRESS)));
+    let command = with_argument(command, Ok(explain(maker, WHY_LINES)));
+    let command = with_argument(command, no_explain(maker));
+    let command = with_argument(command, Ok(maker.flag("strict", RUN_STRICT)));
+    let command = with_argument(command, Ok(maker.flag("states", RUN_STATES)));
+    with_argument(command, Ok(json(maker)))
 }
 
 fn live_command<'a>(maker: Maker) -> Result<Command<'a>, AllocError> {
-    maker
-        .command("live", LIVE, LIVE_EXAMPLES, LIVE_MORE)
-        .arg(maker.required("FILE", LIVE_FILE))?
-        .arg(maker.option("log", "PATH", KEPT_LOG))?
-        .arg(maker.flag("resume", RESUME).requires_arg("log")?)?
-        .arg(maker.flag("in-turn", IN_TURN))?
-        .arg(capacity(maker))?
-        .arg(max_starts(maker))?
-        .arg(explain(maker, WHY_LINES))?
-        .arg(no_explain(maker)?)
+    let command = Ok(maker.command("live", LIVE, LIVE_EXAMPLES, LIVE_MORE));
+    let command = with_argument(command, Ok(maker.required("FILE", LIVE_FILE)));
+    let command = with_argument(command, Ok(maker.option("log", "PATH", KEPT_LOG)));
+    let command = with_argument(command, maker.flag("resume", RESUME).requires_arg("log"));
+    let command = with_argument(command, Ok(maker.flag("in-turn", IN_TURN)));
+    let command = with_argument(command, Ok(capacity(maker)));
+    let command = with_argument(command, Ok(max_starts(maker)));
+    let command = with_argument(command, Ok(explain(maker, WHY_LINES)));
+    with_argument(command, no_explain(maker))
 }
 
 fn audit_command<'a>(maker: Maker) -> Result<Command<'a>, AllocError> {
-    maker
-        .command("audit", AUDIT, AUDIT_EXAMPLES, AUDIT_MORE)
-        .arg(file(maker))?
-        .arg(maker.required("JOURNAL", JOURNAL))?
-        .arg(explain(maker, EXPLAIN))?
-        .arg(no_explain(maker)?)?
-        .arg(json(maker))
+    let command = Ok(maker.command("audit", AUDIT, AUDIT_EXAMPLES, AUDIT_MORE));
+    let command = with_argument(command, Ok(file(maker)));
+    let command = with_argument(command, Ok(maker.required("JOURNAL", JOURNAL)));
+    let command = with_argument(command, Ok(explain(maker, EXPLAIN)));
+    let command = with_argument(command, no_explain(maker));
+    with_argument(command, Ok(json(maker)))
 }
 
 fn completions_command<'a>(maker: Maker) -> Result<Command<'a>, AllocError> {

@@ -7,7 +7,6 @@ use crate::explained::compare;
 use crate::limits::tell_untold;
 use crate::outcomes::tell_run;
 use crate::place::Place;
-use crate::rebuilt::rebuild;
 use smirun_live::LiveHost;
 use smirun_run::Host;
 use std::alloc::AllocError;
@@ -27,32 +26,29 @@ pub fn perform<R: Host + LiveHost>(rt: &R, line: &str, place: &mut Place) -> io:
         // adds a line COUNT times: COUNT LINE
         "*" => add_lines(rest, place),
         // performs the rest as a command line
-        "$" => call(rt, rest, place),
+        "$" => Ok(call(rt, rest, place)?),
         // the same, except that only the status and the errors are told
-        "%" => ask(rt, rest, place),
+        "%" => Ok(ask(rt, rest, place)?),
         // tells whether the last output has the rest
-        "?" => tell_part(rest, place),
+        "?" => Ok(tell_part(rest, place)?),
         // performs a command line with outputs that cannot be written
-        "&" => call_in_vain(rt, rest, place),
+        "&" => Ok(call_in_vain(rt, rest, place)?),
         // performs a command line, and again with outputs that fail at each byte of it
-        "^" => call_cut_off(rt, rest, place),
+        "^" => Ok(call_cut_off(rt, rest, place)?),
         // performs a command line where there is no memory
-        "~" => call_with_no_memory(rt, rest, place),
+        "~" => Ok(call_with_no_memory(rt, rest, place)?),
         // performs two command lines, and tells it if their results differ: LINE | LINE
-        "=" => compare(rt, rest, place),
-        // performs a command line, and again with `--json`: tells whether that has all of its text
-        "{" => rebuild(rt, rest, place),
+        "=" => Ok(compare(rt, rest, place)?),
         // does something with a file
         "@" => handle(rt, rest, place),
+        // passes over all else, as names of rows
         _ => Ok(()),
     }
 }
 
-fn tell_part(part: &str, place: &mut Place) -> io::Result<()> {
-    let text = str::from_utf8(place.output.as_slice()).unwrap_or("");
-    let answer = if text.contains(part) { "yes" } else { "no" };
-    place.tell_line("  ", answer)?;
-    Ok(())
+fn tell_part(part: &str, place: &mut Place) -> Result<(), AllocError> {
+    let is_so = place.has(part);
+    place.tell_whether(is_so)
 }
 
 // Does something with a file, or with what a command line told of help.
@@ -79,12 +75,12 @@ fn handle<R: Host + LiveHost>(rt: &R, line: &str, place: &mut Place) -> io::Resu
         // tells whether the last output has no more lines, and no longer ones: LINES COLUMNS
         "fits" => tell_fit(rest, place),
         // performs a command line as where both outputs are a terminal
-        "terminal" => call_at_terminal(rt, rest, true, place),
+        "terminal" => Ok(call_at_terminal(rt, rest, true, place)?),
         // performs a command line as where standard error alone is a terminal
-        "piped" => call_at_terminal(rt, rest, false, place),
+        "piped" => Ok(call_at_terminal(rt, rest, false, place)?),
         // tells what the program says if the words of a command line cannot be read
-        "no-words" => tell_no_words(rt.alloc(), ErrorKind::InvalidData, place),
-        "no-memory" => tell_no_words(rt.alloc(), ErrorKind::OutOfMemory, place),
+        "no-words" => Ok(tell_no_words(rt.alloc(), ErrorKind::InvalidData, place)?),
+        "no-memory" => Ok(tell_no_words(rt.alloc(), ErrorKind::OutOfMemory, place)?),
         // tells what the program says about a run: END UNMET, and the path of a journal
         "outcome" => tell_run(rt, rest, place),
         // tells the limits that the last output does not: NAME
@@ -111,8 +107,14 @@ fn point<R: Files>(rt: &R, words: &str) -> io::Result<()> {
 fn call_held<R: Host + LiveHost>(rt: &R, words: &str, place: &mut Place) -> io::Result<()> {
     let (path, line) = words.split_once(' ').unwrap_or((words, ""));
     let file = fs::open(rt, path)?;
-    file.lock()?;
-    call(rt, line, place)
+    match file.lock() {
+        Ok(()) => call_line(rt, line, place),
+        Err(error) => Err(error),
+    }
+}
+
+fn call_line<R: Host + LiveHost>(rt: &R, line: &str, place: &mut Place) -> io::Result<()> {
+    Ok(call(rt, line, place)?)
 }
 
 /// The number that a word is.
@@ -133,9 +135,15 @@ fn byte_of(word: &str) -> io::Result<u8> {
 fn fill<R: Files + AllocGlobal>(rt: &R, words: &str) -> io::Result<()> {
     let (path, rest) = words.split_once(' ').unwrap_or((words, ""));
     let (byte, count) = rest.split_once(' ').unwrap_or((rest, ""));
-    let block = [byte_of(byte)?; 4_096];
+    let byte = byte_of(byte)?;
     let count = number(count)?;
     let mut file = fs::create(rt, path)?;
+    write_times(&mut file, byte, count)
+}
+
+// Writes a byte many times.
+fn write_times<W: Write>(file: &mut W, byte: u8, count: usize) -> io::Result<()> {
+    let block = [byte; 4_096];
     for _ in 0..count / 4_096 {
         file.write_all(&block)?;
     }
@@ -178,20 +186,27 @@ fn add_blanks(place: &mut Place, count: usize) -> Result<(), AllocError> {
 // Tells the text of a file, or that there is no such file.
 fn show<R: Files + AllocGlobal>(rt: &R, path: &str, place: &mut Place) -> io::Result<()> {
     if !fs::exists(rt, path)? {
-        place.tell_line("  ", "(no such file)")?;
-        return Ok(());
+        return Ok(place.tell_line("  ", "(no such file)")?);
     }
     place.output = fs::read(rt, path)?;
-    place.tell_output()?;
-    Ok(())
+    Ok(place.tell_output()?)
+}
+
+// Whether a file has these bytes.
+fn is_file_of<R: Files + AllocGlobal>(rt: &R, path: &str, bytes: &[u8]) -> io::Result<bool> {
+    let read = fs::read(rt, path)?;
+    Ok(read.as_slice() == bytes)
 }
 
 // Tells whether the last output has the bytes of a file.
 fn tell_same<R: Files + AllocGlobal>(rt: &R, path: &str, place: &mut Place) -> io::Result<()> {
-    let bytes = fs::read(rt, path)?;
-    let is_same = bytes.as_slice() == place.output.as_slice();
-    place.tell_line("  ", if is_same { "the same" } else { "otherwise" })?;
-    Ok(())
+    let is_same = is_file_of(rt, path, place.output.as_slice())?;
+    Ok(place.tell_line("  ", if is_same { "the same" } else { "otherwise" })?)
+}
+
+// Whether a text has no more lines than this, and none of more bytes.
+fn does_fit(text: &str, lines: usize, columns: usize) -> bool {
+    text.lines().count() <= lines && text.lines().all(|line| line.len() <= columns)
 }
 
 // Tells whether the last output has no more lines than the first number, and none of more bytes than the second.
@@ -200,7 +215,6 @@ fn tell_fit(words: &str, place: &mut Place) -> io::Result<()> {
     let columns = number(columns)?;
     let lines = number(lines)?;
     let text = str::from_utf8(place.output.as_slice()).unwrap_or("");
-    let does_fit = text.lines().count() <= lines && text.lines().all(|line| line.len() <= columns);
-    place.tell_line("  ", if does_fit { "yes" } else { "no" })?;
-    Ok(())
+    let is_so = does_fit(text, lines, columns);
+    Ok(place.tell_whether(is_so)?)
 }

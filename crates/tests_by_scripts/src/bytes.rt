@@ -32,9 +32,8 @@ fn byte_in_front(text: &str) -> Option<(u8, &str)> {
     }
 }
 
-/// A line of a script with the bytes that it stands for.
-pub fn unescape(alloc: Global, line: &str) -> io::Result<String> {
-    let mut bytes = Vec::new(alloc);
+// Adds the bytes that a line of a script stands for.
+fn add_unescaped(bytes: &mut Vec<u8>, line: &str) -> Result<(), AllocError> {
     for (place, part) in line.split(ESCAPE).enumerate() {
         match byte_in_front(part) {
             Some((byte, rest)) if place > 0 => {
@@ -49,8 +48,21 @@ pub fn unescape(alloc: Global, line: &str) -> io::Result<String> {
             }
         }
     }
-    match str::from_utf8(bytes.as_slice()) {
+    Ok(())
+}
+
+fn text_of(alloc: Global, bytes: &[u8]) -> io::Result<String> {
+    match str::from_utf8(bytes) {
         Ok(text) => Ok(String::from_str(alloc, text)?),
         Err(_) => Err(io::Error::from(ErrorKind::InvalidData)),
+    }
+}
+
+/// A line of a script with the bytes that it stands for.
+pub fn unescape(alloc: Global, line: &str) -> io::Result<String> {
+    let mut bytes = Vec::new(alloc);
+    match add_unescaped(&mut bytes, line) {
+        Ok(()) => text_of(alloc, bytes.as_slice()),
+        Err(error) => Err(io::Error::from(error)),
     }
 }

@@ -1,20 +1,23 @@
 //! Command lines with `--explain` and without it, whose results are the same.
 
-use crate::calls::run;
+use crate::calls::{FILES, run};
 use crate::place::Place;
 use smirun_live::LiveHost;
 use smirun_run::Host;
+use smirun_words::Terminals;
 use std::alloc::{AllocError, Global};
-use std::{fs, io};
+use std::fs;
 
 // The word that asks for explanations, behind others.
 const EXPLAIN: &str = " --explain";
 
-/// The result of a command line, except what it wrote for errors.
+/// What a command line gave.
 #[derive(Drop)]
 pub struct Given {
     pub status: u8,
     pub output: Vec<u8>,
+    /// What it wrote for errors, which is no part of its result.
+    pub errors: Vec<u8>,
     /// The journal that it kept: nothing if it kept none.
     pub journal: Vec<u8>,
 }
@@ -28,19 +31,28 @@ impl Given {
 }
 
 /// Performs a command line, whose standard input is the text at hand.
-pub fn give<R: Host + LiveHost>(
+pub fn give<R: Host + LiveHost>(rt: &R, line: &str, text: &[u8]) -> Result<Given, AllocError> {
+    give_at(rt, line, text, FILES)
+}
+
+/// The same where some streams may be a terminal.
+pub fn give_at<R: Host + LiveHost>(
     rt: &R,
     line: &str,
     text: &[u8],
-    errors: &mut Vec<u8>,
+    terminals: Terminals,
 ) -> Result<Given, AllocError> {
     let mut output = Vec::new(rt.alloc());
-    let status = run(rt, line, text, &mut output, errors)?;
-    Ok(Given {
-        status,
-        output,
-        journal: journal_of(rt, line),
-    })
+    let mut errors = Vec::new(rt.alloc());
+    match run(rt, line, text, terminals, &mut output, &mut errors) {
+        Ok(status) => Ok(Given {
+            status,
+            output,
+            errors,
+            journal: journal_of(rt, line),
+        }),
+        Err(error) => Err(error),
+    }
 }
 
 // The file of the journal that a command line names: nothing if it names none, or if that cannot be read.
@@ -73,13 +85,13 @@ fn tell_other<R: Host + LiveHost>(
     line: &str,
     given: &Given,
     place: &mut Place,
-) -> io::Result<()> {
-    let mut errors = Vec::new(rt.alloc());
-    let other = give(rt, line, place.text.as_slice(), &mut errors)?;
-    if !given.is_same(&other) {
-        place.tell_line("  differs: ", line)?;
+) -> Result<(), AllocError> {
+    let other = give(rt, line, place.text.as_slice())?;
+    if given.is_same(&other) {
+        Ok(())
+    } else {
+        place.tell_line("  differs: ", line)
     }
-    Ok(())
 }
 
 /// Performs a command line that can explain a second time, with `--explain`, or without it if it has it. Tells it if
@@ -89,7 +101,7 @@ pub fn tell_explained<R: Host + LiveHost>(
     line: &str,
     given: &Given,
     place: &mut Place,
-) -> io::Result<()> {
+) -> Result<(), AllocError> {
     if !can_explain(line) {
         return Ok(());
     }
@@ -98,10 +110,13 @@ pub fn tell_explained<R: Host + LiveHost>(
 }
 
 /// Performs two command lines, and tells the second if its result differs from that of the first.
-pub fn compare<R: Host + LiveHost>(rt: &R, lines: &str, place: &mut Place) -> io::Result<()> {
+pub fn compare<R: Host + LiveHost>(
+    rt: &R,
+    lines: &str,
+    place: &mut Place,
+) -> Result<(), AllocError> {
     place.is_open = false;
     let (first, second) = lines.split_once(" | ").unwrap_or((lines, ""));
-    let mut errors = Vec::new(rt.alloc());
-    let given = give(rt, first, place.text.as_slice(), &mut errors)?;
+    let given = give(rt, first, place.text.as_slice())?;
     tell_other(rt, second, &given, place)
 }

@@ -11,7 +11,6 @@ use sml_tree::{
     MAX_OPEN, MAX_PARAMETERS, MAX_SETS, MAX_STATES, MAX_TESTS, MAX_WAITED,
 };
 use std::alloc::{AllocError, Global};
-use std::str;
 
 // A limit, and what is behind it in a text.
 type Limit = (usize, &'static str);
@@ -51,14 +50,24 @@ fn limits_of(name: &str) -> &'static [Limit] {
     }
 }
 
+// Tells a limit that the last output does not tell.
+fn tell_if_untold(
+    alloc: Global,
+    (limit, behind): Limit,
+    place: &mut Place,
+) -> Result<(), AllocError> {
+    let part = format!(in alloc; " {limit}{behind}")?;
+    if place.has(part.as_str()) {
+        Ok(())
+    } else {
+        place.tell_line("  untold:", part.as_str())
+    }
+}
+
 /// Tells each of the limits of this name that the last output does not tell.
 pub fn tell_untold(alloc: Global, name: &str, place: &mut Place) -> Result<(), AllocError> {
-    for (limit, behind) in limits_of(name) {
-        let part = format!(in alloc; " {limit}{behind}")?;
-        let text = str::from_utf8(place.output.as_slice()).unwrap_or("");
-        if !text.contains(part.as_str()) {
-            place.tell_line("  untold:", part.as_str())?;
-        }
+    for limit in limits_of(name) {
+        tell_if_untold(alloc, *limit, place)?;
     }
     place.tell_line("  ", "all others are told")
 }

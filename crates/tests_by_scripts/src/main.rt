@@ -8,7 +8,6 @@ mod explained;
 mod limits;
 mod outcomes;
 mod place;
-mod rebuilt;
 mod rows;
 mod writers;
 
@@ -24,18 +23,45 @@ use std::{env, fs, io};
 fn main(rt: HostRuntime) -> io::Result<()> {
     let words: Vec<String> = env::args(&rt)?.collect(rt.alloc())?;
     let mut place = Place::new(rt.alloc());
-    let mut output = rt.stdout();
+    perform_scripts(&rt, words.as_slice(), &mut place, &mut rt.stdout())
+}
+
+// Performs the scripts that words name, behind the first word.
+fn perform_scripts<R: Host + LiveHost, W: Write>(
+    rt: &R,
+    words: &[String],
+    place: &mut Place,
+    output: &mut W,
+) -> io::Result<()> {
     for name in words.iter().skip(1) {
-        let found = perform_script(&rt, name.as_str(), &mut place)?;
-        tell_found(&mut output, name.as_str(), &found)?;
+        perform_script(rt, name.as_str(), place, output)?;
     }
     output.flush()
 }
 
-fn perform_script<R: Host + LiveHost>(rt: &R, name: &str, place: &mut Place) -> io::Result<Found> {
+// Performs a script, and tells what was found of it.
+fn perform_script<R: Host + LiveHost, W: Write>(
+    rt: &R,
+    name: &str,
+    place: &mut Place,
+    output: &mut W,
+) -> io::Result<()> {
+    let mut found = Found::new(rt.alloc());
+    match perform_file(rt, name, place, &mut found) {
+        Ok(()) => tell_found(output, name, &found),
+        Err(error) => Err(error),
+    }
+}
+
+fn perform_file<R: Host + LiveHost>(
+    rt: &R,
+    name: &str,
+    place: &mut Place,
+    found: &mut Found,
+) -> io::Result<()> {
     let script = fs::read_to_string(rt, name)?;
     let text = script.as_str();
-    perform_rows(rt, text.strip_suffix('\n').unwrap_or(text), place)
+    perform_rows(rt, text.strip_suffix('\n').unwrap_or(text), place, found)
 }
 
 // Whether a script told what it must, and something at all.

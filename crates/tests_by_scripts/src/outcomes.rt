@@ -7,9 +7,9 @@ use smi_journal_entries::{Journal, SessionId};
 use smi_run_shared::ServeEnd;
 use smirun_live::LiveHost;
 use smirun_run::{Host, Outcome, Receipt, tell_outcome};
-use sml_domain::ObjId;
+use sml_domain::{Domain, ObjId};
 use sml_load::domain_of;
-use std::alloc::Global;
+use std::alloc::AllocError;
 use std::io;
 use std::io::ErrorKind;
 
@@ -22,9 +22,8 @@ fn end_of(word: &str) -> io::Result<ServeEnd> {
     }
 }
 
-// Receipts of kills: `count` of them.
-fn receipts(alloc: Global, count: usize) -> io::Result<Vec<Receipt>> {
-    let mut receipts = Vec::new(alloc);
+// Adds receipts of kills: `count` of them.
+fn add_receipts(receipts: &mut Vec<Receipt>, count: usize) -> Result<(), AllocError> {
     if let Some(session) = SessionId::new(1) {
         for place in 0..count {
             receipts.push(Receipt {
@@ -35,43 +34,74 @@ fn receipts(alloc: Global, count: usize) -> io::Result<Vec<Receipt>> {
             })?;
         }
     }
-    Ok(receipts)
+    Ok(())
 }
 
-// A run of nothing that ended so, with this number of receipts unmet.
-fn outcome_of(alloc: Global, end: &str, unmet: &str) -> io::Result<Outcome> {
-    let mut summary = Vec::new(alloc);
-    summary.extend_from_slice(b"(the summary)\n")?;
-    Ok(Outcome {
-        end: end_of(end)?,
-        summary,
-        journal: Journal::new(alloc),
-        unmet: receipts(alloc, number(unmet)?)?,
-        refused: Vec::new(alloc),
-    })
+// Gives a run its summary, and this number of receipts unmet.
+fn fill(outcome: &mut Outcome, unmet: usize) -> Result<(), AllocError> {
+    outcome.summary.extend_from_slice(b"(the summary)\n")?;
+    add_receipts(&mut outcome.unmet, unmet)
+}
+
+// Tells what the program says about a run of nothing of this domain. Its output is kept.
+fn tell_of<R: Host + LiveHost>(
+    rt: &R,
+    domain: &Domain,
+    path: Option<&str>,
+    outcome: &Outcome,
+    place: &mut Place,
+) -> Result<(), AllocError> {
+    place.output.clear();
+    let mut errors = Vec::new(rt.alloc());
+    let status = match tell_outcome(rt, domain, path, outcome, &mut place.output) {
+        Ok(()) => 0,
+        Err(fault) => fault.tell(&mut errors),
+    };
+    tell(rt.alloc(), place, status, errors.as_slice())
+}
+
+// The same of the domain that declares nothing.
+fn tell_of_nothing<R: Host + LiveHost>(
+    rt: &R,
+    path: Option<&str>,
+    outcome: &Outcome,
+    place: &mut Place,
+) -> Result<(), AllocError> {
+    match domain_of(rt.alloc(), b"") {
+        Ok(domain) => tell_of(rt, &domain, path, outcome, place),
+        Err(_) => Err(AllocError),
+    }
+}
+
+// Tells what the program says about a run of nothing that ended so, with this number of receipts unmet.
+fn tell_ended<R: Host + LiveHost>(
+    rt: &R,
+    end: ServeEnd,
+    unmet: usize,
+    path: Option<&str>,
+    place: &mut Place,
+) -> Result<(), AllocError> {
+    let mut outcome = Outcome {
+        end,
+        summary: Vec::new(rt.alloc()),
+        journal: Journal::new(rt.alloc()),
+        unmet: Vec::new(rt.alloc()),
+        refused: Vec::new(rt.alloc()),
+    };
+    match fill(&mut outcome, unmet) {
+        Ok(()) => tell_of_nothing(rt, path, &outcome, place),
+        Err(error) => Err(error),
+    }
 }
 
 /// Tells what the program says about a run of nothing, by how it ended, how many receipts are unmet, and the path of
 /// its journal.
 pub fn tell_run<R: Host + LiveHost>(rt: &R, words: &str, place: &mut Place) -> io::Result<()> {
-    let alloc = rt.alloc();
     let (end, rest) = words.split_once(' ').unwrap_or((words, ""));
     let (unmet, path) = match rest.split_once(' ') {
         Some((unmet, path)) => (unmet, Some(path)),
         None => (rest, None),
     };
-    let outcome = outcome_of(alloc, end, unmet)?;
-    let Ok(domain) = domain_of(alloc, b"") else {
-        return Err(io::Error::from(ErrorKind::OutOfMemory));
-    };
-    let mut output = Vec::new(alloc);
-    let mut errors = Vec::new(alloc);
-    let status = match tell_outcome(rt, &domain, path, &outcome, &mut output) {
-        Ok(()) => 0,
-        Err(fault) => fault.tell(&mut errors),
-    };
-    place.output = output;
-    tell(alloc, place, status, errors.as_slice())?;
-    place.tell_output()?;
-    Ok(())
+    tell_ended(rt, end_of(end)?, number(unmet)?, path, place)?;
+    Ok(place.tell_output()?)
 }

@@ -20,37 +20,24 @@ pub struct Found {
     pub others: Vec<u8>,
 }
 
-// A line of a script, the name of its row, and what it must tell.
-#[derive(Drop)]
+// A line of a script, and the name of its row.
+#[derive(Clone, Copy)]
 struct Line<'a> {
     row: &'a str,
     text: &'a str,
-    must: Vec<u8>,
 }
 
 impl<'a> Line<'a> {
-    fn new(alloc: Global, row: &'a str, text: &'a str) -> Line<'a> {
-        Line {
-            row,
-            text,
-            must: Vec::new(alloc),
-        }
-    }
-
-    // The row of the line behind this one: a line that begins with `#` names it.
-    fn row_behind(&self) -> &'a str {
-        self.text.strip_prefix("# ").unwrap_or(self.row)
-    }
-
-    fn add(&mut self, answer: &str) -> Result<(), AllocError> {
-        self.must.extend_from_slice(answer.as_bytes())?;
-        self.must.push(b'\n')?;
-        Ok(())
+    // The line behind this one: a line that begins with `#` names the row of those that follow.
+    fn followed_by(self, text: &'a str) -> Line<'a> {
+        let row = self.text.strip_prefix("# ").unwrap_or(self.row);
+        Line { row, text }
     }
 }
 
 impl Found {
-    fn new(alloc: Global) -> Found {
+    /// Nothing yet.
+    pub fn new(alloc: Global) -> Found {
         Found {
             same: 0,
             others: Vec::new(alloc),
@@ -58,36 +45,48 @@ impl Found {
     }
 
     // Tells a line that told something else than it must.
-    fn differs(&mut self, line: &Line<'_>, told: &[u8]) -> Result<(), AllocError> {
+    fn differs(&mut self, line: Line<'_>, place: &Place) -> Result<(), AllocError> {
         let others = &mut self.others;
         others.extend_from_slice(b"# ")?;
         others.extend_from_slice(line.row.as_bytes())?;
         others.extend_from_slice(b"\n")?;
         others.extend_from_slice(line.text.as_bytes())?;
         others.extend_from_slice(b"\n  must tell:\n")?;
-        others.extend_from_slice(line.must.as_slice())?;
+        others.extend_from_slice(place.must.as_slice())?;
         others.extend_from_slice(b"  told:\n")?;
-        others.extend_from_slice(told)?;
-        others.extend_from_slice(b"\n")?;
+        others.extend_from_slice(place.told.as_slice())?;
+        others.extend_from_slice(b"\n")
+    }
+
+    // Looks whether a line told what it must.
+    fn look(&mut self, line: Line<'_>, place: &Place) -> Result<(), AllocError> {
+        if !place.is_as_it_must_be() {
+            return self.differs(line, place);
+        }
+        if !place.must.is_empty() {
+            self.same = self.same.saturating_add(1);
+        }
         Ok(())
     }
+}
+
+// Does what a line says, in which bytes may be written by their numbers.
+fn perform_escaped<R: Host + LiveHost>(rt: &R, line: &str, place: &mut Place) -> io::Result<()> {
+    let text = unescape(rt.alloc(), line)?;
+    perform(rt, text.as_str(), place)
 }
 
 // Does what a line says, and looks whether it tells what it must.
 fn perform_line<R: Host + LiveHost>(
     rt: &R,
-    line: &Line<'_>,
+    line: Line<'_>,
     place: &mut Place,
     found: &mut Found,
 ) -> io::Result<()> {
     place.told.clear();
-    let text = unescape(rt.alloc(), line.text)?;
-    perform(rt, text.as_str(), place)?;
-    if line.must.as_slice() != place.told.as_slice() {
-        found.differs(line, place.told.as_slice())?;
-    } else if !line.must.is_empty() {
-        found.same = found.same.saturating_add(1);
-    }
+    perform_escaped(rt, line.text, place)?;
+    found.look(line, place)?;
+    place.must.clear();
     Ok(())
 }
 
@@ -96,17 +95,16 @@ pub fn perform_rows<R: Host + LiveHost>(
     rt: &R,
     script: &str,
     place: &mut Place,
-) -> io::Result<Found> {
-    let mut found = Found::new(rt.alloc());
-    let mut line = Line::new(rt.alloc(), "", "");
+    found: &mut Found,
+) -> io::Result<()> {
+    let mut line = Line { row: "", text: "" };
     for next in script.split('\n') {
         if next.starts_with(ANSWER) {
-            line.add(next)?;
+            place.add_answer(next)?;
         } else {
-            perform_line(rt, &line, place, &mut found)?;
-            line = Line::new(rt.alloc(), line.row_behind(), next);
+            perform_line(rt, line, place, found)?;
+            line = line.followed_by(next);
         }
     }
-    perform_line(rt, &line, place, &mut found)?;
-    Ok(found)
+    perform_line(rt, line, place, found)
 }
