@@ -67,7 +67,7 @@ MOST_UNANSWERED = 64
 LINES_A_TURN, MOST_UNREAD = 16, 1 << 20
 # How long the manager may take to rest, once it is to end.
 PATIENCE = 6.0
-# The number of a request that is made once may be so many microseconds ahead of the clock.
+# How far the number of a request that is made once may be ahead of the clock, in microseconds.
 MOST_AHEAD = 3_600_000_000
 # What the manager says on standard error where it does not tell how all stands.
 NOT_TOLD = b"? not told"

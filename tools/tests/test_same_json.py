@@ -114,7 +114,7 @@ class Script(unittest.TestCase):
         self.assertEqual(at_hand("| a", "* 0 b")[0], b"a")
         self.assertEqual(at_hand("| a", "+ 2 b ", r"| \x00")[0], b"ab b \n\0")
 
-    def test_a_new_text_begins_behind_calls(self):
+    def test_a_new_text_begins_after_calls(self):
         for line in ("$ smirun list a", "% smirun list a", "^ smirun", "~ smirun", "= a | b", "@ write f", "@ piped x"):
             self.assertEqual(at_hand("| a", line, "| b")[0], b"b", line)
         for line in ("? part", "& smirun list a", "@ show f", "# name", "", "other"):

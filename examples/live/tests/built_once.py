@@ -1,4 +1,4 @@
-"""The manager itself, with a last line that was cut off; and behind the gateway, with requests that are made once."""
+"""The manager itself, with a last line that was cut off; and a gateway before it, with requests that are made once."""
 import os
 import signal
 import subprocess
@@ -15,9 +15,9 @@ from lines import PROGRAM  # noqa: E402
 
 DOMAIN = f"{LIVE}/../../crates/tests_by_scripts/data/supplies.sml"
 REQUEST = b"request @3 HV1 SWITCH_ON"
-# Nothing here takes so many seconds, unless it stands still.
+# Nothing here takes longer, in seconds, unless it stands still.
 LIMIT = 120
-# The manager is killed so many seconds after a request. supervise.py gives up at the fifth such end within a minute.
+# How long after a request the manager is killed, in seconds. supervise.py gives up at the fifth such end within a minute.
 DELAYS = (0.0, 0.001, 0.004, 0.02)
 
 
@@ -119,7 +119,7 @@ class MadeOnce(Room):
         self.assertEqual(self.client.hear(b"= "), wanted)
 
     def assert_marks(self, count: int) -> None:
-        """The log has so many requests, each with the mark of its number, one after the other."""
+        """The log has this count of requests, each with the mark of its number, one after the other."""
         marks = [line.partition(b" ! once ")[2] for line in self.logged() if line.startswith(b"request ")]
         self.assertEqual(marks, [b"S1 %d" % (self.number + place) for place in range(count)])
 

@@ -16,7 +16,7 @@ WITHOUT_ANSWER = (
     b"", b" ", b"\t \r", b"!", b"! the shift begins", b" \t! request @1 HV1 SWITCH_ON", b"! tab\tand \r\x7f",
     b"?", b"? how all stands", b"?\x00\xff", b"?" + b"x" * LONGEST_LINE, b"? ! once L 1",
     b"! " + b"x" * (LONGEST_LINE - 2), b" " * LONGEST_LINE,
-    # What is like a mark, or like the first line of a log, and is none.
+    # What is like a mark, or like the first line of a log, and is neither.
     b"! once L 1", b"! a ! once l 1", b"! a ! once L 01", b"! a ! once L " + TOO_LARGE, b"! a ! once L 1 ",
     b"! a ! once N%b 1" % LONG_NAME, b"! a ! once  L 1", b"! a ! ONCE L 1", b"! smirun live", b" ! smirun live 1",
 )

@@ -17,7 +17,7 @@ sys.path.insert(0, LIVE)
 import panel  # noqa: E402
 from domain import Class  # noqa: E402
 
-# Nothing here takes so many seconds, unless it stands still.
+# Nothing here takes longer, in seconds, unless it stands still.
 LIMIT = 10
 REQUEST, KILL = "request HV1 SWITCH_ON", "kill HV1"
 ACCEPTED, OLD = "once S3 7 accept @3 HV1 0 SWITCH_ON", "once S3 7 refused Old"
