@@ -48,8 +48,8 @@ LogsAreSchedules =
     → OutputOf k.core text out k2.core
 
 -- of two lines of a log that are marked with one name, the later has the greater number: each is made once
-abbrev pub EachOnce : Type 0
-EachOnce =
+abbrev pub EachMadeOnce : Type 0
+EachMadeOnce =
     (k : Keeper CoreView) (text out : List ℕ) (k2 : Keeper CoreView) → LogOutputs k text out k2
     → NumbersGrow (lines_of text)
 

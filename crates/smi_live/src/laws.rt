@@ -1,5 +1,5 @@
 //! What holds of every log of a manager, as the contract of a function that does nothing.
-ghost use Rattle.smi_live.specs.Logs.{EachOnce, LogsAreSchedules, LogsWriteAgain, ManagersReach, OneKeeper};
+ghost use Rattle.smi_live.specs.Logs.{EachMadeOnce, LogsAreSchedules, LogsWriteAgain, ManagersReach, OneKeeper};
 ghost use Rattle.smi_live.specs.Logs.{ResumedGoesOn, SameHeardSameLog, ToldAsMade};
 
 use smi_live_once::laws_of_once;
@@ -15,7 +15,7 @@ pub fn every_log()
     ensures resumed { ResumedGoesOn }
     ensures schedule { LogsAreSchedules }
     ensures one { OneKeeper }
-    ensures once { EachOnce }
+    ensures once { EachMadeOnce }
     ensures told { ToldAsMade }
     ensures reached { ManagersReach }
     ensures same { SameHeardSameLog }

@@ -1,8 +1,10 @@
 //! Steps that are made, and what they write.
-ghost use Rattle.std.specs.Prelude.{◌≡◌, ◌≢◌, ◌<◌, Err, IfOk, None, Ok, OnOk, Some, false, length, true};
+ghost use Rattle.std.specs.Prelude.{◌≡◌, ◌≢◌, ◌<◌, Err, IfOk, None, Ok, OnOk, Some, drop, false, length, true};
 ghost use Rattle.smi_world.specs.declared.step.Answer.{Answer as Answered};
 ghost use Rattle.smi_world.specs.declared.refusal.StepError.TheVariants as error;
 ghost use Rattle.smi_world_rest.specs.OwnSteps.{IsIdle};
+ghost use Rattle.smi_world.specs.Steps.{StepsTo};
+ghost use Rattle.smi_lines.specs.Answers.{answer_text};
 ghost use Rattle.smi_lines.specs.Line.{LineReads};
 ghost use Rattle.smi_core.specs.Output.{LineWrites};
 ghost use Rattle.smi_live_once.specs.Forms.{IsUnmarked};
@@ -50,6 +52,60 @@ fn tell_lookout<L: Lookout>(
 ) {
     let added = entries_from(core.journal(), first);
     lookout.answered(core, taken, step, answer, added);
+}
+
+// Tells of a step that was tried, if it changed something. Whether it did.
+fn tell_changed<L: Lookout>(
+    keeper: &Keeper,
+    lookout: &mut L,
+    taken: Taken<'_>,
+    step: &Step,
+    answer: &Result<Answer, StepError>,
+    first: usize,
+    made: &mut Made,
+) -> Result<bool, AllocError>
+    ensures changed { IfOk result (λ b. b ≡ true → (a : Answered) × (answer.now ≡ Ok a) × (a ≢ Answer.Still)) }
+    ensures line { IfOk result (λ b. b ≡ true → made.new.kept.items ≡ taken.entry.text.now) }
+    ensures text { IfOk result (λ b. b ≡ true → made.new.text.items ≡ answer_text keeper.now.core.setup.domain
+        step.now answer.now (drop first keeper.now.core.world.journal)) }
+    ensures idle { IfOk result (λ b. b ≡ false → IsIdle answer.now × (answer.now ≡ Err error.Memory → ⊥)) }
+{
+    if is_memory(answer) {
+        return Err(AllocError);
+    }
+    if !has_changed(answer) {
+        return Ok(false);
+    }
+    tell_lookout(lookout, keeper.core(), taken, step, answer, first);
+    match tell(keeper.core(), taken.text, step, answer, first, made) {
+        Ok(()) => Ok(true),
+        Err(error) => Err(error),
+    }
+}
+
+/// Makes a start or a go that a log has. Whether it was made: one that is refused, or at which an action waits on, is
+/// none that a manager keeps, and changes nothing.
+pub(crate) fn make_own_again<L: Lookout>(
+    keeper: &mut Keeper,
+    lookout: &mut L,
+    taken: Taken<'_>,
+    step: &Step,
+    made: &mut Made,
+) -> Result<bool, AllocError>
+    requires { LineReads taken.text.now (Ok (Some step.now)) }
+    ensures makes { IfOk result (λ b. b ≡ true
+        → LineWrites keeper.old.core taken.entry.text.now made.new.text.items keeper.new.core) }
+    ensures moves { IfOk result (λ b. b ≡ true → (a : Answered)
+        × StepsTo keeper.old.core.setup keeper.old.core.world step.now (Ok a) keeper.new.core.world
+        × (a ≢ Answer.Still)) }
+    ensures idle { IfOk result (λ b. b ≡ false → IsIdleAt keeper.old.core step.now) }
+    ensures same { IfOk result (λ b. b ≡ false → keeper.new.core ≡ keeper.old.core) }
+    ensures setup { keeper.new.core.setup ≡ keeper.old.core.setup }
+    ensures told { keeper.new.told ≡ keeper.old.told }
+{
+    let first = keeper.core().journal().len();
+    let answer = keeper.step(step);
+    tell_changed(keeper, lookout, taken, step, &answer, first, made)
 }
 
 /// Makes a step of a line. What it asked for, if it is a request.
@@ -154,21 +210,11 @@ fn make_own<L: Lookout>(
 {
     let first = keeper.core().journal().len();
     let answer = keeper.step_at(o, own.step());
-    if is_memory(&answer) {
-        return Err(AllocError);
-    }
-    if !has_changed(&answer) {
-        return Ok(false);
-    }
     let taken = Taken {
         number,
         text: own.text(),
     };
-    tell_lookout(lookout, keeper.core(), taken, own.step(), &answer, first);
-    match tell(keeper.core(), own.text(), own.step(), &answer, first, made) {
-        Ok(()) => Ok(true),
-        Err(error) => Err(error),
-    }
+    tell_changed(keeper, lookout, taken, own.step(), &answer, first, made)
 }
 
 /// Tries the steps of an object. Whether one was made.

@@ -4,7 +4,7 @@ ghost use Rattle.smi_core.specs.Output.{LineWrites};
 ghost use Rattle.smi_live_accounts.specs.Accounts.{AccountsTell};
 ghost use Rattle.smi_live_once.specs.Making.{KeeperWrites};
 ghost use Rattle.smi_world.specs.World.{opening};
-ghost use Rattle.smi_live.specs.Keeping.{FirstOf};
+ghost use Rattle.smi_live.specs.Keeping.{FirstOf, IsNeverLogged, MayBeLogged};
 ghost use Rattle.smi_live.specs.Managing as managing;
 ghost use Rattle.smi_live.specs.Managing.{IsIdleObject, IsMadeAt, logged};
 
@@ -101,13 +101,16 @@ impl<L: Observer> Manager<L> {
     }
 
     /// Makes a line of a log again. What one with a mark writes was told last to its name. False if no manager would
-    /// have written it: its mark is not new, or stands after what is no request. Then nothing is made. The cost is
-    /// that of the step. The error is out of memory.
+    /// have written it there: it is a start or a go that changes nothing, or no step, or its mark is not new, or stands
+    /// after what is no request. Then nothing is made. The cost is that of the step. The error is out of memory.
     pub fn make_again(&mut self, line: &[u8], made: &mut Made) -> Result<bool, AllocError>
         ensures made { IfOk result (λ b. b ≡ true
             → KeeperWrites LineWrites (managing.keeper_of self.old) line.now made.new.text.items
             (managing.keeper_of self.new)) }
         ensures same { IfOk result (λ b. b ≡ false → self.new ≡ self.old) }
+        ensures logged { IfOk result (λ b. b ≡ true
+            → MayBeLogged (managing.keeper_of self.old) line.now (managing.keeper_of self.new)) }
+        ensures never { IfOk result (λ b. b ≡ false → IsNeverLogged (managing.keeper_of self.old) line.now) }
         ensures turn { self.new.turn ≡ self.old.turn }
     {
         let taken = self.next_line(line);

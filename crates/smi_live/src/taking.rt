@@ -191,8 +191,8 @@ fn take_request<L: Lookout>(
     }
 }
 
-// Whether a line could not be read for want of memory.
-fn is_unread(read: &Result<Option<Step>, LineError>) -> bool
+/// Whether a line could not be read since memory ran out.
+pub(crate) fn is_unread(read: &Result<Option<Step>, LineError>) -> bool
     ensures { result ≡ false → read.now ≡ Err fault.Memory → ⊥ }
 {
     match read {
@@ -201,8 +201,8 @@ fn is_unread(read: &Result<Option<Step>, LineError>) -> bool
     }
 }
 
-// The step that a line asks for, if it was read so.
-fn step_in(read: &Result<Option<Step>, LineError>) -> Option<&Step>
+/// The step that a line asks for, if it was read so.
+pub(crate) fn step_in(read: &Result<Option<Step>, LineError>) -> Option<&Step>
     ensures some { IfSome result (λ s. read.now ≡ Ok (Some s.now)) }
     ensures none { IfNone result (IsNoStep read.now) }
 {

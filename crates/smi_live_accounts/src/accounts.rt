@@ -119,7 +119,8 @@ impl Accounts {
 
     /// How an object stands. None if the domain has no such object.
     pub fn stands(&self, o: ObjId) -> Option<Stands>
-        ensures { result ≡ option_map (λ c. record { state = c.state; ended = c.ended }) (slice_get self.now.fates.counts o) }
+        ensures { result ≡ option_map (λ c. record { state = c.state; ended = c.ended })
+            (slice_get self.now.fates.counts o) }
     {
         match self.fates.counts(o) {
             Some(counts) => Some(counts.stands()),

@@ -1,5 +1,5 @@
 -- What a manager does, turn by turn.
-use Rattle.std.specs.Prelude.{◌≡◌, ℕ, Bool, true, List, [], ◌∷◌, ◌++◌, Option, Some, None, is_none, option_map, option_to_list, map}
+use Rattle.std.specs.Prelude.{◌≡◌, ℕ, Bool, List, [], ◌∷◌, ◌++◌, Option, Some, None, is_none, is_some, option_map, option_to_list, map}
 use Rattle.std.specs.List.{concat, flat_map}
 use Rattle.std.specs.Io.KnownBytes.{Appends}
 use Rattle.smi_live_loop.specs.declared.feed.Fed.{Fed}
@@ -30,14 +30,26 @@ kept_of (Some c) = c.kept ∷ []
 abbrev pub turn_texts : Turn → List (List ℕ)
 turn_texts t = option_to_list t.own ++ kept_of t.came
 
--- what came is what a feed answered, after one of the manager's own steps or without one; and whether it continues
-abbrev pub Hears : Fed → Bool → Option Came → Bool → Type 0
-Hears (Line line) has_moved None goes_on = ⊥
-Hears (Line line) has_moved (Some c) goes_on = (c.asked ≡ line.items) × (goes_on ≡ true)
-Hears Asked has_moved came goes_on = (came ≡ None) × (goes_on ≡ true)
-Hears Nothing has_moved came goes_on = (came ≡ None) × (goes_on ≡ true)
-Hears End has_moved came goes_on = (came ≡ None) × (goes_on ≡ has_moved)
-Hears Failed has_moved came goes_on = ⊥
+-- what came is the line that a feed answered, if it answered one
+abbrev pub IsLineOf : Fed → Option Came → Type 0
+IsLineOf (Line line) None = ⊥
+IsLineOf (Line line) (Some c) = c.asked ≡ line.items
+IsLineOf Asked came = came ≡ None
+IsLineOf Nothing came = came ≡ None
+IsLineOf End came = came ≡ None
+IsLineOf Failed came = came ≡ None
+
+-- the first half of a turn: a step of the machine's own was made, or none
+abbrev pub HasMoved : Option (List ℕ) → Bool → Type 0
+HasMoved own has_moved = is_some own ≡ has_moved
+
+-- what was heard in a turn, by what the feed answered: if it failed, no line came, and nothing is noted
+abbrev pub TurnHears : Fed → Turn → List Heard → List Heard → Type 0
+TurnHears (Line line) t heard heard2 = heard2 ≡ heard ++ heard_in t ∷ []
+TurnHears Asked t heard heard2 = heard2 ≡ heard ++ heard_in t ∷ []
+TurnHears Nothing t heard heard2 = heard2 ≡ heard ++ heard_in t ∷ []
+TurnHears End t heard heard2 = heard2 ≡ heard ++ heard_in t ∷ []
+TurnHears Failed t heard heard2 = (t.came ≡ None) × (heard2 ≡ heard)
 
 -- the texts that are kept of turns
 abbrev pub texts_in : List Turn → List (List ℕ)

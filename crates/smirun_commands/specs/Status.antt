@@ -7,7 +7,9 @@ use Rattle.smirun_commands.specs.declared.fault.Fault.{Fault}
 use Rattle.smirun_commands.specs.declared.fault.Fault.TheVariants.{Read, Check, WrongNumbers, WrongRunNumbers, Unreadable}
 use Rattle.smirun_commands.specs.declared.fault.Fault.TheVariants.{TooLong, BadHeader, BadLine, Overwrites, Output}
 use Rattle.smirun_commands.specs.declared.fault.Fault.TheVariants.{JournalUnwritten, ReportDiffers, Memory}
-use Rattle.smirun_commands.specs.declared.fault.Fault.TheVariants.{LogNotEmpty, LogOfAnother, LogInUse, LogFull, NoLine}
+use Rattle.smirun_commands.specs.declared.fault.Fault.TheVariants.{Log, NoLine}
+use Rattle.smirun_commands.specs.declared.log_refusal.LogRefusal.{LogRefusal}
+use Rattle.smirun_commands.specs.declared.log_refusal.LogRefusal.TheVariants as log
 
 -- the exit status of a fault
 abbrev pub fault_status : Fault → ℕ
@@ -23,12 +25,23 @@ fault_status (NoLine _ _) = 1
 fault_status (Overwrites _) = 2
 fault_status Output = 1
 fault_status (JournalUnwritten _ _) = 1
-fault_status (LogNotEmpty _) = 1
-fault_status (LogOfAnother _) = 1
-fault_status (LogInUse _) = 1
-fault_status (LogFull _) = 1
+fault_status (Log _ _) = 1
 fault_status ReportDiffers = 1
 fault_status Memory = 3
+
+-- what is said of a log that is refused
+abbrev pub said_of : LogRefusal → List ℕ
+said_of log.NotEmpty = codes "is not empty"
+said_of log.OfAnother = codes "is of another domain"
+said_of (log.Capacity n) = codes "has capacity " ++ decimal n
+said_of (log.Starts n) = codes "has " ++ decimal n ++ codes " starts"
+said_of log.NoFile = codes "is no file"
+said_of log.InUse = codes "is in use"
+said_of log.Full = codes "full"
+
+-- which is always known
+abbrev pub refusal_text : LogRefusal → Option (List ℕ)
+refusal_text r = Some (said_of r)
 
 -- the line of a fault
 abbrev pub fault_line : Fault → Option (List ℕ)
@@ -47,9 +60,6 @@ fault_line (NoLine file n) = Some (file.now ++ codes " has no line " ++ decimal 
 fault_line (Overwrites file) = Some (file.now ++ codes " is read, so that no journal is written to it")
 fault_line Output = Some (codes "output fault")
 fault_line (JournalUnwritten _ _) = Some (codes "output fault")
-fault_line (LogNotEmpty file) = Some (file.now ++ codes " is not empty")
-fault_line (LogOfAnother file) = Some (file.now ++ codes " is of another domain")
-fault_line (LogInUse file) = Some (file.now ++ codes " is in use")
-fault_line (LogFull file) = Some (file.now ++ codes " full")
+fault_line (Log file r) = Some (file.now ++ codes " " ++ said_of r)
 fault_line ReportDiffers = Some (codes "report differs")
 fault_line Memory = Some (codes "memory")

@@ -2,6 +2,8 @@
 
 use crate::audit::LONGEST_JOURNAL;
 use crate::fault::Fault;
+use crate::log_advice::{explain_bad_log, explain_refused_log};
+use crate::log_refusal::LogRefusal;
 use crate::print_check::Difference;
 use crate::requests::{explain_bad_lines, explain_requests};
 use explain_files::{explain_check, explain_good, explain_read};
@@ -186,6 +188,22 @@ impl Advice {
     pub fn of_dead(&mut self, session: usize, count: u64) {
         if self.is_wanted {
             tell_dead(&mut Out::new(&mut self.text), session, count);
+        }
+    }
+
+    /// Advises on the log of a live manager that is refused: the way out.
+    pub fn of_refused_log(&mut self, path: &str, refusal: LogRefusal) {
+        if self.is_wanted {
+            explain_refused_log(&mut Out::new(&mut self.text), path, refusal);
+        }
+    }
+
+    /// Advises on a log, whose line of this number no manager would have written there: the line, and the way out. The
+    /// cost is the length of the text up to that line.
+    pub fn of_bad_log(&mut self, path: &str, text: &[u8], number: u64) {
+        if self.is_wanted {
+            let line = line_of(text, number as usize);
+            explain_bad_log(&mut Out::new(&mut self.text), path, line, number);
         }
     }
 

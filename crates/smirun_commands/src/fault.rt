@@ -4,6 +4,7 @@ ghost use Rattle.std.specs.IoError.{error_kind};
 ghost use Rattle.smirun_commands.specs.Status.{fault_status};
 
 use crate::judgement::FileOutcome;
+use crate::log_refusal::LogRefusal;
 use crate::status::{NO_MEMORY, REFUSED, WRONG_WORDS};
 use smi_audit::JournalError;
 use smi_core::{CoreError, ScheduleFault};
@@ -42,15 +43,8 @@ pub enum Fault<'a> {
     Output,
     /// The file of the journal or of the log cannot be made or written, for this cause where the system told one.
     JournalUnwritten(&'a str, Option<io::Error>),
-    /// The log of a manager that begins has something already.
-    LogNotEmpty(&'a str),
-    /// The log is not that of a manager of this domain, or of one with this capacity, or it has more starts than the
-    /// manager may make.
-    LogOfAnother(&'a str),
-    /// Another manager writes the log.
-    LogInUse(&'a str),
-    /// With its next line the log would be longer than a schedule may be.
-    LogFull(&'a str),
+    /// The log of a live manager is refused, or is written no more.
+    Log(&'a str, LogRefusal),
     /// The report of a run lists receipts that its journal does not agree with.
     ReportDiffers,
     /// Out of memory.
@@ -67,8 +61,7 @@ impl<'a> Fault<'a> {
             Fault::Read(..) | Fault::Check(..) | Fault::BadHeader(_) | Fault::BadLine(..) =>
                 REFUSED,
             Fault::Unreadable(..) | Fault::TooLong(_) | Fault::NoLine(..) => REFUSED,
-            Fault::LogNotEmpty(_) | Fault::LogOfAnother(_) => REFUSED,
-            Fault::LogInUse(_) | Fault::LogFull(_) => REFUSED,
+            Fault::Log(..) => REFUSED,
             Fault::Output | Fault::JournalUnwritten(..) | Fault::ReportDiffers => REFUSED,
             Fault::WrongNumbers | Fault::WrongRunNumbers | Fault::Overwrites(_) => WRONG_WORDS,
             Fault::Memory => NO_MEMORY,
@@ -188,10 +181,7 @@ impl fmt::Display for Fault<'_> {
                 write!(f, "{file} is read, so that no journal is written to it")
             }
             Fault::Output | Fault::JournalUnwritten(..) => f.write_str("output fault"),
-            Fault::LogNotEmpty(file) => write!(f, "{file} is not empty"),
-            Fault::LogOfAnother(file) => write!(f, "{file} is of another domain"),
-            Fault::LogInUse(file) => write!(f, "{file} is in use"),
-            Fault::LogFull(file) => write!(f, "{file} full"),
+            Fault::Log(file, refusal) => write!(f, "{file} {refusal}"),
             Fault::ReportDiffers => f.write_str("report differs"),
             Fault::Memory => f.write_str("memory"),
         }

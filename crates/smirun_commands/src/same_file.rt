@@ -35,6 +35,14 @@ fn has_both<R: Files>(rt: &R, path: &str, other: &str) -> bool {
     }
 }
 
+/// Whether a path is that of a file of which the system told this, as a link may be. No memory is taken.
+pub fn is_file_of<R: Files>(rt: &R, known: &Metadata, path: &str) -> bool {
+    match fs::metadata(rt, path) {
+        Ok(found) => are_of_one(known, &found),
+        Err(_) => false,
+    }
+}
+
 // Whether what the system tells is of one file. (Where the system numbers none, the number is 0.)
 fn are_of_one(one: &Metadata, other: &Metadata) -> bool {
     one.ino() != 0 && one.ino() == other.ino() && one.dev() == other.dev()

@@ -8,12 +8,14 @@ use crate::host::LiveHost;
 use crate::in_turn::InTurn;
 use crate::inbox::{Inbox, read_all};
 use crate::lines::Lines;
-use crate::log::{LogFile, NoLog};
+use crate::log::NoLog;
 use crate::observer::LiveNotes;
+use crate::open_log::OpenLog;
 use crate::options::LiveOptions;
 use crate::preparing::{Prepared, prepare};
-use crate::resume::{OpenLog, open_log};
+use crate::resume::open_log;
 use crate::running::{run_manager, tell_remains};
+use crate::wanted_log::WantedLog;
 use smi_live::Manager;
 use smirun_commands::{Advice, Fault, is_one_read};
 use sml_text::put;
@@ -141,7 +143,7 @@ fn begin<'a, R: LiveHost, W: Write>(
     advice: &mut Advice,
 ) -> Result<Begun<'a>, Fault<'a>> {
     match prepare(rt, options, advice) {
-        Ok(prepared) => begin_log(rt, options, prepared, output),
+        Ok(prepared) => begin_log(rt, options, prepared, output, advice),
         Err(fault) => Err(fault),
     }
 }
@@ -152,6 +154,7 @@ fn begin_log<'a, R: LiveHost, W: Write>(
     options: &LiveOptions<'a>,
     prepared: Prepared<'a>,
     output: &mut W,
+    advice: &mut Advice,
 ) -> Result<Begun<'a>, Fault<'a>>
     requires { prepared.core.world ≡ opening prepared.core.setup }
 {
@@ -160,7 +163,7 @@ fn begin_log<'a, R: LiveHost, W: Write>(
         return Err(Fault::Memory);
     };
     let mut told = Vec::new(rt.alloc());
-    match open_wanted(rt, options, &mut manager, &first, &mut told) {
+    match open_wanted(rt, options, &mut manager, first, &mut told, advice) {
         Ok(log) if put(output, &told).is_ok() => {
             let lines = match &log {
                 Some(log) => log.lines,
@@ -179,13 +182,21 @@ fn open_wanted<'a, R: LiveHost>(
     rt: &R,
     options: &LiveOptions<'a>,
     manager: &mut Manager<LiveNotes<'a>>,
-    first: &[u8],
+    first: Vec<u8>,
     told: &mut Vec<u8>,
+    advice: &mut Advice,
 ) -> Result<Option<OpenLog>, Fault<'a>> {
     let Some(path) = options.log else {
         return Ok(None);
     };
-    match open_log(rt, rt.alloc(), options, path, manager, first, told) {
+    let wanted = WantedLog {
+        path,
+        first,
+        resume: options.resume,
+        sync: options.sync,
+        max_starts: options.max_starts,
+    };
+    match open_log(rt, &wanted, manager, told, advice) {
         Ok(log) => Ok(Some(log)),
         Err(fault) => Err(fault),
     }
@@ -202,8 +213,8 @@ fn run_begun<'a, F: Lines, W: Write>(
     let Begun { mut manager, log } = begun;
     let path = options.log.unwrap_or("");
     let ran = match log {
-        Some(OpenLog { file, size, .. }) => {
-            let mut kept = LogFile::new(alloc, file, size);
+        Some(log) => {
+            let mut kept = log.into_file(options.sync);
             run_manager(alloc, path, &mut manager, feed, &mut kept, output)
         }
         None => run_manager(alloc, path, &mut manager, feed, &mut NoLog, output),

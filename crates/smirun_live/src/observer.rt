@@ -27,8 +27,6 @@ pub struct LiveNotes<'a> {
     starts: usize,
     max_starts: usize,
     is_limit_told: bool,
-    // Whether a start was refused, as one is that the manager did not make.
-    pub(crate) is_start_refused: bool,
     // Whether it is explained why a line was refused, from when lines are made as they come, and what is still to be
     // told about that.
     wants_why: bool,
@@ -57,7 +55,6 @@ impl<'a> LiveNotes<'a> {
             starts: 0,
             max_starts,
             is_limit_told: false,
-            is_start_refused: false,
             wants_why,
             explain: false,
             why: Vec::new(alloc),
@@ -147,9 +144,6 @@ impl Lookout for LiveNotes<'_> {
         let Err(error) = answer else {
             return;
         };
-        if let Step::Start(_) = step {
-            self.is_start_refused = true;
-        }
         if self.explain {
             let line = told(self.log, taken);
             explain_refused(

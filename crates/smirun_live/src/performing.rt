@@ -1,6 +1,7 @@
 //! The lines of a log, which are made again.
-ghost use Rattle.std.specs.Prelude.{◌≡◌, ◌++◌, ◌∷◌, IfNone, IfSome, List, OnOk, ℕ};
+ghost use Rattle.std.specs.Prelude.{◌≡◌, ◌<◌, ◌++◌, ◌∷◌, Err, IfNone, IfSome, List, OnOk, true, ℕ};
 ghost use Rattle.smi_core.specs.Output.{LineWrites};
+ghost use Rattle.smi_live_once.specs.Forms.{is_reserved};
 ghost use Rattle.smi_live_once.specs.Making.{KeeperWrites};
 ghost use Rattle.smi_live.specs.Logs.{LogOutputs};
 ghost use Rattle.smi_live.specs.Managing.{keeper_of};
@@ -9,6 +10,7 @@ ghost use Rattle.smirun_live.specs.Reading.{HasNoFeed};
 use crate::line_reader::bytes_before_feed;
 use crate::observer::LiveNotes;
 use smi_live::{Made, Manager};
+use smi_live_once::is_reserved_line;
 use smirun_commands::Fault;
 use std::alloc::Global;
 
@@ -25,7 +27,14 @@ fn split_line(text: &[u8]) -> Option<(&[u8], &[u8])>
     None
 }
 
-// Makes a line of a log again, which is that of a number.
+// Whether a line may not come from outside, or has a byte that no line has.
+fn has_other_byte(line: &[u8]) -> bool
+    ensures { is_reserved line.now ≡ true → result ≡ true }
+{
+    is_reserved_line(line) || !line.is_ascii()
+}
+
+// Makes a line of a log again, which is that of a number. Only the first may be one that begins as a first line.
 fn perform_line<'a>(
     path: &'a str,
     manager: &mut Manager<LiveNotes<'a>>,
@@ -33,9 +42,13 @@ fn perform_line<'a>(
     line: &[u8],
     number: u64,
 ) -> Result<(), Fault<'a>>
-    ensures { OnOk result (KeeperWrites LineWrites (keeper_of manager.old) line.now made.new.text.items
+    ensures made { OnOk result (KeeperWrites LineWrites (keeper_of manager.old) line.now made.new.text.items
         (keeper_of manager.new)) }
+    ensures reserved { is_reserved line.now ≡ true → 1 < number → result ≡ Err (Fault.BadLine path.entry number) }
 {
+    if number > 1 && has_other_byte(line) {
+        return Err(Fault::BadLine(path, number));
+    }
     match manager.make_again(line, made) {
         Ok(true) => Ok(()),
         Ok(false) => Err(Fault::BadLine(path, number)),
@@ -43,8 +56,9 @@ fn perform_line<'a>(
     }
 }
 
-// Makes the lines of a log again.
-fn perform_lines<'a>(
+/// Makes the lines of a log again, in silence. The faults are `BadLine` at the first line that no manager would have
+/// written there, and out of memory.
+pub(crate) fn perform<'a>(
     alloc: Global,
     path: &'a str,
     manager: &mut Manager<LiveNotes<'a>>,
@@ -64,22 +78,4 @@ fn perform_lines<'a>(
         number = number.saturating_add(1);
     }
     perform_line(path, manager, &mut made, rest, number)
-}
-
-/// Makes the lines of a log again, in silence. The faults are `BadLine` at a line that no manager would have written,
-/// `LogOfAnother` where a start of its own is refused, and out of memory.
-pub(crate) fn perform<'a>(
-    alloc: Global,
-    path: &'a str,
-    manager: &mut Manager<LiveNotes<'a>>,
-    text: &[u8],
-) -> Result<(), Fault<'a>>
-    ensures { OnOk result ((out : List ℕ) × LogOutputs (keeper_of manager.old) text.now out (keeper_of manager.new)) }
-{
-    match perform_lines(alloc, path, manager, text) {
-        // A manager's own start is only refused if the limit of starts is lower than it was.
-        Ok(()) if manager.observer().is_start_refused => Err(Fault::LogOfAnother(path)),
-        Ok(()) => Ok(()),
-        Err(fault) => Err(fault),
-    }
 }

@@ -1,135 +1,105 @@
-//! The file of a log: how it is begun, and how a manager continues after it.
+//! How a manager continues after the log that it is given.
 ghost use Rattle.std.specs.Prelude.{ℕ, List, OnOk};
 ghost use Rattle.smi_live.specs.Logs.{LogOutputs};
 ghost use Rattle.smi_live.specs.Managing.{keeper_of};
 
-use crate::log_lines::{is_of, lines_in, whole_lines};
+use crate::host::LiveHost;
+use crate::log_lines::{first_line_refusal, lines_in, starts_in, whole_lines};
 use crate::observer::LiveNotes;
-use crate::options::LiveOptions;
+use crate::open_log::{OpenLog, begin, begin_new, open_locked, settle, unwritten};
 use crate::performing::perform;
+use crate::wanted_log::WantedLog;
 use smi_core::LONGEST_SCHEDULE;
 use smi_journal::{Entry, tell_lines};
 use smi_live::Manager;
-use smirun_commands::Fault;
+use smirun_commands::{Advice, Fault, LogRefusal};
 use sml_domain::ObjId;
 use std::alloc::{AllocError, Global};
-use std::fs::{File, Files, OpenOptions, TryLockError};
+use std::fs::File;
 use std::io;
-use std::io::{ErrorKind, Read, Write};
+use std::io::Read;
 
-/// A log that is open, and locked.
-#[derive(Drop)]
-pub(crate) struct OpenLog {
-    pub(crate) file: File,
-    // How many bytes it has, and how many lines these are.
-    pub(crate) size: usize,
-    pub(crate) lines: usize,
-}
-
-/// Opens the log of this path, and begins it, or makes again what it holds. What is to be written about that goes into
-/// `told`.
-pub(crate) fn open_log<'a, R: Files<File = File>>(
+/// Opens a log, and begins it, or makes again what it holds. What is to be written about that goes into `told`, and the
+/// advice on a log that is refused to `advice`.
+pub(crate) fn open_log<'a, R: LiveHost>(
     rt: &R,
-    alloc: Global,
-    options: &LiveOptions<'a>,
-    path: &'a str,
+    wanted: &WantedLog<'a>,
     manager: &mut Manager<LiveNotes<'a>>,
-    first: &[u8],
     told: &mut Vec<u8>,
+    advice: &mut Advice,
 ) -> Result<OpenLog, Fault<'a>> {
-    match open_locked(rt, path, options.resume) {
-        Ok(file) if options.resume => resume(alloc, path, file, manager, first, told),
-        Ok(file) => begin_new(path, file, first),
+    let opened = match open_locked(rt, wanted) {
+        Ok(file) if wanted.resume => resume(rt.alloc(), wanted, file, manager, told, advice),
+        Ok(file) => begin_new(wanted, file),
         Err(fault) => Err(fault),
-    }
-}
-
-// Opens the file of a log, to read it and to write after it, and locks it. It is made only if nothing is resumed.
-fn open_locked<'a, R: Files<File = File>>(
-    rt: &R,
-    path: &'a str,
-    resume: bool,
-) -> Result<File, Fault<'a>> {
-    let mut how = OpenOptions::new();
-    how.read(true).append(true).create(!resume);
-    let file = match how.open(rt, path) {
-        Ok(file) => file,
-        Err(error) if resume => return Err(Fault::of_input(path, &error)),
-        Err(error) => return Err(Fault::JournalUnwritten(path, Some(error))),
     };
-    match file.try_lock() {
-        Ok(()) => Ok(file),
-        Err(TryLockError::WouldBlock) => Err(Fault::LogInUse(path)),
-        Err(TryLockError::Error(error)) => Err(Fault::JournalUnwritten(path, Some(error))),
+    let settled = match opened {
+        Ok(log) => settle(rt, wanted, log),
+        Err(fault) => Err(fault),
+    };
+    if let Err(Fault::Log(_, refusal)) = &settled {
+        advice.of_refused_log(wanted.path, *refusal);
     }
-}
-
-// Begins a log that is not resumed.
-fn begin_new<'a>(path: &'a str, file: File, first: &[u8]) -> Result<OpenLog, Fault<'a>> {
-    match file.metadata() {
-        Ok(known) if known.len() == 0 => begin(path, file, first),
-        Ok(_) => Err(Fault::LogNotEmpty(path)),
-        Err(error) => Err(Fault::JournalUnwritten(path, Some(error))),
-    }
-}
-
-// Writes the first line of a log to its file, which is empty.
-fn begin<'a>(path: &'a str, mut file: File, first: &[u8]) -> Result<OpenLog, Fault<'a>> {
-    match write_line(&mut file, first) {
-        Ok(()) => Ok(OpenLog {
-            file,
-            size: first.len() + 1,
-            lines: 1,
-        }),
-        Err(error) => Err(Fault::JournalUnwritten(path, Some(error))),
-    }
-}
-
-// Writes a line.
-fn write_line<W: Write>(file: &mut W, line: &[u8]) -> io::Result<()> {
-    file.write_all(line)?;
-    file.write_all(b"\n")
+    settled
 }
 
 // Makes again what a log holds.
 fn resume<'a>(
     alloc: Global,
-    path: &'a str,
+    wanted: &WantedLog<'a>,
     mut file: File,
     manager: &mut Manager<LiveNotes<'a>>,
-    first: &[u8],
     told: &mut Vec<u8>,
+    advice: &mut Advice,
 ) -> Result<OpenLog, Fault<'a>> {
-    match read_log(alloc, path, &mut file) {
-        Ok(text) => resume_text(alloc, path, file, &text, manager, first, told),
+    match read_log(alloc, wanted.path, &mut file) {
+        Ok(text) => {
+            let resumed = resume_text(alloc, wanted, file, &text, manager, told);
+            if let Err(Fault::BadLine(_, number)) = &resumed {
+                advice.of_bad_log(wanted.path, &text, *number);
+            }
+            resumed
+        }
         Err(fault) => Err(fault),
     }
 }
 
-// Makes again what a log holds, whose text was read. A torn line at its end is cut off; of a torn first line nothing is
-// left.
+// Why a log, whose whole lines are these, is refused before they are made again: by its first line, and then by its
+// starts.
+fn refusal_of(wanted: &WantedLog<'_>, text: &[u8], whole: &[u8]) -> Option<LogRefusal> {
+    if let Some(refusal) = first_line_refusal(text, whole.len(), &wanted.first) {
+        return Some(refusal);
+    }
+    let starts = starts_in(whole);
+    if starts > wanted.max_starts {
+        return Some(LogRefusal::Starts(starts as u64));
+    }
+    None
+}
+
+// Makes again what a log holds, whose text was read. A torn line at its end is cut off when all else was looked at; of
+// a torn first line nothing is left.
 fn resume_text<'a>(
     alloc: Global,
-    path: &'a str,
+    wanted: &WantedLog<'a>,
     file: File,
     text: &[u8],
     manager: &mut Manager<LiveNotes<'a>>,
-    first: &[u8],
     told: &mut Vec<u8>,
 ) -> Result<OpenLog, Fault<'a>> {
     let size = whole_lines(text);
-    if !is_of(text, size, first) {
-        return Err(Fault::LogOfAnother(path));
-    }
-    if let Err(error) = cut_off(&file, text.len(), size) {
-        return Err(Fault::JournalUnwritten(path, Some(error)));
-    }
     let whole = text.split_at(size).0;
-    if let Err(fault) = make_again(alloc, path, whole, manager, told) {
+    if let Some(refusal) = refusal_of(wanted, text, whole) {
+        return Err(Fault::Log(wanted.path, refusal));
+    }
+    if let Err(fault) = make_again(alloc, wanted.path, whole, manager, told) {
         return Err(fault);
     }
+    if let Err(error) = cut_off(&file, text.len(), size) {
+        return Err(unwritten(wanted.path, error));
+    }
     if size == 0 {
-        return begin(path, file, first);
+        return begin(wanted, file);
     }
     let lines = lines_in(whole);
     Ok(OpenLog { file, size, lines })

@@ -330,6 +330,7 @@ fn manager_to_run<'a>(live: &ArgMatches<'a>, terminals: Terminals) -> Option<Ask
         file: live.get_str("FILE")?,
         log: live.get_str("log"),
         resume: live.get_flag("resume"),
+        sync: live.get_flag("sync"),
         in_turn: live.get_flag("in-turn"),
         capacity: live.get_one::<usize>("capacity")?,
         max_starts: live.get_one::<usize>("max-starts")?,

@@ -9,7 +9,7 @@ use crate::terminals::Terminals;
 use crate::traced::STANDARD_OUTPUT;
 use clap::error::ErrorKind;
 use smirun_commands::{DONE, Fault, WRONG_WORDS, tell_cause};
-use smirun_live::LiveHost;
+use smirun_live::{Aside, LiveHost, LiveOptions};
 use smirun_run::Host;
 use std::env::Env;
 use std::io::{IsTerminal, Read, Write};
@@ -21,27 +21,55 @@ use std::io::{IsTerminal, Read, Write};
 /// exit statuses") and what is wrong with a command line go to `errors`. A fault of `errors` changes nothing,
 /// since there is no place left to tell it.
 ///
-/// Standard input is `input`. If a manager is to take lines as they come, another thread reads it. What is said to a
-/// person depends on which of `output` and `errors` are terminals, and on the variable `NO_COLOR` ([`Terminals`]).
+/// Standard input is `input`. If a manager is to take lines as they come, another thread reads it, and a third one
+/// writes to `errors`, so that whoever does not read that never holds the manager up. What is said to a person depends
+/// on which of `output` and `errors` are terminals, and on the variable `NO_COLOR` ([`Terminals`]).
 pub fn drive<
     R: Host + LiveHost + Env + 'static,
     I: Read + Send + Drop + 'static,
     W: Write + IsTerminal,
-    E: Write + IsTerminal,
+    E: Write + IsTerminal + Copy + Send + Drop + 'static,
 >(rt: &R, words: &[String], mut input: I, output: &mut W, errors: &mut E) -> u8
     ensures { result ≤ 4 }
 {
     let terminals = Terminals::of(rt, output, errors);
-    let mut errors = Coloured::new(rt.alloc(), errors, terminals.colours);
+    let mut coloured = Coloured::new(rt.alloc(), &mut *errors, terminals.colours);
     match parse(rt.alloc(), words, terminals) {
         Ok(asked) => match &asked.command {
             AskedCommand::Live(options) if !options.in_turn => {
-                perform_live(rt, options, input, output, &mut errors)
+                drop(coloured);
+                manage(rt, options, input, output, errors, terminals)
             }
-            _ => perform(rt, &asked, &mut input, output, &mut errors),
+            _ => perform(rt, &asked, &mut input, output, &mut coloured),
         },
-        Err(error) => answer(&error, output, &mut errors),
+        Err(error) => answer(&error, output, &mut coloured),
     }
+}
+
+// Runs a manager that takes lines as they come. What it tells beside the output never holds it up.
+fn manage<
+    R: Host + LiveHost + 'static,
+    I: Read + Send + Drop + 'static,
+    W: Write,
+    E: Write + Copy + Send + Drop + 'static,
+>(
+    rt: &R,
+    options: &LiveOptions<'_>,
+    input: I,
+    output: &mut W,
+    errors: &mut E,
+    terminals: Terminals,
+) -> u8
+    ensures { result ≤ 4 }
+{
+    let Ok(mut aside) = Aside::start(*rt, rt.alloc(), *errors) else {
+        return Fault::Memory.tell(errors);
+    };
+    let mut coloured = Coloured::new(rt.alloc(), &mut aside, terminals.colours);
+    let status = perform_live(rt, options, input, output, &mut coloured);
+    drop(coloured);
+    aside.finish();
+    status
 }
 
 /// As [`drive`], with another reader in place of standard input, and with what `terminals` says of `output` and

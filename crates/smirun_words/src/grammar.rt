@@ -12,7 +12,9 @@ use crate::help::graph::{
 };
 use crate::help::lint::{ALL, LINT, LINT_EXAMPLES, LINT_MORE, LINT_STRICT, LINTED, WHY_SENSELESS};
 use crate::help::list::{LIST, LIST_EXAMPLES, LIST_MORE};
-use crate::help::live::{IN_TURN, KEPT_LOG, LIVE, LIVE_EXAMPLES, LIVE_FILE, LIVE_MORE, RESUME};
+use crate::help::live::{
+    IN_TURN, KEPT_LOG, LIVE, LIVE_EXAMPLES, LIVE_FILE, LIVE_MORE, RESUME, SYNC,
+};
 use crate::help::page::{PAGE, PAGE_EXAMPLES, PAGE_MORE, SHOWN_JOURNAL};
 use crate::help::print::{COMPARE, KEEP, PRINT, PRINT_EXAMPLES, PRINT_MORE, WHY_DIFFERS};
 use crate::help::run::{
@@ -196,6 +198,7 @@ fn live_command<'a>(maker: Maker) -> Result<Command<'a>, AllocError> {
     let command = with_argument(command, Ok(maker.required("FILE", LIVE_FILE)));
     let command = with_argument(command, Ok(maker.option("log", "PATH", KEPT_LOG)));
     let command = with_argument(command, maker.flag("resume", RESUME).requires_arg("log"));
+    let command = with_argument(command, maker.flag("sync", SYNC).requires_arg("log"));
     let command = with_argument(command, Ok(maker.flag("in-turn", IN_TURN)));
     let command = with_argument(command, Ok(capacity(maker)));
     let command = with_argument(command, Ok(max_starts(maker)));

@@ -43,7 +43,7 @@ _smirun() {
             numbers="--workers --capacity --max-starts"
             ;;
         live)
-            options="--log --resume --in-turn --capacity --max-starts --explain --no-explain --help"
+            options="--log --resume --sync --in-turn --capacity --max-starts --explain --no-explain --help"
             numbers="--capacity --max-starts"
             ;;
         audit)

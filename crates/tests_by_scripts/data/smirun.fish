@@ -75,6 +75,7 @@ complete -c smirun -n '__fish_seen_subcommand_from run' -l json -d 'Write each l
 complete -c smirun -n '__fish_seen_subcommand_from run' -s h -l help -d 'Print help (see more with \'--help\')'
 complete -c smirun -n '__fish_seen_subcommand_from live' -l log -r -F -d 'Write each line that is made to this file'
 complete -c smirun -n '__fish_seen_subcommand_from live' -l resume -d 'Make the lines of the log again first, and go on'
+complete -c smirun -n '__fish_seen_subcommand_from live' -l sync -d 'Put each line on the disk before it is told'
 complete -c smirun -n '__fish_seen_subcommand_from live' -l in-turn -d 'Take a line only when nothing else is left to do'
 complete -c smirun -n '__fish_seen_subcommand_from live' -l capacity -x -d 'How many requests wait at an object at most'
 complete -c smirun -n '__fish_seen_subcommand_from live' -l max-starts -x -d 'How many actions are started at most'

@@ -1,5 +1,6 @@
 //! The lines of a script: their first byte tells what they do.
 
+use crate::arriving::call_arriving;
 use crate::calls::{
     ask, call, call_at_terminal, call_cut_off, call_in_vain, call_with_no_memory, tell_no_words,
 };
@@ -16,7 +17,11 @@ use std::os::unix::fs::symlink;
 use std::{fs, io, str};
 
 /// Does what a line says.
-pub fn perform<R: Host + LiveHost>(rt: &R, line: &str, place: &mut Place) -> io::Result<()> {
+pub fn perform<R: Host + LiveHost + 'static>(
+    rt: &R,
+    line: &str,
+    place: &mut Place,
+) -> io::Result<()> {
     let (mark, rest) = line.split_once(' ').unwrap_or((line, ""));
     match mark {
         // adds the rest to the text at hand, as a line
@@ -52,7 +57,7 @@ fn tell_part(part: &str, place: &mut Place) -> Result<(), AllocError> {
 }
 
 // Does something with a file, or with what a command line told of help.
-fn handle<R: Host + LiveHost>(rt: &R, line: &str, place: &mut Place) -> io::Result<()> {
+fn handle<R: Host + LiveHost + 'static>(rt: &R, line: &str, place: &mut Place) -> io::Result<()> {
     let (verb, rest) = line.split_once(' ').unwrap_or((line, ""));
     match verb {
         // writes the text at hand as a file
@@ -76,6 +81,9 @@ fn handle<R: Host + LiveHost>(rt: &R, line: &str, place: &mut Place) -> io::Resu
         "fits" => tell_fit(rest, place),
         // performs a command line as where both outputs are a terminal
         "terminal" => Ok(call_at_terminal(rt, rest, true, place)?),
+        // runs a manager whose lines another thread reads, up to their end or to a fault: FILE LOG
+        "arriving" => call_arriving(rt, rest, false, place),
+        "failing" => call_arriving(rt, rest, true, place),
         // performs a command line as where standard error alone is a terminal
         "piped" => Ok(call_at_terminal(rt, rest, false, place)?),
         // tells what the program says if the words of a command line cannot be read

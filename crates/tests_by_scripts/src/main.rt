@@ -2,6 +2,7 @@
 #![tactic(auto)]
 
 mod acts;
+mod arriving;
 mod bytes;
 mod calls;
 mod explained;
@@ -27,7 +28,7 @@ fn main(rt: HostRuntime) -> io::Result<()> {
 }
 
 // Performs the scripts that words name, behind the first word.
-fn perform_scripts<R: Host + LiveHost, W: Write>(
+fn perform_scripts<R: Host + LiveHost + 'static, W: Write>(
     rt: &R,
     words: &[String],
     place: &mut Place,
@@ -40,7 +41,7 @@ fn perform_scripts<R: Host + LiveHost, W: Write>(
 }
 
 // Performs a script, and tells what was found of it.
-fn perform_script<R: Host + LiveHost, W: Write>(
+fn perform_script<R: Host + LiveHost + 'static, W: Write>(
     rt: &R,
     name: &str,
     place: &mut Place,
@@ -53,7 +54,7 @@ fn perform_script<R: Host + LiveHost, W: Write>(
     }
 }
 
-fn perform_file<R: Host + LiveHost>(
+fn perform_file<R: Host + LiveHost + 'static>(
     rt: &R,
     name: &str,
     place: &mut Place,

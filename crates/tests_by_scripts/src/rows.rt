@@ -71,13 +71,17 @@ impl Found {
 }
 
 // Does what a line says, in which bytes may be written by their numbers.
-fn perform_escaped<R: Host + LiveHost>(rt: &R, line: &str, place: &mut Place) -> io::Result<()> {
+fn perform_escaped<R: Host + LiveHost + 'static>(
+    rt: &R,
+    line: &str,
+    place: &mut Place,
+) -> io::Result<()> {
     let text = unescape(rt.alloc(), line)?;
     perform(rt, text.as_str(), place)
 }
 
 // Does what a line says, and looks whether it tells what it must.
-fn perform_line<R: Host + LiveHost>(
+fn perform_line<R: Host + LiveHost + 'static>(
     rt: &R,
     line: Line<'_>,
     place: &mut Place,
@@ -91,7 +95,7 @@ fn perform_line<R: Host + LiveHost>(
 }
 
 /// Performs a script line by line. What a line must tell follows it, in lines that begin with two blanks.
-pub fn perform_rows<R: Host + LiveHost>(
+pub fn perform_rows<R: Host + LiveHost + 'static>(
     rt: &R,
     script: &str,
     place: &mut Place,

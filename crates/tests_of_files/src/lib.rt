@@ -1,6 +1,6 @@
-//! Tests of files: their texts, trees, faults and domains. Tests of the other texts beside a domain: scripts, with their
-//! sessions and devices; schedules in a core, whole and cut short; journals that are changed line by line, with what the
-//! judge says of them and how it is explained. (More texts are rows of `tests_by_scripts`.)
+//! Tests of files: their texts, trees, faults and domains. Tests of the other texts beside a domain: scripts, with
+//! their sessions and devices; schedules in a core, whole and cut short; journals that are changed line by line, with
+//! what the judge says of them and how it is explained. (More texts are rows of `tests_by_scripts`.)
 #![tactic(auto)]
 
 #[cfg(test)]

@@ -1,6 +1,6 @@
-//! Requests, journals with their books, and mails. Tasks, walked by hand, actions that are followed, and boards, call by
-//! call. What is never reached: the states in which objects of small domains may be, and the instructions to which their
-//! actions come.
+//! Requests, journals with their books, and mails. Tasks, walked by hand, actions that are followed, and boards, call
+//! by call. What is never reached: the states in which objects of small domains may be, and the instructions to which
+//! their actions come.
 #![tactic(auto)]
 
 #[cfg(test)]

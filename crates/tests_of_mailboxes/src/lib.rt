@@ -1,5 +1,5 @@
-//! Mailboxes that threads share, alone and under a board. Hostile use: texts that are cut or changed at every place, heaps
-//! of every size, kills at every step, and a run that is refused memory.
+//! Mailboxes that threads share, alone and under a board. Hostile use: texts that are cut or changed at every place,
+//! heaps of every size, kills at every step, and a run that is refused memory.
 #![tactic(auto)]
 
 #[cfg(test)]

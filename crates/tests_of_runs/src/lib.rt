@@ -1,5 +1,5 @@
-//! Runs in threads, and a runtime call by call. A live manager over a feed whose lines come when a test says so: what it
-//! logs and writes, in which order, and where it is stopped.
+//! Runs in threads, and a runtime call by call. A live manager over a feed whose lines come when a test says so: what
+//! it logs and writes, in which order, and where it is stopped.
 #![tactic(auto)]
 
 #[cfg(test)]

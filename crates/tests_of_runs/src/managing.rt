@@ -5,10 +5,11 @@ ghost use Rattle.smi_world.specs.World.{opening};
 use crate::feed::{Come, ToldFeed};
 use smi_core::{Answer, Core, Lookout, Step, StepError, Taken};
 use smi_journal_entries::Entry;
-use smi_live::{LiveFault, Machine, Made, Manager, Observer, live};
+use smi_live::{LiveFault, Log, Machine, Made, Manager, Observer, live};
 use smi_live_accounts::Accounts;
 use sml_text::Sink;
 use std::alloc::{AllocError, Global};
+use std::io::Write;
 
 /// An observer that only says that it was asked.
 #[derive(Drop)]
@@ -65,6 +66,24 @@ pub(crate) fn manager_of(alloc: Global, limits: Limits<'_>) -> Option<Manager<As
     }
 }
 
+// A log that is written to a writer.
+#[derive(Drop)]
+struct WrittenLog<'a, L> {
+    to: &'a mut L,
+}
+
+impl<L: Write> Log for WrittenLog<'_, L> {
+    ghost use Rattle.std.specs.Prelude.{None};
+
+    ghost stands = { λ _. None };
+
+    ghost has_refused = { λ _. Unit {0} };
+
+    fn keep(&mut self, lines: &[u8]) -> bool {
+        self.to.write_all(lines).is_ok()
+    }
+}
+
 /// How a manager ended, and which remarks its feed got.
 #[derive(Drop)]
 pub(crate) struct Managed {
@@ -72,8 +91,8 @@ pub(crate) struct Managed {
     pub(crate) told: Vec<u8>,
 }
 
-/// Runs a manager over lines.
-pub(crate) fn manage<L: Sink, W: Sink>(
+/// Runs a manager over lines, whose log is written to `log`.
+pub(crate) fn manage<L: Write, W: Sink>(
     alloc: Global,
     limits: Limits<'_>,
     lines: &[Come<'_>],
@@ -83,7 +102,8 @@ pub(crate) fn manage<L: Sink, W: Sink>(
 ) -> Option<Managed> {
     let mut manager = manager_of(alloc, limits)?;
     let mut feed = ToldFeed::new(alloc, lines, fails);
-    let ended = live(alloc, &mut manager, &mut feed, log, output);
+    let mut log = WrittenLog { to: log };
+    let ended = live(alloc, &mut manager, &mut feed, &mut log, output);
     let ToldFeed { told, .. } = feed;
     Some(Managed { ended, told })
 }

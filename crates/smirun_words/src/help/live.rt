@@ -20,6 +20,11 @@ pub const RESUME: ArgumentHelp = ArgumentHelp {
     full: "Makes the lines of the log again first, and goes on after them",
 };
 
+pub const SYNC: ArgumentHelp = ArgumentHelp {
+    short: "Put each line on the disk before it is told",
+    full: "Puts each line of the log on the disk before what it writes is written, so that no power cut loses it",
+};
+
 pub const IN_TURN: ArgumentHelp = ArgumentHelp {
     short: "Take a line only when nothing else is left to do",
     full: "Takes a line only when nothing else is left to do, so that the same lines give the same output",
@@ -53,9 +58,11 @@ stands in the log: so a driver can leave remarks there.
 
 What goes out is what `smirun step` writes for the lines that are made, those of others and the manager's own, in
 their order: `accept`, `start`, `set`, `post`, `empty`, `insert`, `remove`, `wait`, `seen`, `end`, `kill` and
-`refused`; `smirun step --help` has them all. What one line writes goes out in one write, before the next is made.
-By turns the manager makes one step of its own, if one can be made, and takes one line, if one has come; it waits
-for a line only when nothing else is left to do. So a `kill` waits for one step and the lines before it.
+`refused`; `smirun step --help` has them all. By turns the manager makes one step of its own, if one can be made,
+and takes one line, if one has come; what a turn writes goes out in one write, before the next turn. It waits for a
+line only when nothing else is left to do. So a `kill` waits for the lines before it, and one step for each of them,
+and one more. A question waits as a line does; where an action that no device performs is open, its answer takes a
+walk over all that was done, some two seconds for a million entries, and nothing else is done meanwhile.
 
 A driver must read what the manager writes at all times, in the background of a script: one that writes and does
 not read fills both pipes, and then it and the manager wait for one another for ever. It waits for the `start`
@@ -94,14 +101,18 @@ that names the domain and the capacity, each line that came, as it came, and eac
 manager. In place of one that is `refused BadLine` for its form stands the line `refused BadLine`. PATH is a
 schedule: `smirun step FILE PATH` writes what the manager wrote but for its `once` lines, with `--journal` its
 journal too, and with `--states` how all stands, also while the manager runs. It needs the same `--capacity`. A
-log has 16777216 bytes at most; then the manager ends. PATH is not there before, or empty, and no other manager
-has it.
+log has 16777216 bytes at most; then the manager ends. PATH is a regular file, is not there before, or empty, and
+no other manager has it. Never move or cut the log of a manager that runs: it writes on into what it opened.
+
+What the log has survives any end of the manager. A crash of the machine, or a power cut, may lose the last lines
+that the system had not put on the disk, though they were told: with `--sync` they are on the disk before they are
+told, once a turn, which costs what the disk takes for it.
 
 With `--resume` PATH is there. What it holds is made again in silence, then how all stands is written to standard
 output, and after that once more the `start` line of each action that a device has in hand. Then the manager goes
-on. An empty PATH is begun. A last line that was cut off is taken away. No accepted request is lost, but an
-answer that the log does not have comes once more to be given: so a driver looks first what its device does. FILE
-may have other comments and blanks than before, and nothing else may be changed.
+on. An empty PATH is begun. A last line that was cut off is taken away. No accepted request is lost that the log
+has, but an answer that the log does not have comes once more to be given: so a driver looks first what its device
+does. FILE may have other comments and blanks than before, and nothing else may be changed.
 
 Without `--in-turn` a thread reads standard input, and what comes between which steps depends on when it comes; the
 log has it. With `--in-turn` a line is taken only when nothing else is left to do, for tests, and where the lines are
@@ -113,15 +124,23 @@ error has `FILE limit` once, and nothing starts any more; answers, kills and req
 With `--explain` standard error has why a line was refused: the place as PATH:LINE:COLUMN, by its line in the log,
 one sentence, the line and a caret under the place; where there is no log, - stands for PATH.
 
+Without `--in-turn` the manager never waits for whoever reads standard error: up to 1048576 bytes wait to be read,
+and what has no room is dropped whole. Before the next that has room stands `? not told` for each answer to a
+question that was dropped, and `N bytes not told` for all else.
+
 When the lines end, the manager makes the steps that are left, and ends. Standard error has then the lines `open ..`
 and `waiting ..` of what is not done. Devices that are at work stay so.
 
 What else ends it is told on standard error: the faults of FILE (`smirun step --help` has them);
-`PATH is not empty` without `--resume`; with it `PATH unreadable`, `PATH too long`, `PATH bad line N`, where a
-mark `! once NAME K` is none that a manager wrote, and `PATH is of another domain`, where the first line names
-another domain or capacity, or the log has more starts than `--max-starts`; `PATH is in use`; `PATH full`;
+`PATH is no file`, where it is no regular file, or is standard input, output or error; `PATH is in use`;
+`PATH is not empty` without `--resume`; with it `PATH unreadable`, `PATH too long`, `PATH is of another domain`,
+where the first line names another one, `PATH has capacity C`, which is another one, `PATH has N starts`, more than
+`--max-starts`, and `PATH bad line N`, where no manager would have written that line: a `start` or a `go` that
+cannot be made there, no step but `refused BadLine`, a byte that no manager writes, a second first line, or a mark
+`! once NAME K` that no manager wrote; then the lines before it are a log that can be resumed, and nothing was
+changed. `PATH full`;
 `- unreadable`; `output fault`, also where PATH cannot be made or written (then a second line has PATH and why);
-and `memory`. What the log has by then was told, but for its last line.
+and `memory`. What the log has by then was told, but for the lines of its last turn.
 
 Exit status: 0 the lines ended and all was done that could be; 1 an input was refused, or a file could not be read,
 or the output or the log not be written; 2 a wrong command line; 3 not enough memory.";

@@ -1,7 +1,7 @@
 use Rattle.std.proofs.Common.{length}
 use Rattle.smi_live.specs.Managing.{keeper_of}
 use Rattle.smirun_live.proofs.Again.{GoesOn}
-use Rattle.smirun_live.proofs.performing.perform_lines.Given as goal
+use Rattle.smirun_live.proofs.performing.perform.Given as goal
 
 -- what is still to be made leads on from all that was made
 abbrev pub invariant-loop-line : goal.invariant-loop-line

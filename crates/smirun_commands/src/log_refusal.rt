@@ -1,0 +1,42 @@
+//! Why the log of a live manager is refused.
+ghost use Rattle.std.specs.Prelude.{◌≡◌};
+
+use std::fmt;
+
+/// Why the log of a live manager is refused, or is written no more. Its `Display` stands after the path in the fault
+/// line. (docs/FORMATS.md, "Fault lines and exit statuses".)
+#[derive(Clone, Copy, Debug, PartialEq, Eq)]
+pub enum LogRefusal {
+    /// The log of a manager that begins has something already.
+    NotEmpty,
+    /// It is no log, or that of a manager of another domain.
+    OfAnother,
+    /// It is that of a manager whose mailboxes have this room, which is another one.
+    Capacity(u64),
+    /// It has this many starts, which is more than the manager may make.
+    Starts(u64),
+    /// It is no regular file, or one of the standard streams.
+    NoFile,
+    /// Another manager writes it.
+    InUse,
+    /// With its next lines it would be longer than a schedule may be.
+    Full,
+}
+
+impl fmt::Display for LogRefusal {
+    ghost use Rattle.smirun_commands.specs.Status.{refusal_text};
+
+    ghost output = { refusal_text };
+
+    fn fmt<W: fmt::Write>(&self, f: &mut fmt::Formatter<W>) -> fmt::Result {
+        match self {
+            LogRefusal::NotEmpty => f.write_str("is not empty"),
+            LogRefusal::OfAnother => f.write_str("is of another domain"),
+            LogRefusal::Capacity(capacity) => write!(f, "has capacity {capacity}"),
+            LogRefusal::Starts(starts) => write!(f, "has {starts} starts"),
+            LogRefusal::NoFile => f.write_str("is no file"),
+            LogRefusal::InUse => f.write_str("is in use"),
+            LogRefusal::Full => f.write_str("full"),
+        }
+    }
+}
