@@ -13,6 +13,8 @@ PIECE = 4096
 MOST_WAITING = 65536
 # What has no token: blanks, and a remark after them.
 REMARK = re.compile(rb"[ \t\r]*(?:![\t\r\x20-\x7f]*)?")
+# What a line is told that is not looked at; no request writes it.
+NO_ANSWERS = (b"refused BadLine", b"refused Limit")
 # The mark of a request that is made once, and how one is asked for; both with the digits of its number.
 MARK = re.compile(rb".* ! once [A-Z0-9_]{1,64} (0|[1-9][0-9]{0,19})", re.DOTALL)
 ASKED_ONCE = re.compile(rb"once [A-Z0-9_]{1,64} (0|[1-9][0-9]{0,19}) ")
@@ -71,7 +73,7 @@ def answers(told: bytes, asked: bytes, devices: set[str]) -> bool:
 
       once NAME K ANSWER    answers `once NAME K ..`. Where the request is made, the line `accept ..` or `refused ..`
                             that it writes comes before this one, and is no answer
-      refused BadLine       answers `once NAME K ..` too: no request writes it
+      refused BadLine       answers `once NAME K ..` too: no request writes it. So does `refused Limit`
 
     and where the oldest line asks for nothing once
 
@@ -90,7 +92,7 @@ def answers(told: bytes, asked: bytes, devices: set[str]) -> bool:
     if told.startswith(b"! unanswered "):
         return True
     if front := asked_once(asked):
-        return told == b"refused BadLine" or told.startswith(front) and is_once_answer(told)
+        return told in NO_ANSWERS or told.startswith(front) and is_once_answer(told)
     return is_plain_answer(told, devices)
 
 

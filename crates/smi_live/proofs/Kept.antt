@@ -1,5 +1,5 @@
 -- What is kept of a line from outside is one line, and has no mark unless the manager made it.
-use Rattle.std.proofs.Common.{◌≡◌, sym, refl, subst, ◌&&◌, ℕ, Bool, true, false, List, length, nat_le, Option, Some, None, Result, Ok, Err}
+use Rattle.std.proofs.Common.{◌≡◌, ◌∙◌, sym, refl, subst, ◌&&◌, ℕ, Bool, true, false, List, length, nat_le, Option, Some, None, Result, Ok, Err}
 use Rattle.std.specs.List.{list_all}
 use Rattle.sml_text.specs.Bytes.{no_line_feed, is_ascii}
 use Rattle.smi_world.specs.declared.step.Step.{Step}
@@ -10,7 +10,8 @@ use Rattle.smi_lines.specs.declared.line.TheConstants.{LONGEST_LINE}
 use Rattle.smi_lines.specs.Line.{LineReads, LineAnswers, is_line}
 use Rattle.smi_live_once.specs.Forms.{IsUnmarked}
 use Rattle.smi_live.specs.Keeping.{IsNoRequest, IsSomeRequest}
-use Rattle.smi_live.specs.Managing.{StandsFor, StandsForOnce, line_for_bad}
+use Rattle.smi_live.specs.Limiting.{line_for_bad}
+use Rattle.smi_live.specs.Managing.{StandsFor, StandsForOnce}
 use Rattle.smi_live.proofs.Unmarked.{bad_unmarked}
 
 and_right : (a b : Bool) → a && b ≡ true → b ≡ true
@@ -55,3 +56,15 @@ no_request_stands (step.Kill x k) asked kept not e = e
 -- a request stands for itself
 pub request_stands : (s : Step) (asked kept : List ℕ) → IsSomeRequest s → kept ≡ asked → StandsForOnce (Ok (Some s)) asked kept
 request_stands s asked kept is e = subst (λ t. StandsForOnce (Ok (Some t)) asked kept) (sym is.4) e
+
+-- one line stands for a line from outside
+pub one_kept : (r : Result (Option Step) LineError) (asked l k : List ℕ) → StandsFor r asked l → StandsFor r asked k → l ≡ k
+one_kept (Err line.BadLine) asked l k p q = p ∙ sym q
+one_kept (Err line.Memory) asked l k p q = absurd p
+one_kept (Ok None) asked l k p q = p ∙ sym q
+one_kept (Ok (Some (step.Start x))) asked l k p q = p ∙ sym q
+one_kept (Ok (Some (step.Go x))) asked l k p q = p ∙ sym q
+one_kept (Ok (Some (step.Request i x y args))) asked l k p q = p ∙ sym q
+one_kept (Ok (Some (step.Answer x y))) asked l k p q = p ∙ sym q
+one_kept (Ok (Some (step.Fault x))) asked l k p q = p ∙ sym q
+one_kept (Ok (Some (step.Kill x i))) asked l k p q = p ∙ sym q

@@ -26,7 +26,9 @@ use Rattle.smi_live_once.specs.Making.{Keeper, KeeperDoes, MakesKept}
 use Rattle.smi_live_once.specs.Tables.{OnceTold, verdict_in}
 use Rattle.smi_live_once.proofs.Again.{made_one}
 use Rattle.smi_live_once.proofs.Reading.{one_asked}
-use Rattle.smi_live.specs.Managing.{AllRest, IsAtObject, IsBefore, IsIdleObject, IsMadeAt, IsOwnLine, ManagerView, StandsFor, StandsForOnce, ManagerTakesLine, TakesAsked, TakesLine, TakesNew, TakesOnce, TakesOther, TakesOutside, TakesPlain, TakesTurn, TellsAgain, TellsOnly, first_in, keeper_of, line_for_bad, logged, makes_line}
+use Rattle.smi_live.specs.Limiting.{HasNoStartLeft, HasRoomFor, HasStartsLeft, IsKept, IsUnkept, KeepsOrTells, LacksRoomFor, line_for_bad, logged, room_after}
+use Rattle.smi_live.specs.Managing.{AllRest, IsAtObject, IsBefore, IsIdleObject, IsMadeAt, IsOwnLine, ManagerView, StandsFor, StandsForOnce, ManagerTakesLine, TakesAsked, TakesFirst, TakesLine, TakesNew, TakesOnce, TakesOther, TakesOutside, TakesPlain, TakesRefused, TakesTurn, TellsAgain, TellsOnly, first_in, keeper_of, makes_line}
+use Rattle.smi_live.proofs.Kept.{one_kept}
 use Rattle.smi_live.proofs.Resting.{no_go, no_start}
 
 -- ---- an idle object makes nothing
@@ -105,9 +107,11 @@ one_line_of m w o (step.Answer y z) t a b w2 w3 l k at at2 g h e f = absurd e
 one_line_of m w o (step.Fault y) t a b w2 w3 l k at at2 g h e f = absurd e
 one_line_of m w o (step.Kill y i) t a b w2 w3 l k at at2 g h e f = absurd e
 
-same_manager : (a b : ManagerView) → keeper_of a ≡ keeper_of b → a.turn ≡ b.turn → a ≡ b
-same_manager a b p q =
-    ap (λ (k : Keeper CoreView). record { core = k.core; turn = a.turn; told = k.told }) p ∙ ap (λ t. record { core = b.core; turn = t; told = b.told }) q
+same_manager : (a b : ManagerView) → keeper_of a ≡ keeper_of b → a.turn ≡ b.turn → a.room ≡ b.room → a ≡ b
+same_manager a b p q r =
+    ap (λ (k : Keeper CoreView). record { core = k.core; turn = a.turn; told = k.told; room = a.room }) p
+    ∙ ap (λ t. record { core = b.core; turn = t; told = b.told; room = a.room }) q
+    ∙ ap (λ s. record { core = b.core; turn = b.turn; told = b.told; room = s }) r
 
 -- the two lines of one turn are one
 turn_line : (m : ManagerView) (l k : List ℕ) (m2 m3 : ManagerView) (p : TakesTurn m l m2) (q : TakesTurn m k m3) → p.object ≡ q.object → l ≡ k
@@ -136,7 +140,7 @@ own_one some m l k out out2 m2 m3 a p b q =
     let e = one_object m l k m2 m3 p q (either_first (first_in m) p.object q.object) in
     let line = turn_line m l k m2 m3 p q e in
     let w = does_one some (keeper_of m) p.line l k out out2 (keeper_of m2) (keeper_of m3) p.keeps line a b in
-    (line, w.0, same_manager m2 m3 w.1 (p.next ∙ ap (λ o. o + 1) e ∙ sym q.next))
+    (line, w.0, same_manager m2 m3 w.1 (p.next ∙ ap (λ o. o + 1) e ∙ sym q.next) (p.leaves ∙ ap (room_after m.room) line ∙ sym q.leaves))
 
 -- ---- where all rests, no turn is taken
 
@@ -158,17 +162,6 @@ no_own m l m2 rests p =
 no_want : (r : Result (Option Step) LineError) (asked kept : List ℕ) → StandsFor r asked kept → r ≡ Err line.Memory → ⊥
 no_want r asked kept h e = subst (λ x. StandsFor x asked kept) e h
 
-one_kept : (r : Result (Option Step) LineError) (asked l k : List ℕ) → StandsFor r asked l → StandsFor r asked k → l ≡ k
-one_kept (Err line.BadLine) asked l k p q = p ∙ sym q
-one_kept (Err line.Memory) asked l k p q = absurd p
-one_kept (Ok None) asked l k p q = p ∙ sym q
-one_kept (Ok (Some (step.Start x))) asked l k p q = p ∙ sym q
-one_kept (Ok (Some (step.Go x))) asked l k p q = p ∙ sym q
-one_kept (Ok (Some (step.Request i x y args))) asked l k p q = p ∙ sym q
-one_kept (Ok (Some (step.Answer x y))) asked l k p q = p ∙ sym q
-one_kept (Ok (Some (step.Fault x))) asked l k p q = p ∙ sym q
-one_kept (Ok (Some (step.Kill x i))) asked l k p q = p ∙ sym q
-
 once_kept : (r : Result (Option Step) LineError) (asked l k : List ℕ) → StandsForOnce r asked l → StandsForOnce r asked k → l ≡ k
 once_kept (Err line.BadLine) asked l k p q = p ∙ sym q
 once_kept (Err line.Memory) asked l k p q = absurd p
@@ -182,13 +175,6 @@ once_kept (Ok (Some (step.Kill x i))) asked l k p q = p ∙ sym q
 
 no_want_once : (r : Result (Option Step) LineError) (asked kept : List ℕ) → StandsForOnce r asked kept → r ≡ Err line.Memory → ⊥
 no_want_once r asked kept h e = subst (λ x. StandsForOnce x asked kept) e h
-
-plain_kept : SomeReading → (asked a b : List ℕ) → TakesPlain asked a → TakesPlain asked b → a ≡ b
-plain_kept some asked a b x y =
-    let p = x.taken in
-    let q = y.taken in
-    let read = reads_one some asked q.read p.read (no_want q.read asked y.line q.stands) (no_want p.read asked x.line p.stands) q.reads p.reads in
-    x.keeps ∙ ap logged (one_kept p.read asked x.line y.line p.stands (subst (λ r. StandsFor r asked y.line) read q.stands)) ∙ sym y.keeps
 
 new_kept : SomeReading → (marked a b : List ℕ) → TakesNew marked a → TakesNew marked b → a ≡ b
 new_kept some marked a b x y =
@@ -216,50 +202,103 @@ line_same some k line a b out out2 k2 k3 p q e same =
     let w = does_one some k line a b out out2 k2 k3 e same p q in
     (same, w.0, w.1)
 
-once_one : SomeReading → (v : Verdict) (k : Keeper CoreView) (name : List ℕ) (number : ℕ) (request a b out out2 : List ℕ) (k2 k3 : Keeper CoreView) → KeeperDoes LineWrites k a out k2 → KeeperDoes LineWrites k b out2 k3
-    → TakesOnce v k name number request a out k2 → TakesOnce v k name number request b out2 k3 → IsSame a b out out2 k2 k3
-once_one some once.New k name number request a b out out2 k2 k3 x y p q = line_same some k p.line a b out out2 k2 k3 x y p.keeps (new_kept some (marked_text request name number) a b p q)
-once_one some once.Again k name number request a b out out2 k2 k3 x y p q = again_one k name number a b out out2 k2 k3 p q
-once_one some once.Old k name number request a b out out2 k2 k3 x y p q = only_one k name number _ _ a b out out2 k2 k3 refl p q
-once_one some once.TooMany k name number request a b out out2 k2 k3 x y p q = only_one k name number _ _ a b out out2 k2 k3 refl p q
+-- where nothing is kept, nothing is made
+alone : (k : Keeper CoreView) (kept out : List ℕ) (k2 : Keeper CoreView) → KeeperDoes LineWrites k kept out k2 → kept ≡ [] → k2 ≡ k
+alone k kept out k2 (inl h) e = absurd (some_text h.line kept h.keeps e)
+alone k kept out k2 (inr h) e = h.stays
 
--- a text of a line is kept of what asks for nothing once
-other_line : (asked kept : List ℕ) → TakesOther asked kept → (line : List ℕ) × (kept ≡ logged line)
-other_line asked kept (inl h) = (line_for_bad, h.3)
-other_line asked kept (inr h) = (h.1.line, h.1.keeps)
+told_same : (k : Keeper CoreView) (a b out out2 : List ℕ) (k2 k3 : Keeper CoreView) → KeeperDoes LineWrites k a out k2 → KeeperDoes LineWrites k b out2 k3 → a ≡ [] → b ≡ [] → out ≡ out2 → IsSame a b out out2 k2 k3
+told_same k a b out out2 k2 k3 x y e f t = (e ∙ sym f, t, alone k a out k2 x e ∙ sym (alone k b out2 k3 y f))
 
-other_kept : SomeReading → (asked a b : List ℕ) → TakesOther asked a → TakesOther asked b → a ≡ b
-other_kept some asked a b (inl p) (inl q) = p.3 ∙ sym q.3
-other_kept some asked a b (inl p) (inr q) = absurd (q.0 p.0 p.1 p.2)
-other_kept some asked a b (inr p) (inl q) = absurd (p.0 q.0 q.1 q.2)
-other_kept some asked a b (inr p) (inr q) = plain_kept some asked a b p.1 q.1
+-- a line is kept or not
+too_little : (room : Option ℕ) (line : List ℕ) → HasRoomFor room line → LacksRoomFor room line → ⊥
+too_little None line h g = g
+too_little (Some room) line h g = omega (arith, h, g)
 
-asked_one : SomeReading → (k : Keeper CoreView) (asked a b out out2 : List ℕ) (k2 k3 : Keeper CoreView) → KeeperDoes LineWrites k a out k2 → KeeperDoes LineWrites k b out2 k3 → TakesAsked k asked a out k2 → TakesAsked k asked b out2 k3 → IsSame a b out out2 k2 k3
-asked_one some k asked a b out out2 k2 k3 x y p q =
+request_or_not : (room : Option ℕ) (m : CoreView) (line : List ℕ) → HasRoomFor room line → HasStartsLeft m → LacksRoomFor room line ⊎ HasNoStartLeft m → ⊥
+request_or_not room m line h s (inl g) = too_little room line h g
+request_or_not room m line h s (inr g) = omega (arith, s, g)
+
+kept_or_not : (room : Option ℕ) (m : CoreView) (r : Result (Option Step) LineError) (l : List ℕ) → IsKept room m r l → IsUnkept room m r l → ⊥
+kept_or_not room m (Err line.BadLine) l p q = too_little room l p q
+kept_or_not room m (Err line.Memory) l p q = p
+kept_or_not room m (Ok None) l p q = too_little room l p q
+kept_or_not room m (Ok (Some (step.Start x))) l p q = too_little room l p q
+kept_or_not room m (Ok (Some (step.Go x))) l p q = too_little room l p q
+kept_or_not room m (Ok (Some (step.Request i x y args))) l p q = request_or_not room m l p.0 p.1 q
+kept_or_not room m (Ok (Some (step.Answer x y))) l p q = q
+kept_or_not room m (Ok (Some (step.Fault x))) l p q = q
+kept_or_not room m (Ok (Some (step.Kill x i))) l p q = q
+
+limits_one : SomeReading → (room : Option ℕ) (k : Keeper CoreView) (r : Result (Option Step) LineError) (l a b out out2 : List ℕ) (k2 k3 : Keeper CoreView) → KeeperDoes LineWrites k a out k2 → KeeperDoes LineWrites k b out2 k3
+    → KeepsOrTells room k.core r l a out → KeepsOrTells room k.core r l b out2 → IsSame a b out out2 k2 k3
+limits_one some room k r l a b out out2 k2 k3 x y (inl p) (inl q) = line_same some k l a b out out2 k2 k3 x y p.1 (p.1 ∙ sym q.1)
+limits_one some room k r l a b out out2 k2 k3 x y (inl p) (inr q) = absurd (kept_or_not room k.core r l p.0 q.0)
+limits_one some room k r l a b out out2 k2 k3 x y (inr p) (inl q) = absurd (kept_or_not room k.core r l q.0 p.0)
+limits_one some room k r l a b out out2 k2 k3 x y (inr p) (inr q) = told_same k a b out out2 k2 k3 x y p.1 q.1 (p.2 ∙ sym q.2)
+
+plain_one : SomeReading → (room : Option ℕ) (k : Keeper CoreView) (asked a b out out2 : List ℕ) (k2 k3 : Keeper CoreView) → KeeperDoes LineWrites k a out k2 → KeeperDoes LineWrites k b out2 k3
+    → TakesPlain room k.core asked a out → TakesPlain room k.core asked b out2 → IsSame a b out out2 k2 k3
+plain_one some room k asked a b out out2 k2 k3 x y s t =
+    let p = s.taken in
+    let q = t.taken in
+    let read = reads_one some asked q.read p.read (no_want q.read asked t.line q.stands) (no_want p.read asked s.line p.stands) q.reads p.reads in
+    let line = one_kept p.read asked s.line t.line p.stands (subst (λ r. StandsFor r asked t.line) read q.stands) in
+    let limits = subst (λ l. KeepsOrTells room k.core p.read l b out2) (sym line) (subst (λ r. KeepsOrTells room k.core r t.line b out2) read t.limits) in
+    limits_one some room k p.read s.line a b out out2 k2 k3 x y s.limits limits
+
+refused_one : SomeReading → (room : Option ℕ) (k : Keeper CoreView) (a b out out2 : List ℕ) (k2 k3 : Keeper CoreView) → KeeperDoes LineWrites k a out k2 → KeeperDoes LineWrites k b out2 k3
+    → TakesRefused room a out → TakesRefused room b out2 → IsSame a b out out2 k2 k3
+refused_one some room k a b out out2 k2 k3 x y (inl p) (inl q) = line_same some k line_for_bad a b out out2 k2 k3 x y p.1 (p.1 ∙ sym q.1)
+refused_one some room k a b out out2 k2 k3 x y (inl p) (inr q) = absurd (too_little room line_for_bad p.0 q.0)
+refused_one some room k a b out out2 k2 k3 x y (inr p) (inl q) = absurd (too_little room line_for_bad q.0 p.0)
+refused_one some room k a b out out2 k2 k3 x y (inr p) (inr q) = told_same k a b out out2 k2 k3 x y p.1 q.1 (p.2 ∙ sym q.2)
+
+first_one : SomeReading → (room : Option ℕ) (k : Keeper CoreView) (name : List ℕ) (number : ℕ) (marked a b out out2 : List ℕ) (k2 k3 : Keeper CoreView) → KeeperDoes LineWrites k a out k2 → KeeperDoes LineWrites k b out2 k3
+    → TakesFirst room k name number marked a out k2 → TakesFirst room k name number marked b out2 k3 → IsSame a b out out2 k2 k3
+first_one some room k name number marked a b out out2 k2 k3 x y (inl p) (inl q) = line_same some k p.2.line a b out out2 k2 k3 x y p.2.keeps (new_kept some marked a b p.2 q.2)
+first_one some room k name number marked a b out out2 k2 k3 x y (inl p) (inr q) = absurd (request_or_not room k.core marked p.0 p.1 q.0)
+first_one some room k name number marked a b out out2 k2 k3 x y (inr p) (inl q) = absurd (request_or_not room k.core marked q.0 q.1 p.0)
+first_one some room k name number marked a b out out2 k2 k3 x y (inr p) (inr q) = only_one k name number _ _ a b out out2 k2 k3 refl p.1 q.1
+
+once_one : SomeReading → (v : Verdict) (room : Option ℕ) (k : Keeper CoreView) (name : List ℕ) (number : ℕ) (request a b out out2 : List ℕ) (k2 k3 : Keeper CoreView) → KeeperDoes LineWrites k a out k2 → KeeperDoes LineWrites k b out2 k3
+    → TakesOnce v room k name number request a out k2 → TakesOnce v room k name number request b out2 k3 → IsSame a b out out2 k2 k3
+once_one some once.New room k name number request a b out out2 k2 k3 x y p q = first_one some room k name number (marked_text request name number) a b out out2 k2 k3 x y p q
+once_one some once.Again room k name number request a b out out2 k2 k3 x y p q = again_one k name number a b out out2 k2 k3 p q
+once_one some once.Old room k name number request a b out out2 k2 k3 x y p q = only_one k name number _ _ a b out out2 k2 k3 refl p q
+once_one some once.TooMany room k name number request a b out out2 k2 k3 x y p q = only_one k name number _ _ a b out out2 k2 k3 refl p q
+
+other_one : SomeReading → (room : Option ℕ) (k : Keeper CoreView) (asked a b out out2 : List ℕ) (k2 k3 : Keeper CoreView) → KeeperDoes LineWrites k a out k2 → KeeperDoes LineWrites k b out2 k3
+    → TakesOther room k.core asked a out → TakesOther room k.core asked b out2 → IsSame a b out out2 k2 k3
+other_one some room k asked a b out out2 k2 k3 x y (inl p) (inl q) = refused_one some room k a b out out2 k2 k3 x y p.3 q.3
+other_one some room k asked a b out out2 k2 k3 x y (inl p) (inr q) = absurd (q.0 p.0 p.1 p.2)
+other_one some room k asked a b out out2 k2 k3 x y (inr p) (inl q) = absurd (p.0 q.0 q.1 q.2)
+other_one some room k asked a b out out2 k2 k3 x y (inr p) (inr q) = plain_one some room k asked a b out out2 k2 k3 x y p.1 q.1
+
+asked_one : SomeReading → (room : Option ℕ) (k : Keeper CoreView) (asked a b out out2 : List ℕ) (k2 k3 : Keeper CoreView) → KeeperDoes LineWrites k a out k2 → KeeperDoes LineWrites k b out2 k3 → TakesAsked room k asked a out k2 → TakesAsked room k asked b out2 k3 → IsSame a b out out2 k2 k3
+asked_one some room k asked a b out out2 k2 k3 x y p q =
     let same = one_asked asked q.name p.name q.number p.number q.request p.request q.asks p.asks in
-    let Q : List ℕ → ℕ → List ℕ → Type 0 = λ n i r. TakesOnce (verdict_in k.told n i) k n i r b out2 k3 in
+    let Q : List ℕ → ℕ → List ℕ → Type 0 = λ n i r. TakesOnce (verdict_in k.told n i) room k n i r b out2 k3 in
     let t = subst (λ r. Q p.name p.number r) same.2 (subst (λ i. Q p.name i q.request) same.1 (subst (λ n. Q n q.number q.request) same.0 q.takes)) in
-    once_one some (verdict_in k.told p.name p.number) k p.name p.number p.request a b out out2 k2 k3 x y p.takes t
+    once_one some (verdict_in k.told p.name p.number) room k p.name p.number p.request a b out out2 k2 k3 x y p.takes t
 
-outside_one : SomeReading → (k : Keeper CoreView) (asked a b out out2 : List ℕ) (k2 k3 : Keeper CoreView) → KeeperDoes LineWrites k a out k2 → KeeperDoes LineWrites k b out2 k3 → TakesOutside k asked a out k2 → TakesOutside k asked b out2 k3 → IsSame a b out out2 k2 k3
-outside_one some k asked a b out out2 k2 k3 x y (inl p) (inl q) = asked_one some k asked a b out out2 k2 k3 x y p q
-outside_one some k asked a b out out2 k2 k3 x y (inl p) (inr q) = absurd (q.0 p.name p.number p.request p.asks)
-outside_one some k asked a b out out2 k2 k3 x y (inr p) (inl q) = absurd (p.0 q.name q.number q.request q.asks)
-outside_one some k asked a b out out2 k2 k3 x y (inr p) (inr q) =
-    let kept = other_line asked a p.1 in
-    line_same some k kept.0 a b out out2 k2 k3 x y kept.1 (other_kept some asked a b p.1 q.1)
+outside_one : SomeReading → (room : Option ℕ) (k : Keeper CoreView) (asked a b out out2 : List ℕ) (k2 k3 : Keeper CoreView) → KeeperDoes LineWrites k a out k2 → KeeperDoes LineWrites k b out2 k3 → TakesOutside room k asked a out k2 → TakesOutside room k asked b out2 k3 → IsSame a b out out2 k2 k3
+outside_one some room k asked a b out out2 k2 k3 x y (inl p) (inl q) = asked_one some room k asked a b out out2 k2 k3 x y p q
+outside_one some room k asked a b out out2 k2 k3 x y (inl p) (inr q) = absurd (q.0 p.name p.number p.request p.asks)
+outside_one some room k asked a b out out2 k2 k3 x y (inr p) (inl q) = absurd (p.0 q.name q.number q.request q.asks)
+outside_one some room k asked a b out out2 k2 k3 x y (inr p) (inr q) = other_one some room k asked a b out out2 k2 k3 x y p.1 q.1
 
 not_both : (b : Bool) → b ≡ true → b ≡ false → ⊥
 not_both true e f = cc f
 not_both false e f = cc e
 
-line_taken : SomeReading → (k : Keeper CoreView) (asked a b out out2 : List ℕ) (k2 k3 : Keeper CoreView) → KeeperDoes LineWrites k a out k2 → KeeperDoes LineWrites k b out2 k3 → TakesLine k asked a out k2 → TakesLine k asked b out2 k3 → IsSame a b out out2 k2 k3
-line_taken some k asked a b out out2 k2 k3 x y (inl p) (inl q) = line_same some k line_for_bad a b out out2 k2 k3 x y p.1 (p.1 ∙ sym q.1)
-line_taken some k asked a b out out2 k2 k3 x y (inl p) (inr q) = absurd (not_both (is_reserved asked) p.0 q.0)
-line_taken some k asked a b out out2 k2 k3 x y (inr p) (inl q) = absurd (not_both (is_reserved asked) q.0 p.0)
-line_taken some k asked a b out out2 k2 k3 x y (inr p) (inr q) = outside_one some k asked a b out out2 k2 k3 x y p.1 q.1
+line_taken : SomeReading → (room : Option ℕ) (k : Keeper CoreView) (asked a b out out2 : List ℕ) (k2 k3 : Keeper CoreView) → KeeperDoes LineWrites k a out k2 → KeeperDoes LineWrites k b out2 k3 → TakesLine room k asked a out k2 → TakesLine room k asked b out2 k3 → IsSame a b out out2 k2 k3
+line_taken some room k asked a b out out2 k2 k3 x y (inl p) (inl q) = refused_one some room k a b out out2 k2 k3 x y p.1 q.1
+line_taken some room k asked a b out out2 k2 k3 x y (inl p) (inr q) = absurd (not_both (is_reserved asked) p.0 q.0)
+line_taken some room k asked a b out out2 k2 k3 x y (inr p) (inl q) = absurd (not_both (is_reserved asked) q.0 p.0)
+line_taken some room k asked a b out out2 k2 k3 x y (inr p) (inr q) = outside_one some room k asked a b out out2 k2 k3 x y p.1 q.1
 
 pub took_one : SomeReading → (m : ManagerView) (asked a b out out2 : List ℕ) (m2 m3 : ManagerView) → makes_line m a out m2 → ManagerTakesLine m asked a out m2 → makes_line m b out2 m3 → ManagerTakesLine m asked b out2 m3 → (a ≡ b) × (out ≡ out2) × (m2 ≡ m3)
 took_one some m asked a b out out2 m2 m3 x p y q =
-    let w = line_taken some (keeper_of m) asked a b out out2 (keeper_of m2) (keeper_of m3) x y p.takes q.takes in
-    (w.0, w.1, same_manager m2 m3 w.2 (p.stays ∙ sym q.stays))
+    let w = line_taken some m.room (keeper_of m) asked a b out out2 (keeper_of m2) (keeper_of m3) x y p.takes q.takes in
+    (w.0, w.1, same_manager m2 m3 w.2 (p.stays ∙ sym q.stays) (p.leaves ∙ ap (room_after m.room) w.0 ∙ sym q.leaves))

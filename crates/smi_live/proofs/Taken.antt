@@ -10,11 +10,12 @@ use Rattle.smi_lines.specs.declared.line.LineError.TheVariants as line
 use Rattle.smi_lines.specs.Line.{LineReads}
 use Rattle.smi_live_once.specs.declared.table.Verdict.TheVariants as once
 use Rattle.smi_live_once.specs.Forms.{IsMarked, IsUnmarked, is_once_name, marked_text, told_text}
-use Rattle.smi_live_once.specs.Making.{Keeper, KeeperDoes, KeeperWrites}
+use Rattle.smi_live_once.specs.Making.{IsBeside, Keeper, KeeperDoes, KeeperWrites}
 use Rattle.smi_live_once.specs.Tables.{OnceTold, verdict_in, with_told}
 use Rattle.smi_live.specs.Keeping.{IsNoRequest, IsNoStep}
-use Rattle.smi_live.specs.Managing.{StandsFor, StandsForOnce, TakesNew, line_for_bad, logged}
-use Rattle.smi_live.proofs.Kept.{kept_line, kept_unmarked, no_request_stands, one_line}
+use Rattle.smi_live.specs.Limiting.{IsKept, IsUnkept, line_for_bad, logged, unkept_text}
+use Rattle.smi_live.specs.Managing.{StandsFor, StandsForOnce, TakesNew, TakesPlain}
+use Rattle.smi_live.proofs.Kept.{kept_line, kept_unmarked, no_request_stands, one_kept, one_line}
 use Rattle.smi_live.proofs.Unmarked.{bad_unmarked}
 
 -- a line without a mark was made
@@ -50,7 +51,16 @@ made_new k k2 line name number one kept out mark new free writes told e both = i
 
 -- an answer was told alone
 pub told_only : (k : Keeper CoreView) (name : List ℕ) (number : ℕ) (answer kept out : List ℕ) → kept ≡ [] → out ≡ told_text name number answer → KeeperDoes LineWrites k kept out k
-told_only k name number answer kept out e t = inr record { keeps = e; stays = refl; name = name; number = number; answer = answer; tells = t }
+told_only k name number answer kept out e t = inr record { keeps = e; stays = refl; tells = inr (inr (name, number, answer, t)) }
+
+-- nothing was made, and this was told
+pub told_beside : (k : Keeper CoreView) (kept out : List ℕ) → kept ≡ [] → IsBeside out → KeeperDoes LineWrites k kept out k
+told_beside k kept out e t = inr record { keeps = e; stays = refl; tells = t }
+
+pub unkept_beside : (r : Result (Option Step) LineError) (out : List ℕ) → out ≡ unkept_text r → IsBeside out
+unkept_beside (Ok None) out e = inl e
+unkept_beside (Ok (Some s)) out e = inr (inl e)
+unkept_beside (Err x) out e = inr (inl e)
 
 -- a line of a log was made again: one without a mark, or one whose number is new
 pub again_plain : (k k2 : Keeper CoreView) (line out : List ℕ) → IsUnmarked line → LineWrites k.core line out k2.core → k2.told ≡ k.told → KeeperWrites LineWrites k line out k2
@@ -121,3 +131,19 @@ no_request_new s marked kept reads not e = record {
 -- a line with its mark is marked
 pub is_marked : (line request name : List ℕ) (number : ℕ) → is_once_name name ≡ true → number < 2 ^ 64 → line ≡ marked_text request name number → IsMarked line name number
 is_marked line request name number named small e = record { request = request; named = named; small = small; text = e }
+
+-- what was read is kept as its line
+pub kept_limits : (room : Option ℕ) (m : CoreView) (r : Result (Option Step) LineError) (asked line l kept out : List ℕ) → LineReads asked r → StandsFor r asked line → StandsFor r asked l → kept ≡ logged line → IsKept room m r l → TakesPlain room m asked kept out
+kept_limits room m r asked line l kept out reads stands is e keeps = record {
+  line = line;
+  taken = record { read = r; reads = reads; stands = stands };
+  limits = inl (subst (IsKept room m r) (one_kept r asked l line is stands) keeps, e);
+}
+
+-- what was read is not kept
+pub unkept_limits : (room : Option ℕ) (m : CoreView) (r : Result (Option Step) LineError) (asked l kept out : List ℕ) → LineReads asked r → StandsFor r asked l → IsUnkept room m r l → kept ≡ [] → out ≡ unkept_text r → TakesPlain room m asked kept out
+unkept_limits room m r asked l kept out reads stands not e t = record {
+  line = l;
+  taken = record { read = r; reads = reads; stands = stands };
+  limits = inr (not, e, t);
+}

@@ -8,7 +8,7 @@ use Rattle.sml_text.specs.declared.limits.TheConstants.{LONGEST_NAME}
 use Rattle.sml_tree.specs.Word.{is_name_byte, is_name_text, is_name_word}
 use Rattle.smi_live_once.specs.Forms.{HasNoBlank, IsUnmarked}
 use Rattle.smi_live_once.proofs.Reading.{no_mark_front}
-use Rattle.smi_live.specs.Managing.{line_for_bad}
+use Rattle.smi_live.specs.Limiting.{line_for_bad}
 
 no_blank_letter : (c : ℕ) → IsTrue (is_ascii_alphabetic c) → c ≡ 32 → ⊥
 no_blank_letter c h e = grind (arith, nat_tests)

@@ -19,7 +19,8 @@ use Rattle.smi_live_once.specs.declared.table.Verdict.TheVariants as once
 use Rattle.smi_live_once.specs.Forms.{IsMarked, IsUnmarked}
 use Rattle.smi_live_once.specs.Making.{Keeper}
 use Rattle.smi_live_once.specs.Tables.{verdict_in}
-use Rattle.smi_live.specs.Managing.{IsGoOf, IsIdleAt, IsIdleObject, IsMadeAt, IsStartOf, ManagerView, line_for_bad, logged}
+use Rattle.smi_live.specs.Limiting.{line_for_bad, logged, room_after}
+use Rattle.smi_live.specs.Managing.{IsGoOf, IsIdleAt, IsIdleObject, IsMadeAt, IsStartOf, ManagerView}
 
 -- a line and the step that it asks for
 pub record Said : Type 0 where
@@ -51,6 +52,7 @@ pub record FirstOf (m : ManagerView) (first end : ℕ) (kept : List ℕ) (m2 : M
   pub made : IsMadeAt m.core line object m2.core
   pub before : (x : ℕ) → first ≤ x → x < object → IsIdleObject m.core x
   pub next : m2.turn ≡ object + 1
+  pub leaves : m2.room ≡ room_after m.room kept
 
 -- a line is read as no step
 abbrev pub IsNoStep : Result (Option Step) LineError → Type 0

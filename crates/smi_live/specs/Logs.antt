@@ -19,15 +19,15 @@ Manages m turns out m2 = RunsTurns makes_line TakesTurn ManagerTakesLine AllRest
 abbrev pub LogOutputs : Keeper CoreView → List ℕ → List ℕ → Keeper CoreView → Type 0
 LogOutputs k text plain k2 = Outputs (KeeperWrites LineWrites) k (lines_of text) plain k2
 
--- what turns write is what the text of their log writes, as a schedule, but for answers to those who ask once; and the
--- log leads to the same core and to the same that was told last
+-- what turns write is what the text of their log writes, as a schedule, but for what is told beside: answers to those
+-- who ask once, and that a line is not kept; and the log leads to the same core and to the same that was told last
 abbrev pub LogsWriteAgain : Type 0
 LogsWriteAgain =
     (m : ManagerView) (turns : List Turn) (out : List ℕ) (m2 : ManagerView) → Manages m turns out m2
     → LogWrites LineWrites (keeper_of m) (log_text (texts_in turns)) out (keeper_of m2)
 
 -- if a log of whole lines was made again, and turns after it, that log and the log of the turns are one log, which
--- writes both outputs but for answers to those who ask once, and leads to the same core and the same that was told
+-- writes both outputs but for what is told beside, and leads to the same core and the same that was told
 abbrev pub ResumedGoesOn : Type 0
 ResumedGoesOn =
     (k : Keeper CoreView) (text out : List ℕ) (m : ManagerView) → LogOutputs k (text ++ 10 ∷ []) out (keeper_of m)

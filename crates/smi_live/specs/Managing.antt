@@ -19,34 +19,30 @@ use Rattle.smi_core.specs.Output.{LineWrites}
 use Rattle.smi_live_once.specs.declared.table.Verdict.{Verdict}
 use Rattle.smi_live_once.specs.declared.table.Verdict.TheVariants as once
 use Rattle.smi_live_once.specs.Forms.{IsAsked, IsMarked, IsUnmarked, is_reserved, marked_text, told_text}
-use Rattle.smi_live_once.specs.Making.{Keeper, KeeperDoes}
+use Rattle.smi_live_once.specs.Making.{Keeper, KeeperDoes, limit_text}
 use Rattle.smi_live_once.specs.Tables.{OnceTold, told_to, verdict_in}
+use Rattle.smi_live.specs.Limiting.{HasNoStartLeft, HasRoomFor, HasStartsLeft, KeepsOrTells, LacksRoomFor, line_for_bad, logged, room_after}
 
 -- ---- a manager
 
--- a manager: its core, the object whose turn is next, and what was told last to each of those who ask once
+-- a manager: its core, the object whose turn is next, what was told last to each of those who ask once, and how many
+-- bytes its log may still take, if it has one
 pub record ManagerView : Type 0 where
   pub core : CoreView
   pub turn : ℕ
   pub told : List OnceTold
+  pub room : Option ℕ
 
 -- its core, and what was told last
 abbrev pub keeper_of : ManagerView → Keeper CoreView
 keeper_of m = record { core = m.core; told = m.told }
 
--- a line was made, kept with its line feed and told, with the answer to its mark beside; or an answer was told alone
+-- a line was made, kept with its line feed and told, with the answer to its mark beside; or nothing was made, and an
+-- answer was told, that a line is not kept, or nothing
 abbrev pub makes_line : ManagerView → List ℕ → List ℕ → ManagerView → Type 0
 makes_line m kept out m2 = KeeperDoes LineWrites (keeper_of m) kept out (keeper_of m2)
 
--- a line as it is kept
-abbrev pub logged : List ℕ → List ℕ
-logged line = line ++ 10 ∷ []
-
 -- ---- lines from outside
-
--- the line that is kept of one that is no step
-abbrev pub line_for_bad : List ℕ
-line_for_bad = codes "refused BadLine"
 
 -- what is kept of a line that is read so: the line, or a line that is no step if the line is no step or is one that the
 -- manager makes by itself
@@ -80,11 +76,17 @@ pub record IsTakenAs (asked line : List ℕ) : Type 0 where
   pub reads : LineReads asked read
   pub stands : StandsFor read asked line
 
--- the line that stands for it is kept
-pub record TakesPlain (asked kept : List ℕ) : Type 0 where
+-- the line that stands for it is kept; or there is no room or start left for it
+pub record TakesPlain (room : Option ℕ) (m : CoreView) (asked kept out : List ℕ) : Type 0 where
   pub line : List ℕ
   pub taken : IsTakenAs asked line
-  pub keeps : kept ≡ logged line
+  pub limits : KeepsOrTells room m taken.read line kept out
+
+-- a line is refused whatever it asks, which is kept, if there is room for that
+abbrev pub TakesRefused : Option ℕ → List ℕ → List ℕ → Type 0
+TakesRefused room kept out =
+    (HasRoomFor room line_for_bad × (kept ≡ logged line_for_bad))
+    ⊎ (LacksRoomFor room line_for_bad × (kept ≡ []) × (out ≡ limit_text))
 
 -- a request that is new is read with its mark, and this line stands for it
 pub record IsMarkedAs (marked line : List ℕ) : Type 0 where
@@ -112,48 +114,60 @@ pub record TellsAgain (k : Keeper CoreView) (name : List ℕ) (number : ℕ) (ke
   pub is_last : told_to k.told name ≡ Some last
   pub only : TellsOnly k name number last.answer kept out k2
 
+-- a request that is new is read with its mark, if there is room for that line and a start left; otherwise it is not
+-- looked at
+abbrev pub TakesFirst :
+    Option ℕ → Keeper CoreView → List ℕ → ℕ → List ℕ → List ℕ → List ℕ → Keeper CoreView → Type 0
+TakesFirst room k name number marked kept out k2 =
+    (HasRoomFor room marked × HasStartsLeft k.core × TakesNew marked kept)
+    ⊎ ((LacksRoomFor room marked ⊎ HasNoStartLeft k.core) × TellsOnly k name number limit_text kept out k2)
+
 -- what is done about a request that is to be made once, by the verdict on its number
 abbrev pub TakesOnce :
-    Verdict → Keeper CoreView → List ℕ → ℕ → List ℕ → List ℕ → List ℕ → Keeper CoreView → Type 0
-TakesOnce once.New k name number request kept out k2 = TakesNew (marked_text request name number) kept
-TakesOnce once.Again k name number request kept out k2 = TellsAgain k name number kept out k2
-TakesOnce once.Old k name number request kept out k2 =
+    Verdict → Option ℕ → Keeper CoreView → List ℕ → ℕ → List ℕ → List ℕ → List ℕ → Keeper CoreView → Type 0
+TakesOnce once.New room k name number request kept out k2 =
+    TakesFirst room k name number (marked_text request name number) kept out k2
+TakesOnce once.Again room k name number request kept out k2 = TellsAgain k name number kept out k2
+TakesOnce once.Old room k name number request kept out k2 =
     TellsOnly k name number (refused_text (codes "Old")) kept out k2
-TakesOnce once.TooMany k name number request kept out k2 =
+TakesOnce once.TooMany room k name number request kept out k2 =
     TellsOnly k name number (refused_text (codes "TooManyNames")) kept out k2
 
 -- a line asks for a request once
-pub record TakesAsked (k : Keeper CoreView) (asked kept out : List ℕ) (k2 : Keeper CoreView) : Type 0 where
+pub record TakesAsked (room : Option ℕ) (k : Keeper CoreView) (asked kept out : List ℕ) (k2 : Keeper CoreView) :
+    Type 0 where
   pub name : List ℕ
   pub number : ℕ
   pub request : List ℕ
   pub asks : IsAsked asked name number request
-  pub takes : TakesOnce (verdict_in k.told name number) k name number request kept out k2
+  pub takes : TakesOnce (verdict_in k.told name number) room k name number request kept out k2
 
 -- a line asks for nothing once
 abbrev pub IsNotAsked : List ℕ → Type 0
 IsNotAsked asked = (name : List ℕ) (number : ℕ) (request : List ℕ) → IsAsked asked name number request → ⊥
 
 -- a line that asks for nothing once: one with a mark is refused, since marks are the manager's own
-abbrev pub TakesOther : List ℕ → List ℕ → Type 0
-TakesOther asked kept =
-    ((name : List ℕ) × (number : ℕ) × IsMarked asked name number × (kept ≡ logged line_for_bad))
-    ⊎ (IsUnmarked asked × TakesPlain asked kept)
+abbrev pub TakesOther : Option ℕ → CoreView → List ℕ → List ℕ → List ℕ → Type 0
+TakesOther room m asked kept out =
+    ((name : List ℕ) × (number : ℕ) × IsMarked asked name number × TakesRefused room kept out)
+    ⊎ (IsUnmarked asked × TakesPlain room m asked kept out)
 
 -- a line that may come from outside: a request that is to be made once, or any other
-abbrev pub TakesOutside : Keeper CoreView → List ℕ → List ℕ → List ℕ → Keeper CoreView → Type 0
-TakesOutside k asked kept out k2 = TakesAsked k asked kept out k2 ⊎ (IsNotAsked asked × TakesOther asked kept)
+abbrev pub TakesOutside : Option ℕ → Keeper CoreView → List ℕ → List ℕ → List ℕ → Keeper CoreView → Type 0
+TakesOutside room k asked kept out k2 =
+    TakesAsked room k asked kept out k2 ⊎ (IsNotAsked asked × TakesOther room k.core asked kept out)
 
 -- a line from outside: one that may not come is refused
-abbrev pub TakesLine : Keeper CoreView → List ℕ → List ℕ → List ℕ → Keeper CoreView → Type 0
-TakesLine k asked kept out k2 =
-    ((is_reserved asked ≡ true) × (kept ≡ logged line_for_bad))
-    ⊎ ((is_reserved asked ≡ false) × TakesOutside k asked kept out k2)
+abbrev pub TakesLine : Option ℕ → Keeper CoreView → List ℕ → List ℕ → List ℕ → Keeper CoreView → Type 0
+TakesLine room k asked kept out k2 =
+    ((is_reserved asked ≡ true) × TakesRefused room kept out)
+    ⊎ ((is_reserved asked ≡ false) × TakesOutside room k asked kept out k2)
 
 -- a manager takes a line from outside so, and the turn stays
 pub record ManagerTakesLine (m : ManagerView) (asked kept out : List ℕ) (m2 : ManagerView) : Type 0 where
-  pub takes : TakesLine (keeper_of m) asked kept out (keeper_of m2)
+  pub takes : TakesLine m.room (keeper_of m) asked kept out (keeper_of m2)
   pub stays : m2.turn ≡ m.turn
+  pub leaves : m2.room ≡ room_after m.room kept
 
 -- ---- the manager's own steps
 
@@ -230,3 +244,4 @@ pub record TakesTurn (m : ManagerView) (kept : List ℕ) (m2 : ManagerView) : Ty
   pub before :
       (x : ℕ) → x < length m.core.setup.domain.objects → IsBefore (first_in m) x object → IsIdleObject m.core x
   pub next : m2.turn ≡ object + 1
+  pub leaves : m2.room ≡ room_after m.room kept

@@ -9,7 +9,7 @@ ghost use Rattle.smi_live_once.specs.Tables.{verdict_in};
 ghost use Rattle.smi_world_rest.specs.OwnSteps.{IsOwnStep};
 ghost use Rattle.smi_live.specs.Keeping.{AsksNoRequest, AsksRequest, IsIdleLine, IsMadeAgain, IsNeverLogged};
 ghost use Rattle.smi_live.specs.Keeping.{IsNoRequest, IsOtherBad, IsSomeRequest, MayBeLogged};
-ghost use Rattle.smi_live.specs.Managing.{line_for_bad};
+ghost use Rattle.smi_live.specs.Limiting.{line_for_bad};
 
 use crate::keeper::Keeper;
 use crate::making::{make_own_again, make_read, make_request};

@@ -1,11 +1,12 @@
 //! A core, and what is kept of what it did.
-ghost use Rattle.std.specs.Prelude.{◌≡◌, ◌<◌, [], IfOk, OnErr, OnOk, length};
+ghost use Rattle.std.specs.Prelude.{◌≡◌, ◌<◌, [], IfOk, OnErr, OnOk, false, length, true};
 ghost use Rattle.smi_world.specs.Runs.{IsReached};
 ghost use Rattle.smi_world.specs.Steps.{StepsTo};
 ghost use Rattle.smi_world.specs.World.{opening};
 ghost use Rattle.smi_live_once.specs.Tables.{with_told};
 ghost use Rattle.smi_live_accounts.specs.Accounts.{AccountsTell};
 ghost use Rattle.smi_live_accounts.specs.Requested.{RequestedAs};
+ghost use Rattle.smi_live.specs.Limiting.{HasNoStartLeft, HasStartsLeft};
 ghost use Rattle.smi_live.specs.Managing.{IsAtObject};
 
 use smi_core::{Answer, Core, Step, StepError};
@@ -20,10 +21,13 @@ use std::marker::Model;
 pub(crate) struct Keeper {
     core: Core,
     accounts: Accounts,
+    // How many actions may be started at most.
+    max_starts: usize,
 }
 
 impl Model for Keeper {
     ghost use Rattle.std.specs.Coded.{codes};
+    ghost use Rattle.std.specs.Prelude.{◌≡◌};
     ghost use Rattle.sml_domain.specs.Codes.{formula_code};
     ghost use Rattle.smi_world.specs.Runs.{IsReached};
     ghost use Rattle.smi_core.specs.Machines.{CoreView};
@@ -37,7 +41,8 @@ impl Model for Keeper {
     ghost view = { λ k. record { core = k.core; told = k.accounts.told } };
 
     ghost invariant = { λ k. IsReached k.core.setup k.core.world
-        × AccountsTell k.core.setup.domain k.core.world.journal k.accounts };
+        × AccountsTell k.core.setup.domain k.core.world.journal k.accounts
+        × (k.max_starts ≡ k.core.setup.max_starts) };
 }
 
 // Makes the start or the go of an object, whose number is known.
@@ -55,15 +60,21 @@ fn step_at(core: &mut Core, o: usize, step: &Step) -> Result<Answer, StepError>
 }
 
 impl Keeper {
-    /// That of a core in its opening world, of which nothing was asked. The error is out of memory.
-    pub(crate) fn new(alloc: Global, core: Core) -> Result<Keeper, AllocError>
-        requires { core.world ≡ opening core.setup }
+    /// That of a core in its opening world, of which nothing was asked, and which starts this many actions at most. The
+    /// error is out of memory.
+    pub(crate) fn new(alloc: Global, core: Core, max_starts: usize) -> Result<Keeper, AllocError>
+        requires opening { core.world ≡ opening core.setup }
+        requires starts { max_starts ≡ core.setup.max_starts }
         ensures { IfOk result (λ k. k ≡ record { core = core; told = [] }) }
     {
         // (that the domain is sound, so that its opening world is reached)
         let _sound = core.domain().objects();
         let accounts = Accounts::new(alloc, core.domain())?;
-        Ok(Keeper { core, accounts })
+        Ok(Keeper {
+            core,
+            accounts,
+            max_starts,
+        })
     }
 
     /// The core.
@@ -86,6 +97,14 @@ impl Keeper {
         ensures { result.now.told ≡ self.now.told }
     {
         self.accounts.told()
+    }
+
+    /// Whether an action may still be started.
+    pub(crate) fn has_starts(&self) -> bool
+        ensures yes { result ≡ true → HasStartsLeft self.now.core }
+        ensures no { result ≡ false → HasNoStartLeft self.now.core }
+    {
+        self.accounts.starts() < self.max_starts
     }
 
     /// A law, whose function does nothing: the world is reached by steps.

@@ -5,8 +5,9 @@ ghost use Rattle.smi_live.specs.Logs.{ResumedGoesOn, SameHeardSameLog, ToldAsMad
 use smi_live_once::laws_of_once;
 use sml_text::laws_of_tokens;
 
-/// What a manager writes is what its log writes, as a schedule, but for answers to those who ask once, also after a
-/// log that was made before; and the log leads to the same that was told last to each. In a log the numbers of a name
+/// What a manager writes is what its log writes, as a schedule, but for what is told beside: answers to those who ask
+/// once, and `refused Limit`. So it is also after a log that was made before; and the log leads to the same that was
+/// told last to each. In a log the numbers of a name
 /// grow, so that each is made once, and what is told again is what its line wrote. A manager's worlds are reached by
 /// steps, so that all that holds of such worlds holds of it. What it heard decides what it does. This does nothing
 /// when called.

@@ -1,12 +1,13 @@
 //! The manager.
-ghost use Rattle.std.specs.Prelude.{◌≡◌, ◌<◌, ◌≤◌, ◌+◌, [], ℕ, List, IfOk, false, length, true};
+ghost use Rattle.std.specs.Prelude.{◌≡◌, ◌<◌, ◌≤◌, ◌+◌, [], ℕ, List, IfOk, None, false, length, true};
 ghost use Rattle.smi_core.specs.Output.{LineWrites};
 ghost use Rattle.smi_live_accounts.specs.Accounts.{AccountsTell};
 ghost use Rattle.smi_live_once.specs.Making.{KeeperWrites};
 ghost use Rattle.smi_world.specs.World.{opening};
 ghost use Rattle.smi_live.specs.Keeping.{FirstOf, IsNeverLogged, MayBeLogged};
 ghost use Rattle.smi_live.specs.Managing as managing;
-ghost use Rattle.smi_live.specs.Managing.{IsIdleObject, IsMadeAt, logged};
+ghost use Rattle.smi_live.specs.Limiting.{logged, room_after};
+ghost use Rattle.smi_live.specs.Managing.{IsIdleObject, IsMadeAt};
 
 use crate::again::line_again;
 use crate::keeper::Keeper;
@@ -21,7 +22,8 @@ use smi_live_loop::{Machine, Made};
 use std::alloc::{AllocError, Global};
 use std::marker::Model;
 
-/// A core with what is kept of what it did, the lines of the manager's own steps, and the object whose turn is next.
+/// A core with what is kept of what it did, the lines of the manager's own steps, the object whose turn is next, and
+/// how many bytes the log may still take.
 ///
 /// It goes round the objects in the order of declaration, from the one after that of its last step on.
 /// (docs/FORMATS.md, "A live manager".)
@@ -30,8 +32,9 @@ pub struct Manager<L> {
     keeper: Keeper,
     own: Vec<OwnLines>,
     turn: usize,
-    // How many lines are kept.
+    // How many lines are kept, and how many bytes the log may still take, if there is one.
     lines: usize,
+    room: Option<usize>,
     lookout: L,
     alloc: Global,
 }
@@ -47,26 +50,34 @@ impl<L> Model for Manager<L> {
 
     ghost coded = { Prim.hlevel (codes, formula_code) };
 
-    ghost view = { λ m. record { core = m.keeper.core; turn = m.turn; told = m.keeper.told } };
+    ghost view = { λ m. record { core = m.keeper.core; turn = m.turn; told = m.keeper.told; room = m.room } };
 
     ghost invariant = { λ m. AreOwn m.keeper.core.setup.domain m.own.items
         (length m.keeper.core.setup.domain.objects) };
 }
 
 impl<L: Observer> Manager<L> {
-    /// The manager of a core that did nothing yet, which has no line of a log. Its first turn is that of the first
-    /// object. The cost is the square of the count of objects. The error is out of memory.
-    pub fn new(alloc: Global, core: Core, lookout: L) -> Result<Manager<L>, AllocError>
-        requires { core.world ≡ opening core.setup }
-        ensures { IfOk result (λ m. m ≡ record { core = core; turn = 0; told = [] }) }
+    /// The manager of a core that did nothing yet and starts this many actions at most; it has no line of a log. Its
+    /// first turn is that of the first object. The cost is the square of the count of objects. The error is out of
+    /// memory.
+    pub fn new(
+        alloc: Global,
+        core: Core,
+        max_starts: usize,
+        lookout: L,
+    ) -> Result<Manager<L>, AllocError>
+        requires opening { core.world ≡ opening core.setup }
+        requires starts { max_starts ≡ core.setup.max_starts }
+        ensures { IfOk result (λ m. m ≡ record { core = core; turn = 0; told = []; room = None }) }
     {
         let own = all_lines(alloc, core.domain())?;
-        let keeper = Keeper::new(alloc, core)?;
+        let keeper = Keeper::new(alloc, core, max_starts)?;
         Ok(Manager {
             keeper,
             own,
             turn: 0,
             lines: 0,
+            room: None,
             lookout,
             alloc,
         })
@@ -92,11 +103,13 @@ impl<L: Observer> Manager<L> {
         &self.lookout
     }
 
-    /// The lines of a log were made again, of which it has this count: from here on, lines are made as they come.
-    pub fn begin(&mut self, lines: usize)
-        ensures { self.new ≡ self.old }
+    /// The lines of a log were made again, of which it has this count; it may still take `room` bytes, if there is one.
+    /// From here on, lines are made as they come.
+    pub fn begin(&mut self, lines: usize, room: Option<usize>)
+        ensures { self.new ≡ record self.old { room = room } }
     {
         self.lines = lines;
+        self.room = room;
         self.lookout.begins();
     }
 
@@ -112,6 +125,8 @@ impl<L: Observer> Manager<L> {
             → MayBeLogged (managing.keeper_of self.old) line.now (managing.keeper_of self.new)) }
         ensures never { IfOk result (λ b. b ≡ false → IsNeverLogged (managing.keeper_of self.old) line.now) }
         ensures turn { self.new.turn ≡ self.old.turn }
+        ensures room { self.new.room ≡ self.old.room }
+        ensures setup { self.new.core.setup ≡ self.old.core.setup }
     {
         let taken = self.next_line(line);
         match line_again(self.alloc, &mut self.keeper, &mut self.lookout, taken, made) {
@@ -134,12 +149,15 @@ impl<L: Observer> Manager<L> {
         }
     }
 
-    // Counts a line, if one is kept of what was made.
+    // Counts what is kept of what was made: a line, or nothing.
     fn count_line(&mut self, made: &Made)
-        ensures { self.new ≡ self.old }
+        ensures { self.new ≡ record self.old { room = room_after self.old.room made.now.kept.items } }
     {
         if !made.kept.is_empty() {
             self.lines = self.lines.saturating_add(1);
+        }
+        if let Some(room) = self.room {
+            self.room = Some(room.saturating_sub(made.kept.len()));
         }
     }
 
@@ -167,6 +185,8 @@ impl<L: Observer> Manager<L> {
         ensures own { IfOk result (λ b. b ≡ true → (line : List ℕ) × (made.new.kept.items ≡ logged line)
             × IsMadeAt self.old.core line o self.new.core) }
         ensures next { IfOk result (λ b. b ≡ true → self.new.turn ≡ o + 1) }
+        ensures leaves { IfOk result (λ b. b ≡ true
+            → self.new.room ≡ room_after self.old.room made.new.kept.items) }
         ensures idle { IfOk result (λ b. b ≡ false → IsIdleObject self.old.core o) }
         ensures same { IfOk result (λ b. b ≡ false → self.new ≡ self.old) }
     {
@@ -184,7 +204,7 @@ impl<L: Observer> Manager<L> {
             Ok(true) => match end_line(made) {
                 Ok(()) => {
                     self.turn = next;
-                    self.lines = number;
+                    self.count_line(made);
                     Ok(true)
                 }
                 Err(error) => Err(error),
@@ -228,7 +248,15 @@ impl<L: Observer> Machine for Manager<L> {
 
     fn take(&mut self, asked: &[u8], made: &mut Made) -> Result<(), AllocError> {
         let taken = self.next_line(asked);
-        match take_line(self.alloc, &mut self.keeper, &mut self.lookout, taken, made) {
+        let room = self.room;
+        match take_line(
+            self.alloc,
+            room,
+            &mut self.keeper,
+            &mut self.lookout,
+            taken,
+            made,
+        ) {
             Ok(()) => {
                 self.count_line(made);
                 Ok(())
@@ -248,6 +276,12 @@ impl<L: Observer> Machine for Manager<L> {
     }
 
     fn remark(&mut self, is_asked: bool, remark: &mut Vec<u8>) {
-        self.lookout.remark(self.keeper.core(), self.keeper.accounts(), is_asked, remark);
+        self.lookout.remark(
+            self.keeper.core(),
+            self.keeper.accounts(),
+            self.room,
+            is_asked,
+            remark,
+        );
     }
 }

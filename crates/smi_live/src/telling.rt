@@ -3,7 +3,8 @@ ghost use Rattle.std.specs.Prelude.{◌≡◌, ◌++◌, ◌∷◌, [], Err, OnO
 ghost use Rattle.smi_lines.specs.Answers.{answer_text, refused_text};
 ghost use Rattle.smi_lines.specs.Line.{LineReads};
 ghost use Rattle.smi_live_once.specs.Forms.{told_text};
-ghost use Rattle.smi_live.specs.Managing.{line_for_bad};
+ghost use Rattle.smi_live_once.specs.Making.{limit_text};
+ghost use Rattle.smi_live.specs.Limiting.{line_for_bad, unkept_text};
 
 use smi_core::{Answer, Core, LineError, Step, StepError, read_step};
 use smi_journal_entries::Entry;
@@ -97,6 +98,34 @@ pub(crate) fn end_line(made: &mut Made) -> Result<(), AllocError>
     ensures text { OnOk result (made.new.text.items ≡ made.old.text.items) }
 {
     made.kept.extend_from_slice(b"\n")
+}
+
+/// Nothing is kept, and it is told that there is no room or start left. The error is out of memory.
+pub(crate) fn tell_limit(made: &mut Made) -> Result<(), AllocError>
+    ensures kept { OnOk result (made.new.kept.items ≡ []) }
+    ensures text { OnOk result (made.new.text.items ≡ limit_text) }
+{
+    made.kept.clear();
+    made.text.clear();
+    made.text.extend_from_slice(b"refused Limit\n")
+}
+
+/// Nothing is kept of a line that was read so, and that is told, if it is no remark. The error is out of memory.
+pub(crate) fn tell_unkept(
+    made: &mut Made,
+    read: &Result<Option<Step>, LineError>,
+) -> Result<(), AllocError>
+    ensures kept { OnOk result (made.new.kept.items ≡ []) }
+    ensures text { OnOk result (made.new.text.items ≡ unkept_text read.now) }
+{
+    match read {
+        Ok(None) => {
+            made.kept.clear();
+            made.text.clear();
+            Ok(())
+        }
+        Ok(Some(_)) | Err(_) => tell_limit(made),
+    }
 }
 
 /// Nothing is kept, and an answer is told alone. The error is out of memory.

@@ -3,6 +3,7 @@ use Rattle.std.proofs.Common.{◌≡◌, ◌∙◌, sym, ap, refl, subst, arith,
 use Rattle.std.specs.Prelude.{All}
 use Rattle.std.proofs.Math.Seq.{take-append_seam}
 use Rattle.std.proofs.lemmas.List.Elements.{All-append, All-nil}
+use Rattle.smi_journal_entries.specs.Words.{all_starts}
 use Rattle.smi_world.specs.declared.step.Step.{Step}
 use Rattle.smi_world.specs.declared.step.Answer.{Answer}
 use Rattle.smi_world.specs.declared.refusal.StepError.{StepError}
@@ -58,6 +59,7 @@ noted_to m m2 a first h e t =
       count = t.count ∙ ap (λ (s : Setup). length s.domain.objects) (sym h.0);
       known = subst (λ (s : Setup). All (IsOfCounted (length s.domain.objects)) m2.world.journal) (sym h.0) known;
       paired = subst (λ (s : Setup). ArePaired s.domain a.told (map request_in a.fates.watched)) (sym h.0) t.paired;
+      all = t.all ∙ ap (λ J. length (all_starts J)) (sym here);
     }
 
 -- after one step at most, a world that is reached is followed by one that is

@@ -3,3 +3,4 @@ mod Accounting
 mod Pairing
 mod Answering
 mod Putting
+mod Counting

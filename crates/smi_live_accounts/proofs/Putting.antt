@@ -11,7 +11,7 @@ use Rattle.smi_request_fates.proofs.Keeping.{held_tell, replaced_tell, watched_t
 use Rattle.smi_live_accounts.specs.Accounts.{AccountsTell, AccountsView, ArePaired, IsAnswerTo}
 use Rattle.smi_live_accounts.proofs.Pairing.{paired_instead, paired_more}
 
-pub accounts_begin : (d : Domain) (f : FatesView) (told : List OnceTold) → Tells d [] f → length f.counts ≡ length d.objects → f.watched ≡ [] → told ≡ [] → AccountsTell d [] (record { told = told; fates = f })
+pub accounts_begin : (d : Domain) (f : FatesView) (told : List OnceTold) → Tells d [] f → length f.counts ≡ length d.objects → f.watched ≡ [] → told ≡ [] → AccountsTell d [] (record { told = told; fates = f; starts = 0 })
 accounts_begin d f told tells count none empty = record {
   tells = tells;
   count = count;
@@ -20,6 +20,7 @@ accounts_begin d f told tells count none empty = record {
     count = ap (λ ws. length (map request_in ws)) none ∙ ap length (sym empty);
     each = λ p t a e g. absurd (cc (sym e ∙ ap (λ ts. slice_get ts p) empty));
   };
+  all = refl;
 }
 
 map_set : (ws : List WatchedView) (p : ℕ) (w : WatchedView) → map request_in (slice_set ws p w) ≡ slice_set (map request_in ws) p (request_in w)
@@ -45,29 +46,31 @@ module _ (d : Domain) (J : List Entry) (a : AccountsView) (f : FatesView) (held 
   is_held = held_tell d J a.fates f.room h.tells
 
   -- the request of a name that is known is watched in the place of its last one
-  pub put_instead : (g : FatesView) → IsPutAt a.told x p told2 → p < n → g ≡ record f { watched = slice_set f.watched p w } → AccountsTell d J (record { told = told2; fates = g })
+  pub put_instead : (g : FatesView) → IsPutAt a.told x p told2 → p < n → g ≡ record f { watched = slice_set f.watched p w } → AccountsTell d J (record { told = told2; fates = g; starts = a.starts })
   put_instead g (inr at) inside new = absurd (past p (length a.told) n (length f.watched) inside size watched_count at.0)
   put_instead g (inl at) inside new =
       let is : g ≡ record { counts = a.fates.counts; watched = slice_set a.fates.watched p w; room = f.room } = new ∙ ap (λ (k : FatesView). record { counts = k.counts; watched = slice_set k.watched p w; room = k.room }) held in
-      let all : AccountsTell d J (record { told = told2; fates = record { counts = a.fates.counts; watched = slice_set a.fates.watched p w; room = f.room } }) = record {
+      let all : AccountsTell d J (record { told = told2; fates = record { counts = a.fates.counts; watched = slice_set a.fates.watched p w; room = f.room }; starts = a.starts }) = record {
         tells = replaced_tell d J (record a.fates { room = f.room }) w p is_held came;
         count = h.count;
         known = h.known;
         paired = subst (λ ts. ArePaired d ts (map request_in (slice_set a.fates.watched p w))) (sym at.1)
             (subst (ArePaired d (slice_set a.told p x)) (sym (map_set a.fates.watched p w)) (paired_instead d a.told (map request_in a.fates.watched) p x (request_in w) at.0 h.paired answers));
+        all = h.all;
       } in
-      subst (λ k. AccountsTell d J (record { told = told2; fates = k })) (sym is) all
+      subst (λ k. AccountsTell d J (record { told = told2; fates = k; starts = a.starts })) (sym is) all
 
   -- that of a new name is watched after all others
-  pub put_more : (g : FatesView) (room : ℕ) → IsPutAt a.told x p told2 → n ≤ p → g ≡ record f { watched = f.watched ++ w ∷ []; room = room } → AccountsTell d J (record { told = told2; fates = g })
+  pub put_more : (g : FatesView) (room : ℕ) → IsPutAt a.told x p told2 → n ≤ p → g ≡ record f { watched = f.watched ++ w ∷ []; room = room } → AccountsTell d J (record { told = told2; fates = g; starts = a.starts })
   put_more g room (inl at) outside new = absurd (short p (length a.told) n (length f.watched) outside size watched_count at.0)
   put_more g room (inr at) outside new =
       let is : g ≡ record { counts = a.fates.counts; watched = a.fates.watched ++ w ∷ []; room = room } = new ∙ ap (λ (k : FatesView). record { counts = k.counts; watched = k.watched ++ w ∷ []; room = room }) held in
-      let all : AccountsTell d J (record { told = told2; fates = record { counts = a.fates.counts; watched = a.fates.watched ++ w ∷ []; room = room } }) = record {
+      let all : AccountsTell d J (record { told = told2; fates = record { counts = a.fates.counts; watched = a.fates.watched ++ w ∷ []; room = room }; starts = a.starts }) = record {
         tells = watched_tell d J (record a.fates { room = f.room }) w room is_held came;
         count = h.count;
         known = h.known;
         paired = subst (λ ts. ArePaired d ts (map request_in (a.fates.watched ++ w ∷ []))) (sym at.1)
             (subst (ArePaired d (a.told ++ x ∷ [])) (sym (map-append request_in a.fates.watched (w ∷ []))) (paired_more d a.told (map request_in a.fates.watched) x (request_in w) h.paired answers));
+        all = h.all;
       } in
-      subst (λ k. AccountsTell d J (record { told = told2; fates = k })) (sym is) all
+      subst (λ k. AccountsTell d J (record { told = told2; fates = k; starts = a.starts })) (sym is) all

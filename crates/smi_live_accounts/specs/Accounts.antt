@@ -4,6 +4,7 @@ use Rattle.sml_domain.specs.declared.value.Value.{Value}
 use Rattle.sml_domain.specs.Domain.{Domain}
 use Rattle.smi_journal_entries.specs.declared.entry.Entry.{Entry}
 use Rattle.smi_journal_entries.specs.declared.entry.Sender.TheVariants.{Operator}
+use Rattle.smi_journal_entries.specs.Words.{all_starts}
 use Rattle.smi_world.specs.declared.step.Step.{Step}
 use Rattle.smi_world.specs.declared.step.Answer.{Answer}
 use Rattle.smi_world.specs.declared.refusal.StepError.{StepError}
@@ -13,10 +14,11 @@ use Rattle.smi_core.specs.Machines.{CoreView}
 use Rattle.smi_live_once.specs.Tables.{OnceTold}
 use Rattle.smi_request_fates.specs.Kept.{Asked, FatesView, IsOfCounted, Tells, request_in}
 
--- what was told last to each name, and counts and last requests
+-- what was told last to each name, counts and last requests, and how many actions were started
 pub record AccountsView : Type 0 where
   pub told : List OnceTold
   pub fates : FatesView
+  pub starts : ℕ
 
 -- this was told of an accepted request: the line of its acceptance
 pub record IsAcceptOf (d : Domain) (a : Asked) (answer : List ℕ) : Type 0 where
@@ -47,6 +49,7 @@ pub record AccountsTell (d : Domain) (J : List Entry) (a : AccountsView) : Type 
   pub count : length a.fates.counts ≡ length d.objects
   pub known : All (IsOfCounted (length d.objects)) J
   pub paired : ArePaired d a.told (map request_in a.fates.watched)
+  pub all : a.starts ≡ length (all_starts J)
 
 -- it is what the first entries of a core's journal say
 pub record IsNotedTo (m : CoreView) (first : ℕ) (a : AccountsView) : Type 0 where
@@ -55,6 +58,7 @@ pub record IsNotedTo (m : CoreView) (first : ℕ) (a : AccountsView) : Type 0 wh
   pub count : length a.fates.counts ≡ length m.setup.domain.objects
   pub known : All (IsOfCounted (length m.setup.domain.objects)) m.world.journal
   pub paired : ArePaired m.setup.domain a.told (map request_in a.fates.watched)
+  pub all : a.starts ≡ length (all_starts (take first m.world.journal))
 
 -- a core made one step at most
 abbrev pub MakesOneStep : CoreView → CoreView → Type 0

@@ -1,7 +1,8 @@
 //! What a manager keeps of what it did, so that no question about it walks the journal.
-ghost use Rattle.std.specs.Prelude.{◌≡◌, ◌<◌, [], ℕ, IfOk, List, OnErr, OnOk, option_map, slice_get};
+ghost use Rattle.std.specs.Prelude.{◌≡◌, ◌≤◌, ◌<◌, ◌^◌, [], ℕ, IfOk, List, OnErr, OnOk, length, option_map, slice_get, take};
 ghost use Rattle.sml_domain.specs.Domain.{Domain as Objects};
 ghost use Rattle.smi_journal_entries.specs.declared.entry.Entry.{Entry as Entries};
+ghost use Rattle.smi_journal_entries.specs.Words.{all_starts, any_start};
 ghost use Rattle.smi_live_once.specs.Tables.{with_told};
 ghost use Rattle.smi_request_fates.specs.Kept.{IsCame, request_in};
 ghost use Rattle.smi_live_accounts.specs.Accounts.{AccountsTell, IsAnswerTo, IsNotedTo};
@@ -9,20 +10,22 @@ ghost use Rattle.smi_live_accounts.specs.Requested.{RequestedAs};
 
 use crate::requested::Requested;
 use smi_core::Core;
-use smi_journal_entries::Sender;
+use smi_journal_entries::{Entry, Sender};
 use smi_live_once::OnceTable;
 use smi_request_fates::{Came, Counts, Fate, Fates, Stands, Watched};
 use sml_domain::{Domain, ObjId};
 use std::alloc::{AllocError, Global};
 use std::marker::Model;
 
-/// How often each object started and ended, what was told last to each of those who ask for requests that are made
-/// once, and what became of these requests. No call walks the journal.
+/// How often each object started and ended, and all together started, what was told last to each of those who ask for
+/// requests that are made once, and what became of these requests. No call walks the journal.
 #[derive(Drop)]
 pub struct Accounts {
     table: OnceTable,
     // At the place of a name its last request is watched.
     fates: Fates,
+    // How many actions were started.
+    starts: usize,
 }
 
 impl Model for Accounts {
@@ -30,7 +33,39 @@ impl Model for Accounts {
 
     ghost Value = { AccountsView };
 
-    ghost view = { λ a. record { told = a.table.told; fates = a.fates } };
+    ghost view = { λ a. record { told = a.table.told; fates = a.fates; starts = a.starts } };
+}
+
+// How many starts an entry is: one or none.
+fn starts_of(entry: &Entry) -> usize
+    ensures { result ≡ length (any_start entry.now) }
+{
+    if matches!(entry, Entry::Start { .. }) {
+        1
+    } else {
+        0
+    }
+}
+
+// How many entries there are.
+fn count_of(entries: &[Entry]) -> usize
+    ensures is { result ≡ length entries.now }
+    ensures few { result < 2 ^ 64 }
+{
+    entries.len()
+}
+
+// How many entries are starts, of which this many stand before a place.
+fn count_starts(before: usize, entries: &[Entry], first: usize) -> usize
+    requires before { before ≡ length (all_starts (take first entries.now)) }
+    requires within { first ≤ length entries.now }
+    ensures { result ≡ length (all_starts entries.now) }
+{
+    let mut starts = before;
+    for place in first..count_of(entries) {
+        starts += starts_of(&entries[place]);
+    }
+    starts
 }
 
 impl Accounts {
@@ -43,6 +78,7 @@ impl Accounts {
         Ok(Accounts {
             table: OnceTable::new(alloc),
             fates,
+            starts: 0,
         })
     }
 
@@ -54,6 +90,14 @@ impl Accounts {
         ensures told { self.new.told ≡ self.old.told }
     {
         self.fates.add_from(core.domain(), core.journal(), first);
+        self.starts = count_starts(self.starts, core.journal(), first);
+    }
+
+    /// How many actions were started, those that were skipped too.
+    pub fn starts(&self) -> usize
+        ensures { result ≡ self.now.starts }
+    {
+        self.starts
     }
 
     /// Keeps what was told last to a name, and which request that was. The cost is the count of names. The error is out

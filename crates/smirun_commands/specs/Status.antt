@@ -38,6 +38,8 @@ said_of (log.Starts n) = codes "has " ++ decimal n ++ codes " starts"
 said_of log.NoFile = codes "is no file"
 said_of log.InUse = codes "is in use"
 said_of log.Full = codes "full"
+said_of log.Moved = codes "was moved"
+said_of log.Changed = codes "was written by another"
 
 -- which is always known
 abbrev pub refusal_text : LogRefusal → Option (List ℕ)

@@ -218,8 +218,8 @@ pub(crate) fn judge_text<'a>(
     }
 }
 
-// Writes the line of a judgement to its end.
-pub(crate) fn tell_judgement<W: Write>(
+/// Writes the line of a judgement to its end. The error is `Output` or `Memory`.
+pub fn tell_judgement<W: Write>(
     heap: Global,
     judgement: Judgement,
     output: &mut W,
@@ -234,8 +234,8 @@ pub(crate) fn tell_judgement<W: Write>(
     tell_text(line.as_bytes(), output)
 }
 
-// Writes a text to its end.
-pub(crate) fn tell_text<W: Write>(text: &[u8], output: &mut W) -> Result<(), Fault<'static>>
+/// Writes a text to its end.
+pub fn tell_text<W: Write>(text: &[u8], output: &mut W) -> Result<(), Fault<'static>>
     ensures err { IfErr result (λ fault. fault ≡ Fault.Output) }
     ensures told { OnOk result (Wrote (W.contents output.old) (W.contents output.new) text.now) }
 {

@@ -9,9 +9,11 @@ use crate::status::{DONE, ILLEGAL, REFUSED};
 use explain_journals::DomainText;
 use show_cover::{CoverText, Coverage, cover_text};
 use smi_audit::Judgement;
+use sml_domain::Domain;
 use std::alloc::Global;
 use std::fs::Files;
 use std::io::{Read, Write};
+use std::sync::Arc;
 
 /// What `cover` is asked to tell. The texts are words of a command line.
 #[derive(Drop)]
@@ -73,10 +75,12 @@ fn cover_domain<'a, R: Files + AllocGlobal, I: Read, W: Write, E: Write>(
             Err(fault) => return Err(fault),
         };
         if !coverage.count_journal(rt.alloc(), &loaded.domain, bytes.as_slice()) {
+            let text = loaded.text.as_slice();
             let told = tell_uncounted(
                 rt.alloc(),
+                &loaded.domain,
+                text,
                 options,
-                loaded,
                 journal,
                 bytes.as_slice(),
                 output,
@@ -88,14 +92,26 @@ fn cover_domain<'a, R: Files + AllocGlobal, I: Read, W: Write, E: Write>(
             return told;
         }
     }
-    tell_coverage(rt.alloc(), options.strict, loaded, &coverage, output)
+    let text = loaded.text.as_slice();
+    tell_coverage(
+        rt.alloc(),
+        &loaded.domain,
+        text,
+        options.strict,
+        &coverage,
+        output,
+    )
 }
 
-// Writes what the judge says of a journal that was not counted: that it is not legal.
-fn tell_uncounted<'a, W: Write, E: Write>(
+/// Writes what the judge says of a journal of this path that was not counted, with its path in front: that it is not
+/// legal. If the options ask for it, the explanation goes to `errors`, with the place in the domain's text.
+///
+/// The cost is that of judging. The error is the fault of the journal, by its path, `Output` or `Memory`.
+pub fn tell_uncounted<'a, W: Write, E: Write>(
     heap: Global,
+    domain: &Arc<Domain>,
+    text: &[u8],
     options: &CoverOptions<'a>,
-    loaded: &LoadedDomain,
     journal: &'a str,
     bytes: &[u8],
     output: &mut W,
@@ -103,7 +119,7 @@ fn tell_uncounted<'a, W: Write, E: Write>(
 ) -> Result<u8, Fault<'a>>
     ensures { IfOk result (λ status. status ≤ 4) }
 {
-    let judgement = match judge_text(heap, &loaded.domain, journal, bytes) {
+    let judgement = match judge_text(heap, domain, journal, bytes) {
         // Memory ran out where it was counted, and did not when it was judged.
         Ok(Judgement::Legal) => return Err(Fault::Memory),
         Ok(Judgement::Illegal { line, rule }) => Judgement::Illegal { line, rule },
@@ -118,25 +134,28 @@ fn tell_uncounted<'a, W: Write, E: Write>(
     if options.explain {
         let text = DomainText {
             file: options.file,
-            bytes: loaded.text.as_slice(),
+            bytes: text,
         };
-        tell_against(heap, &loaded.domain, text, bytes, judgement, errors);
+        tell_against(heap, domain, text, bytes, judgement, errors);
     }
     Ok(ILLEGAL)
 }
 
-// Writes what never was and all counts, and returns the status.
-fn tell_coverage<W: Write>(
+/// Writes what never was and all counts, with the places in the domain's text, and returns the exit status: `REFUSED`
+/// if something never was and that is asked for.
+///
+/// The cost is the length of the domain's text. The error is `Output` or `Memory`.
+pub fn tell_coverage<W: Write>(
     heap: Global,
+    domain: &Domain,
+    text: &[u8],
     strict: bool,
-    loaded: &LoadedDomain,
     coverage: &Coverage,
     output: &mut W,
 ) -> Result<u8, Fault<'static>>
     ensures { IfOk result (λ status. status ≤ 4) }
 {
-    let text = loaded.text.as_slice();
-    let Ok(CoverText { never, counts }) = cover_text(heap, &loaded.domain, text, coverage) else {
+    let Ok(CoverText { never, counts }) = cover_text(heap, domain, text, coverage) else {
         return Err(Fault::Memory);
     };
     if let Err(fault) = tell_text(never.as_slice(), output) {

@@ -5,15 +5,15 @@ use crate::audit::load_journal;
 use crate::fault::Fault;
 use crate::loading::load_domain;
 use show_pictures::{GraphParts, RunFiles, Window, tell_graph, tell_life};
-use smi_journal::read_journal;
+use smi_journal::{Entry, read_journal};
 use sml_domain::Domain;
 use sml_writer::Out;
 use std::alloc::{AllocError, Global};
 use std::fs::Files;
 use std::io::{BufWriter, Read, Write};
 
-// How many entries a picture shows well.
-const MANY_ENTRIES: usize = 2000;
+/// How many entries a picture shows well: where there are more, a page shows them better.
+pub const MANY_ENTRIES: usize = 2000;
 
 /// What `graph` is asked to draw. The texts are words of a command line.
 #[derive(Drop)]
@@ -129,6 +129,23 @@ fn draw_run<'a, W: Write>(
         Ok(read) => read,
         Err(error) => return Err(Fault::of_journal(path, error)),
     };
+    match draw_entries(heap, domain, options, path, journal.entries(), output) {
+        Ok(()) => Ok(journal.entries().len()),
+        Err(fault) => Err(fault),
+    }
+}
+
+/// Draws the run of the entries of a journal, to the end. The picture names the path of what they are of.
+///
+/// The cost is that of `tell_life`. The error is `Output` or `Memory`.
+pub fn draw_entries<'a, W: Write>(
+    heap: Global,
+    domain: &Domain,
+    options: &GraphOptions<'a>,
+    path: &'a str,
+    entries: &[Entry],
+    output: &mut W,
+) -> Result<(), Fault<'a>> {
     let Ok(mut writer) = BufWriter::new(heap, &mut *output) else {
         return Err(Fault::Memory);
     };
@@ -141,17 +158,14 @@ fn draw_run<'a, W: Write>(
             domain: options.file.as_bytes(),
             journal: path.as_bytes(),
         },
-        journal.entries(),
+        entries,
         Window {
             from: options.from,
             count: options.count,
         },
     );
     let failed = out.failed;
-    match finish(&mut writer, failed, drawn) {
-        Ok(()) => Ok(journal.entries().len()),
-        Err(fault) => Err(fault),
-    }
+    finish(&mut writer, failed, drawn)
 }
 
 // Writes out what is left of a picture.

@@ -46,6 +46,16 @@ pub(crate) fn explain_refused_log<W: Sink>(out: &mut Out<'_, W>, path: &str, ref
             path,
             "it has no room for more lines; what it holds can be looked at with `smirun step`",
         ),
+        LogRefusal::Moved => about(
+            out,
+            path,
+            "a log keeps its name while a manager writes it; once it has the name again, it can be resumed",
+        ),
+        LogRefusal::Changed => about(
+            out,
+            path,
+            "a manager alone writes its log; `--resume` tells whether what it holds now can be continued",
+        ),
     }
     out.say(b"\n");
 }

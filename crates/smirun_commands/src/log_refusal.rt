@@ -21,6 +21,10 @@ pub enum LogRefusal {
     InUse,
     /// With its next lines it would be longer than a schedule may be.
     Full,
+    /// Its path is no longer that of the file that the manager writes.
+    Moved,
+    /// The file has more or fewer bytes than the manager wrote.
+    Changed,
 }
 
 impl fmt::Display for LogRefusal {
@@ -37,6 +41,8 @@ impl fmt::Display for LogRefusal {
             LogRefusal::NoFile => f.write_str("is no file"),
             LogRefusal::InUse => f.write_str("is in use"),
             LogRefusal::Full => f.write_str("full"),
+            LogRefusal::Moved => f.write_str("was moved"),
+            LogRefusal::Changed => f.write_str("was written by another"),
         }
     }
 }

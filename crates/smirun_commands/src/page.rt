@@ -43,14 +43,17 @@ pub fn run_page<'a, R: Files + AllocGlobal, I: Read, W: Write>(
         Ok(bytes) => bytes,
         Err(fault) => return Err(fault),
     };
-    let shown = show_run(rt.alloc(), &domain, options, bytes.as_slice(), output);
+    let shown = page_of_bytes(rt.alloc(), &domain, options, bytes.as_slice(), output);
     drop(domain);
     drop(bytes);
     shown
 }
 
-// Judges a journal, and writes its page to the end.
-fn show_run<'a, W: Write>(
+/// Judges the bytes of a journal by a domain, and writes the page of that run to its end.
+///
+/// The cost is that of judging and of the page, which has the bytes. The error is the fault of the journal, by its path,
+/// `Output` or `Memory`.
+pub fn page_of_bytes<'a, W: Write>(
     heap: Global,
     domain: &Arc<Domain>,
     options: &PageOptions<'a>,

@@ -4,16 +4,18 @@ ghost use Rattle.smi_world.specs.World.{opening};
 ghost use Rattle.smirun_commands.specs.Paths.{IsReadAs};
 
 use crate::arriving::Arriving;
+use crate::continuing::{LogText, manager_after};
 use crate::host::LiveHost;
 use crate::in_turn::InTurn;
 use crate::inbox::{Inbox, read_all};
 use crate::lines::Lines;
 use crate::log::NoLog;
+use crate::log_watch::{LogSize, LogWatch};
 use crate::observer::LiveNotes;
 use crate::open_log::OpenLog;
 use crate::options::LiveOptions;
 use crate::preparing::{Prepared, prepare};
-use crate::resume::open_log;
+use crate::resume::{Opened, open_log};
 use crate::running::{run_manager, tell_remains};
 use crate::wanted_log::WantedLog;
 use smi_live::Manager;
@@ -21,6 +23,7 @@ use smirun_commands::{Advice, Fault, is_one_read};
 use sml_text::put;
 use std::alloc::{AllocError, Global};
 use std::io::{LineWriter, Read, Write};
+use std::sync::atomic::AtomicU64;
 use std::sync::{Arc, Wait};
 use std::thread;
 use std::thread::Threads;
@@ -56,7 +59,9 @@ pub fn run_live<'a, R: LiveHost, I: Read, W: Write, E: Write>(
     match begin(rt, options, &mut writer, advice) {
         Ok(begun) => {
             let mut feed = InTurn::new(rt.alloc(), &mut *input, &mut *errors);
-            run_begun(rt.alloc(), options, begun, &mut feed, &mut writer)
+            let ran = run_begun(rt.alloc(), options, begun, &mut feed, &mut writer);
+            advise_on_end(&ran, advice);
+            ran
         }
         Err(fault) => Err(fault),
     }
@@ -90,8 +95,19 @@ pub fn run_live_as_lines_come<
         return Err(Fault::Memory);
     };
     match begin(rt, options, &mut writer, advice) {
-        Ok(begun) => run_arriving(rt, options, begun, input, &mut writer, errors),
+        Ok(begun) => {
+            let ran = run_arriving(rt, options, begun, input, &mut writer, errors);
+            advise_on_end(&ran, advice);
+            ran
+        }
         Err(fault) => Err(fault),
+    }
+}
+
+// Advises on a log that a manager which ended so writes no more.
+fn advise_on_end(ran: &Result<(), Fault<'_>>, advice: &mut Advice) {
+    if let Err(Fault::Log(path, refusal)) = ran {
+        advice.of_refused_log(path, *refusal);
     }
 }
 
@@ -104,9 +120,13 @@ fn run_arriving<'a, R: LiveHost + 'static, I: Read + Send + Drop + 'static, W: W
     output: &mut W,
     errors: &mut E,
 ) -> Result<(), Fault<'a>> {
+    let watch = match begun.watch(options) {
+        Ok(watch) => watch,
+        Err(fault) => return Err(fault),
+    };
     match start_reader(*rt, rt.alloc(), input) {
         Ok(inbox) => {
-            let mut feed = Arriving::new(*rt, inbox, &mut *errors);
+            let mut feed = Arriving::new(*rt, inbox, watch, &mut *errors);
             run_begun(rt.alloc(), options, begun, &mut feed, output)
         }
         Err(_) => Err(Fault::Memory),
@@ -128,11 +148,28 @@ fn start_reader<R: Threads + Wait + Copy + Send + Drop + 'static, I: Read + Send
     }
 }
 
-// A manager that can continue, and its log.
+// A manager that can continue, and its log, with how many bytes that has.
 #[derive(Drop)]
 struct Begun<'a> {
     manager: Manager<LiveNotes<'a>>,
     log: Option<OpenLog>,
+    size: LogSize,
+}
+
+impl<'a> Begun<'a> {
+    // The watch of its log, if it has one.
+    fn watch(&self, options: &LiveOptions<'a>) -> Result<Option<LogWatch<'a>>, Fault<'a>> {
+        let (Some(path), Some(log)) = (options.log, &self.log) else {
+            return Ok(None);
+        };
+        match Arc::try_clone(&self.size) {
+            Ok(size) => match log.watch(path, size) {
+                Ok(watch) => Ok(Some(watch)),
+                Err(fault) => Err(fault),
+            },
+            Err(_) => Err(Fault::Memory),
+        }
+    }
 }
 
 // Makes a manager of the domain, and opens its log. What is to be told about a log that is resumed is written.
@@ -156,48 +193,59 @@ fn begin_log<'a, R: LiveHost, W: Write>(
     output: &mut W,
     advice: &mut Advice,
 ) -> Result<Begun<'a>, Fault<'a>>
-    requires { prepared.core.world ≡ opening prepared.core.setup }
+    requires opening { prepared.core.world ≡ opening prepared.core.setup }
+    requires starts { prepared.core.setup.max_starts ≡ options.now.max_starts }
 {
-    let Prepared { core, notes, first } = prepared;
-    let Ok(mut manager) = Manager::new(rt.alloc(), core, notes) else {
-        return Err(Fault::Memory);
-    };
     let mut told = Vec::new(rt.alloc());
-    match open_wanted(rt, options, &mut manager, first, &mut told, advice) {
-        Ok(log) if put(output, &told).is_ok() => {
-            let lines = match &log {
-                Some(log) => log.lines,
-                None => 0,
-            };
-            manager.begin(lines);
-            Ok(Begun { manager, log })
-        }
+    match open_wanted(rt, options, prepared, &mut told, advice) {
+        Ok((manager, log)) if put(output, &told).is_ok() => begun_with(rt.alloc(), manager, log),
         Ok(_) => Err(Fault::Output),
         Err(fault) => Err(fault),
     }
 }
 
-// Opens the log, if one is asked for.
+// A manager that continues after what its log has.
+fn begun_with<'a>(
+    alloc: Global,
+    mut manager: Manager<LiveNotes<'a>>,
+    log: Option<OpenLog>,
+) -> Result<Begun<'a>, Fault<'a>> {
+    let (bytes, lines, room) = match &log {
+        Some(log) => (log.size, log.lines, Some(log.room())),
+        None => (0, 0, None),
+    };
+    manager.begin(lines, room);
+    match Arc::new(alloc, AtomicU64::new(bytes as u64)) {
+        Ok(size) => Ok(Begun { manager, log, size }),
+        Err(_) => Err(Fault::Memory),
+    }
+}
+
+// A manager of what was prepared, and its log, if one is asked for.
 fn open_wanted<'a, R: LiveHost>(
     rt: &R,
     options: &LiveOptions<'a>,
-    manager: &mut Manager<LiveNotes<'a>>,
-    first: Vec<u8>,
+    prepared: Prepared<'a>,
     told: &mut Vec<u8>,
     advice: &mut Advice,
-) -> Result<Option<OpenLog>, Fault<'a>> {
+) -> Result<(Manager<LiveNotes<'a>>, Option<OpenLog>), Fault<'a>>
+    requires opening { prepared.core.world ≡ opening prepared.core.setup }
+    requires starts { prepared.core.setup.max_starts ≡ options.now.max_starts }
+{
     let Some(path) = options.log else {
-        return Ok(None);
+        return match manager_after(rt.alloc(), prepared, LogText::none(options.max_starts)) {
+            Ok(manager) => Ok((manager, None)),
+            Err(fault) => Err(fault),
+        };
     };
     let wanted = WantedLog {
         path,
-        first,
         resume: options.resume,
         sync: options.sync,
         max_starts: options.max_starts,
     };
-    match open_log(rt, &wanted, manager, told, advice) {
-        Ok(log) => Ok(Some(log)),
+    match open_log(rt, &wanted, prepared, told, advice) {
+        Ok(Opened { manager, log }) => Ok((manager, Some(log))),
         Err(fault) => Err(fault),
     }
 }
@@ -210,11 +258,15 @@ fn run_begun<'a, F: Lines, W: Write>(
     feed: &mut F,
     output: &mut W,
 ) -> Result<(), Fault<'a>> {
-    let Begun { mut manager, log } = begun;
+    let Begun {
+        mut manager,
+        log,
+        size,
+    } = begun;
     let path = options.log.unwrap_or("");
     let ran = match log {
         Some(log) => {
-            let mut kept = log.into_file(options.sync);
+            let mut kept = log.into_file(size, options.sync);
             run_manager(alloc, path, &mut manager, feed, &mut kept, output)
         }
         None => run_manager(alloc, path, &mut manager, feed, &mut NoLog, output),

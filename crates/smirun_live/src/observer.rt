@@ -2,11 +2,12 @@
 
 use crate::outside::explain_outside;
 use crate::standing::tell_accounts;
+use crate::warnings::Warnings;
 use explain_lines::{History, LineKind, SourceLine, explain_bad_line, explain_refused};
 use show_states::tell_standing;
 use smi_core::{Answer, Core, Lookout, Step, StepError, Taken};
 use smi_journal::Entry;
-use smi_live::Observer;
+use smi_live::{Observer, Unkept};
 use smi_live_accounts::Accounts;
 use sml_domain::{Domain, ObjId};
 use sml_writer::Out;
@@ -14,7 +15,8 @@ use std::alloc::{AllocError, Global};
 use std::sync::Arc;
 
 /// What the lines of a manager did so far, and what is to be told about them beside the output: why lines were refused,
-/// if that is asked for, and once, that as many actions were started as may be.
+/// if that is asked for; and each once, that the log or the starts are nine tenths full, that as many actions were
+/// started as may be, and that remarks are not kept.
 #[derive(Drop)]
 pub struct LiveNotes<'a> {
     alloc: Global,
@@ -23,15 +25,16 @@ pub struct LiveNotes<'a> {
     file: &'a str,
     log: &'a str,
     history: History,
-    // How many actions were started, and how many are at most.
-    starts: usize,
+    // How many actions are started at most.
     max_starts: usize,
-    is_limit_told: bool,
+    warnings: Warnings,
     // Whether it is explained why a line was refused, from when lines are made as they come, and what is still to be
     // told about that.
     wants_why: bool,
     explain: bool,
     why: Vec<u8>,
+    // Whether a remark came that is not kept.
+    has_lost_remark: bool,
 }
 
 impl<'a> LiveNotes<'a> {
@@ -52,24 +55,13 @@ impl<'a> LiveNotes<'a> {
             file,
             log,
             history,
-            starts: 0,
             max_starts,
-            is_limit_told: false,
+            warnings: Warnings::default(),
             wants_why,
             explain: false,
             why: Vec::new(alloc),
+            has_lost_remark: false,
         })
-    }
-
-    // Tells once that as many actions were started as may be.
-    fn tell_limit(&mut self, remark: &mut Vec<u8>) {
-        if self.starts < self.max_starts || self.is_limit_told {
-            return;
-        }
-        self.is_limit_told = true;
-        let mut out = Out::new(remark);
-        out.say(self.file.as_bytes());
-        out.say(b" limit\n");
     }
 
     /// Whether an action is open at an object.
@@ -99,14 +91,6 @@ fn told<'t>(log: &'t str, taken: Taken<'t>) -> SourceLine<'t> {
         number: taken.number,
         text: taken.text,
     }
-}
-
-// How many of the entries are starts.
-fn starts_in(entries: &[Entry]) -> usize {
-    entries
-        .iter()
-        .filter(|entry| matches!(entry, Entry::Start { .. }))
-        .count()
 }
 
 impl Lookout for LiveNotes<'_> {
@@ -140,7 +124,6 @@ impl Lookout for LiveNotes<'_> {
     ) {
         self.history
             .note(taken.number, core.domain(), step, answer, added);
-        self.starts = self.starts.saturating_add(starts_in(added));
         let Err(error) = answer else {
             return;
         };
@@ -167,15 +150,53 @@ fn explain_own_line(line: &SourceLine<'_>, why: &mut Vec<u8>) {
     out.say(b": the manager makes every `start` and every `go` by itself\n");
 }
 
+// Writes why a line is refused that is not kept.
+fn explain_unkept(line: &SourceLine<'_>, unkept: Unkept, why: &mut Vec<u8>) {
+    let mut out = Out::new(why);
+    out.say(line.file.as_bytes());
+    out.say(b":");
+    out.number(line.number as u64);
+    out.say(match unkept {
+        Unkept::Starts =>
+            b": as many actions were started as may be, so a request could never start\n",
+        Unkept::Room | Unkept::Remark => {
+            b": what is left of the log is for answers, faults and kills, and for the manager's own steps\n"
+        }
+    });
+}
+
 impl Observer for LiveNotes<'_> {
     fn begins(&mut self) {
         self.explain = self.wants_why;
     }
 
-    fn remark(&mut self, core: &Core, accounts: &Accounts, is_asked: bool, remark: &mut Vec<u8>) {
+    fn unkept(&mut self, taken: Taken<'_>, why: Unkept) {
+        if why == Unkept::Remark {
+            self.has_lost_remark = true;
+        } else if self.explain {
+            explain_unkept(&told(self.log, taken), why, &mut self.why);
+        }
+    }
+
+    fn remark(
+        &mut self,
+        core: &Core,
+        accounts: &Accounts,
+        room: Option<usize>,
+        is_asked: bool,
+        remark: &mut Vec<u8>,
+    ) {
         Out::new(&mut *remark).say(self.why.as_slice());
         self.why.clear();
-        self.tell_limit(remark);
+        if let Some(room) = room {
+            self.warnings.add_room(self.log, room, remark);
+        }
+        let starts = accounts.starts();
+        self.warnings
+            .add_starts(self.file, starts, self.max_starts, remark);
+        if self.has_lost_remark {
+            self.warnings.add_remarks(remark);
+        }
         if is_asked {
             let _ = self.tell_all(core, accounts, remark);
         }

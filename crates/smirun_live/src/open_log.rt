@@ -1,8 +1,12 @@
 //! The file of a log: how it is opened, and begun.
+ghost use Rattle.std.specs.Prelude.{◌≡◌, ◌-◌};
+ghost use Rattle.smi_core.specs.declared.schedule.TheConstants.{LONGEST_SCHEDULE};
 
 use crate::host::LiveHost;
 use crate::log::LogFile;
+use crate::log_watch::{Counted, LogSize, LogWatch};
 use crate::wanted_log::WantedLog;
+use smi_core::LONGEST_SCHEDULE;
 use smirun_commands::{Fault, LogRefusal, is_file_of};
 use std::fs::{File, OpenOptions, TryLockError};
 use std::io;
@@ -19,10 +23,29 @@ pub(crate) struct OpenLog {
 }
 
 impl OpenLog {
-    /// The log to write to, which is put on the disk if that is asked for.
-    pub(crate) fn into_file(self, is_synced: bool) -> LogFile<File> {
+    /// How many bytes it may still take.
+    pub(crate) fn room(&self) -> usize
+        ensures { result ≡ LONGEST_SCHEDULE - self.now.size }
+    {
+        LONGEST_SCHEDULE.saturating_sub(self.size)
+    }
+
+    /// The log to write to, which is put on the disk if that is asked for. Its size is counted from here on.
+    pub(crate) fn into_file(self, counted: LogSize, is_synced: bool) -> LogFile<Counted<File>> {
         let OpenLog { file, size, .. } = self;
-        LogFile::new(file, size, is_synced)
+        LogFile::new(Counted::new(file, counted), size, is_synced)
+    }
+
+    /// The watch of a log that has this path.
+    pub(crate) fn watch<'a>(
+        &self,
+        path: &'a str,
+        counted: LogSize,
+    ) -> Result<LogWatch<'a>, Fault<'a>> {
+        match LogWatch::new(path, &self.file, counted) {
+            Ok(watch) => Ok(watch),
+            Err(error) => Err(unwritten(path, error)),
+        }
     }
 }
 
@@ -68,20 +91,28 @@ fn is_log_file<R: LiveHost>(rt: &R, file: &File) -> io::Result<bool> {
 }
 
 /// Begins a log that is not resumed.
-pub(crate) fn begin_new<'a>(wanted: &WantedLog<'a>, file: File) -> Result<OpenLog, Fault<'a>> {
+pub(crate) fn begin_new<'a>(
+    wanted: &WantedLog<'a>,
+    first: &[u8],
+    file: File,
+) -> Result<OpenLog, Fault<'a>> {
     match file.metadata() {
-        Ok(known) if known.len() == 0 => begin(wanted, file),
+        Ok(known) if known.len() == 0 => begin(wanted, first, file),
         Ok(_) => Err(Fault::Log(wanted.path, LogRefusal::NotEmpty)),
         Err(error) => Err(unwritten(wanted.path, error)),
     }
 }
 
 /// Writes the first line of a log to its file, which is empty.
-pub(crate) fn begin<'a>(wanted: &WantedLog<'a>, mut file: File) -> Result<OpenLog, Fault<'a>> {
-    match write_line(&mut file, &wanted.first) {
+pub(crate) fn begin<'a>(
+    wanted: &WantedLog<'a>,
+    first: &[u8],
+    mut file: File,
+) -> Result<OpenLog, Fault<'a>> {
+    match write_line(&mut file, first) {
         Ok(()) => Ok(OpenLog {
             file,
-            size: wanted.first.len() + 1,
+            size: first.len() + 1,
             lines: 1,
         }),
         Err(error) => Err(unwritten(wanted.path, error)),

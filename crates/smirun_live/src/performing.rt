@@ -45,6 +45,7 @@ fn perform_line<'a>(
     ensures made { OnOk result (KeeperWrites LineWrites (keeper_of manager.old) line.now made.new.text.items
         (keeper_of manager.new)) }
     ensures reserved { is_reserved line.now ≡ true → 1 < number → result ≡ Err (Fault.BadLine path.entry number) }
+    ensures setup { manager.new.core.setup ≡ manager.old.core.setup }
 {
     if number > 1 && has_other_byte(line) {
         return Err(Fault::BadLine(path, number));
@@ -64,7 +65,9 @@ pub(crate) fn perform<'a>(
     manager: &mut Manager<LiveNotes<'a>>,
     text: &[u8],
 ) -> Result<(), Fault<'a>>
-    ensures { OnOk result ((out : List ℕ) × LogOutputs (keeper_of manager.old) text.now out (keeper_of manager.new)) }
+    ensures made { OnOk result ((out : List ℕ)
+        × LogOutputs (keeper_of manager.old) text.now out (keeper_of manager.new)) }
+    ensures setup { manager.new.core.setup ≡ manager.old.core.setup }
 {
     let mut made = Made::new(alloc);
     let mut rest = text;

@@ -20,9 +20,10 @@ use std::sync::Arc;
 // One byte more than a domain text may have, so that a text which is too long is seen to be so.
 const MOST_READ: u64 = MAX_TEXT as u64 + 1;
 
-/// A core in the opening world of its domain, what is noted of its lines, and the first line of its log.
+/// A domain, a core in its opening world, what is noted of its lines, and the first line of its log.
 #[derive(Drop)]
 pub(crate) struct Prepared<'a> {
+    pub(crate) domain: Arc<Domain>,
     pub(crate) core: Core,
     pub(crate) notes: LiveNotes<'a>,
     pub(crate) first: Vec<u8>,
@@ -34,7 +35,8 @@ pub(crate) fn prepare<'a, R: Files + AllocGlobal>(
     options: &LiveOptions<'a>,
     advice: &mut Advice,
 ) -> Result<Prepared<'a>, Fault<'a>>
-    ensures { IfOk result (λ made. made.core.world ≡ opening made.core.setup) }
+    ensures opening { IfOk result (λ made. made.core.world ≡ opening made.core.setup) }
+    ensures starts { IfOk result (λ made. made.core.setup.max_starts ≡ options.now.max_starts) }
 {
     match load_prefix(rt, &mut io::empty(), options.file, MOST_READ) {
         Ok(text) => prepare_advised(rt.alloc(), options, text.as_slice(), advice),
@@ -62,13 +64,14 @@ fn prepare_advised<'a>(
     prepared
 }
 
-// What a manager of the text of a domain file is made of.
-fn prepare_text<'a>(
+/// What a manager of the text of a domain file is made of.
+pub(crate) fn prepare_text<'a>(
     alloc: Global,
     options: &LiveOptions<'a>,
     text: &[u8],
 ) -> Result<Prepared<'a>, Fault<'a>>
     ensures domain { IfOk result (λ made. IsDomainOfText text.now made.core.setup.domain) }
+    ensures shared { IfOk result (λ made. arc_value made.domain ≡ made.core.setup.domain) }
     ensures limits { IfOk result (λ made. (made.core.setup.capacity ≡ options.now.capacity)
         × (made.core.setup.max_starts ≡ options.now.max_starts)) }
     ensures opening { IfOk result (λ made. made.core.world ≡ opening made.core.setup) }
@@ -92,6 +95,7 @@ fn prepare_domain<'a>(
     first: Vec<u8>,
 ) -> Result<Prepared<'a>, Fault<'a>>
     ensures domain { IfOk result (λ made. made.core.setup.domain ≡ arc_value domain) }
+    ensures shared { IfOk result (λ made. arc_value made.domain ≡ arc_value domain) }
     ensures limits { IfOk result (λ made. (made.core.setup.capacity ≡ options.now.capacity)
         × (made.core.setup.max_starts ≡ options.now.max_starts)) }
     ensures opening { IfOk result (λ made. made.core.world ≡ opening made.core.setup) }
@@ -100,8 +104,16 @@ fn prepare_domain<'a>(
     let Ok(notes) = notes_of(alloc, options, &domain) else {
         return Err(Fault::Memory);
     };
-    match Core::new(alloc, domain, options.capacity, options.max_starts) {
-        Ok(core) => Ok(Prepared { core, notes, first }),
+    let Ok(shared) = Arc::try_clone(&domain) else {
+        return Err(Fault::Memory);
+    };
+    match Core::new(alloc, shared, options.capacity, options.max_starts) {
+        Ok(core) => Ok(Prepared {
+            domain,
+            core,
+            notes,
+            first,
+        }),
         Err(error) => Err(Fault::of_core(error)),
     }
 }

@@ -1,40 +1,50 @@
-//! How a manager continues after the log that it is given.
-ghost use Rattle.std.specs.Prelude.{ℕ, List, OnOk};
-ghost use Rattle.smi_live.specs.Logs.{LogOutputs};
-ghost use Rattle.smi_live.specs.Managing.{keeper_of};
+//! How the log that a manager is given is opened, and what is told where it is resumed.
+ghost use Rattle.std.specs.Prelude.{◌≡◌};
+ghost use Rattle.smi_world.specs.World.{opening};
 
+use crate::continuing::{LogText, manager_after};
 use crate::host::LiveHost;
-use crate::log_lines::{first_line_refusal, lines_in, starts_in, whole_lines};
+use crate::log_lines::{lines_in, whole_lines};
 use crate::observer::LiveNotes;
 use crate::open_log::{OpenLog, begin, begin_new, open_locked, settle, unwritten};
-use crate::performing::perform;
+use crate::preparing::Prepared;
 use crate::wanted_log::WantedLog;
 use smi_core::LONGEST_SCHEDULE;
 use smi_journal::{Entry, tell_lines};
 use smi_live::Manager;
-use smirun_commands::{Advice, Fault, LogRefusal};
+use smirun_commands::{Advice, Fault};
 use sml_domain::ObjId;
 use std::alloc::{AllocError, Global};
 use std::fs::File;
 use std::io;
 use std::io::Read;
 
-/// Opens a log, and begins it, or makes again what it holds. What is to be written about that goes into `told`, and the
-/// advice on a log that is refused to `advice`.
+/// A manager that can continue, and its log.
+#[derive(Drop)]
+pub(crate) struct Opened<'a> {
+    pub(crate) manager: Manager<LiveNotes<'a>>,
+    pub(crate) log: OpenLog,
+}
+
+/// Opens a log, and begins it, or makes again what it holds, with a manager of what was prepared. What is to be written
+/// about that goes into `told`, and the advice on a log that is refused to `advice`.
 pub(crate) fn open_log<'a, R: LiveHost>(
     rt: &R,
     wanted: &WantedLog<'a>,
-    manager: &mut Manager<LiveNotes<'a>>,
+    prepared: Prepared<'a>,
     told: &mut Vec<u8>,
     advice: &mut Advice,
-) -> Result<OpenLog, Fault<'a>> {
+) -> Result<Opened<'a>, Fault<'a>>
+    requires opening { prepared.core.world ≡ opening prepared.core.setup }
+    requires starts { wanted.now.max_starts ≡ prepared.core.setup.max_starts }
+{
     let opened = match open_locked(rt, wanted) {
-        Ok(file) if wanted.resume => resume(rt.alloc(), wanted, file, manager, told, advice),
-        Ok(file) => begin_new(wanted, file),
+        Ok(file) if wanted.resume => resume(rt.alloc(), wanted, file, prepared, told, advice),
+        Ok(file) => begin_log(rt.alloc(), wanted, file, prepared),
         Err(fault) => Err(fault),
     };
     let settled = match opened {
-        Ok(log) => settle(rt, wanted, log),
+        Ok(opened) => settle_opened(rt, wanted, opened),
         Err(fault) => Err(fault),
     };
     if let Err(Fault::Log(_, refusal)) = &settled {
@@ -43,18 +53,59 @@ pub(crate) fn open_log<'a, R: LiveHost>(
     settled
 }
 
+// Puts what a log has on the disk, if that is asked for.
+fn settle_opened<'a, R: LiveHost>(
+    rt: &R,
+    wanted: &WantedLog<'a>,
+    opened: Opened<'a>,
+) -> Result<Opened<'a>, Fault<'a>> {
+    let Opened { manager, log } = opened;
+    match settle(rt, wanted, log) {
+        Ok(log) => Ok(Opened { manager, log }),
+        Err(fault) => Err(fault),
+    }
+}
+
+// Begins a log, with a manager of what was prepared.
+fn begin_log<'a>(
+    alloc: Global,
+    wanted: &WantedLog<'a>,
+    file: File,
+    prepared: Prepared<'a>,
+) -> Result<Opened<'a>, Fault<'a>>
+    requires opening { prepared.core.world ≡ opening prepared.core.setup }
+    requires starts { wanted.now.max_starts ≡ prepared.core.setup.max_starts }
+{
+    let log = match begin_new(wanted, &prepared.first, file) {
+        Ok(log) => log,
+        Err(fault) => return Err(fault),
+    };
+    let text = LogText {
+        path: wanted.path,
+        text: &[],
+        max_starts: wanted.max_starts,
+    };
+    match manager_after(alloc, prepared, text) {
+        Ok(manager) => Ok(Opened { manager, log }),
+        Err(fault) => Err(fault),
+    }
+}
+
 // Makes again what a log holds.
 fn resume<'a>(
     alloc: Global,
     wanted: &WantedLog<'a>,
     mut file: File,
-    manager: &mut Manager<LiveNotes<'a>>,
+    prepared: Prepared<'a>,
     told: &mut Vec<u8>,
     advice: &mut Advice,
-) -> Result<OpenLog, Fault<'a>> {
+) -> Result<Opened<'a>, Fault<'a>>
+    requires opening { prepared.core.world ≡ opening prepared.core.setup }
+    requires starts { wanted.now.max_starts ≡ prepared.core.setup.max_starts }
+{
     match read_log(alloc, wanted.path, &mut file) {
         Ok(text) => {
-            let resumed = resume_text(alloc, wanted, file, &text, manager, told);
+            let resumed = resume_text(alloc, wanted, file, &text, prepared, told);
             if let Err(Fault::BadLine(_, number)) = &resumed {
                 advice.of_bad_log(wanted.path, &text, *number);
             }
@@ -64,44 +115,55 @@ fn resume<'a>(
     }
 }
 
-// Why a log, whose whole lines are these, is refused before they are made again: by its first line, and then by its
-// starts.
-fn refusal_of(wanted: &WantedLog<'_>, text: &[u8], whole: &[u8]) -> Option<LogRefusal> {
-    if let Some(refusal) = first_line_refusal(text, whole.len(), &wanted.first) {
-        return Some(refusal);
-    }
-    let starts = starts_in(whole);
-    if starts > wanted.max_starts {
-        return Some(LogRefusal::Starts(starts as u64));
-    }
-    None
-}
-
-// Makes again what a log holds, whose text was read. A torn line at its end is cut off when all else was looked at; of
-// a torn first line nothing is left.
+// Makes again what a log holds, whose text was read, and tells how all stands then. A torn line at its end is cut off
+// when all else was looked at; of a torn first line nothing is left.
 fn resume_text<'a>(
     alloc: Global,
     wanted: &WantedLog<'a>,
     file: File,
     text: &[u8],
-    manager: &mut Manager<LiveNotes<'a>>,
+    prepared: Prepared<'a>,
     told: &mut Vec<u8>,
+) -> Result<Opened<'a>, Fault<'a>>
+    requires opening { prepared.core.world ≡ opening prepared.core.setup }
+    requires starts { wanted.now.max_starts ≡ prepared.core.setup.max_starts }
+{
+    let Ok(first) = Vec::from_slice(alloc, &prepared.first) else {
+        return Err(Fault::Memory);
+    };
+    let log = LogText {
+        path: wanted.path,
+        text,
+        max_starts: wanted.max_starts,
+    };
+    let manager = match manager_after(alloc, prepared, log) {
+        Ok(manager) => manager,
+        Err(fault) => return Err(fault),
+    };
+    if tell_again(&manager, told).is_err() {
+        return Err(Fault::Memory);
+    }
+    match whole_log(wanted, &first, file, text) {
+        Ok(log) => Ok(Opened { manager, log }),
+        Err(fault) => Err(fault),
+    }
+}
+
+// Cuts off what stands after the whole lines of a log, and begins one that has none.
+fn whole_log<'a>(
+    wanted: &WantedLog<'a>,
+    first: &[u8],
+    file: File,
+    text: &[u8],
 ) -> Result<OpenLog, Fault<'a>> {
     let size = whole_lines(text);
-    let whole = text.split_at(size).0;
-    if let Some(refusal) = refusal_of(wanted, text, whole) {
-        return Err(Fault::Log(wanted.path, refusal));
-    }
-    if let Err(fault) = make_again(alloc, wanted.path, whole, manager, told) {
-        return Err(fault);
-    }
     if let Err(error) = cut_off(&file, text.len(), size) {
         return Err(unwritten(wanted.path, error));
     }
     if size == 0 {
-        return begin(wanted, file);
+        return begin(wanted, first, file);
     }
-    let lines = lines_in(whole);
+    let lines = lines_in(text);
     Ok(OpenLog { file, size, lines })
 }
 
@@ -111,25 +173,6 @@ fn cut_off(file: &File, length: usize, size: usize) -> io::Result<()> {
         file.set_len(size as u64)
     } else {
         Ok(())
-    }
-}
-
-// Makes the lines of a log again, and tells how all stands then.
-fn make_again<'a>(
-    alloc: Global,
-    path: &'a str,
-    text: &[u8],
-    manager: &mut Manager<LiveNotes<'a>>,
-    told: &mut Vec<u8>,
-) -> Result<(), Fault<'a>>
-    ensures { OnOk result ((out : List ℕ) × LogOutputs (keeper_of manager.old) text.now out (keeper_of manager.new)) }
-{
-    if let Err(fault) = perform(alloc, path, manager, text) {
-        return Err(fault);
-    }
-    match tell_again(manager, told) {
-        Ok(()) => Ok(()),
-        Err(_) => Err(Fault::Memory),
     }
 }
 

@@ -1,11 +1,9 @@
 //! The log that is asked for.
 
 /// The log that is asked for.
-#[derive(Drop)]
+#[derive(Clone, Copy)]
 pub(crate) struct WantedLog<'a> {
     pub(crate) path: &'a str,
-    /// Its first line, without its line feed.
-    pub(crate) first: Vec<u8>,
     /// Whether what it holds is made again first.
     pub(crate) resume: bool,
     /// Whether what is kept is put on the disk.

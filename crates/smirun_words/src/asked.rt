@@ -14,6 +14,7 @@ use smirun_commands::{
     run_graph, run_lint, run_list, run_page, run_print, run_states, run_step,
 };
 use smirun_live::{LiveHost, LiveOptions, run_live, run_live_as_lines_come};
+use smirun_logs::{LogCommand, run_over_log};
 use smirun_run::{CheckOptions, Host, RunOptions, run_check_lines, run_run};
 use std::alloc::Global;
 use std::io;
@@ -69,6 +70,8 @@ pub enum AskedCommand<'a> {
     Cover(CoverOptions<'a>),
     /// To judge a journal by a domain.
     Audit(AuditOptions<'a>),
+    /// To do one of these five with the log of a live manager.
+    OfLog(LogCommand<'a>),
     /// To write the completions of a shell, or the manual page.
     Completions(CompletionFile),
 }
@@ -89,6 +92,7 @@ impl AskedCommand<'_> {
             AskedCommand::Graph(options) => options.explain,
             AskedCommand::States(options) => options.explain,
             AskedCommand::Cover(options) => options.explain,
+            AskedCommand::OfLog(command) => command.explain(),
             AskedCommand::Page(_) | AskedCommand::Completions(_) => false,
         }
     }
@@ -145,6 +149,7 @@ fn perform_advised<R: Host + LiveHost, I: Read, W: Write, E: Write>(
         AskedCommand::Run(options) => run(rt, options, input, output, errors, advice),
         AskedCommand::Live(options) => live(rt, options, input, output, errors, advice),
         AskedCommand::Audit(options) => audit(rt, options, input, output, errors, advice),
+        AskedCommand::OfLog(command) => of_log(rt, command, input, output, errors, advice),
         AskedCommand::Completions(file) => completions(rt.alloc(), *file, output, errors),
     }
 }
@@ -359,6 +364,21 @@ fn audit<R: Host + LiveHost, I: Read, W: Write, E: Write>(
     ensures { result ≤ 4 }
 {
     let outcome = run_audit(rt, options, input, output, errors, advice);
+    status_of(&outcome, errors)
+}
+
+// Does with a log what a command does with a journal.
+fn of_log<R: Host + LiveHost, I: Read, W: Write, E: Write>(
+    rt: &R,
+    command: &LogCommand<'_>,
+    input: &mut I,
+    output: &mut W,
+    errors: &mut E,
+    advice: &mut Advice,
+) -> u8
+    ensures { result ≤ 4 }
+{
+    let outcome = run_over_log(rt, command, input, output, errors, advice);
     status_of(&outcome, errors)
 }
 

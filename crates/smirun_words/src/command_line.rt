@@ -13,6 +13,7 @@ use smirun_commands::{
     STANDARD_INPUT, StatesOptions, StepOptions,
 };
 use smirun_live::LiveOptions;
+use smirun_logs::LogCommand;
 use smirun_run::{CheckOptions, RunNumbers, RunOptions};
 use std::alloc::{AllocError, Global};
 
@@ -146,6 +147,20 @@ fn inputs(asked: &AskedCommand<'_>) -> usize {
         AskedCommand::Live(_) => 1,
         AskedCommand::Completions(_) => 0,
         AskedCommand::Audit(options) => inputs_in(&[options.file, options.journal]),
+        AskedCommand::OfLog(command) => log_inputs(command),
+    }
+}
+
+// How many files are to be standard input where a log is asked about.
+fn log_inputs(command: &LogCommand<'_>) -> usize {
+    match command {
+        LogCommand::States(options) => inputs_in(&[options.file, options.journal]),
+        LogCommand::Audit(options) => inputs_in(&[options.file, options.journal]),
+        LogCommand::Page(options) => inputs_in(&[options.file, options.journal]),
+        LogCommand::Graph(options) => inputs_in(&[options.file, options.journal.unwrap_or("")]),
+        LogCommand::Cover(options) => {
+            inputs_in(&[options.file]).saturating_add(inputs_in(options.journals.as_slice()))
+        }
     }
 }
 
@@ -241,33 +256,58 @@ fn file_to_list<'a>(list: &ArgMatches<'a>, terminals: Terminals) -> Option<Asked
     })
 }
 
+// The path of a journal, or of the log that stands in its place.
+fn run_path<'a>(command: &ArgMatches<'a>) -> Option<&'a str> {
+    command.get_str("JOURNAL").or(command.get_str("log"))
+}
+
+// Whether a log stands in the place of a journal.
+fn is_of_log(command: &ArgMatches<'_>) -> bool {
+    command.get_str("log").is_some()
+}
+
 fn what_to_draw<'a>(graph: &ArgMatches<'a>, terminals: Terminals) -> Option<AskedCommand<'a>> {
-    Some(AskedCommand::Graph(GraphOptions {
+    let options = GraphOptions {
         file: graph.get_str("FILE")?,
-        journal: graph.get_str("JOURNAL"),
+        journal: run_path(graph),
         objects: graph.get_flag("objects"),
         members: graph.get_flag("members"),
         from: graph.get_one::<usize>("from")?,
         count: graph.get_one::<usize>("count")?,
         explain: explains(graph, terminals),
-    }))
+    };
+    Some(if is_of_log(graph) {
+        AskedCommand::OfLog(LogCommand::Graph(options))
+    } else {
+        AskedCommand::Graph(options)
+    })
 }
 
 fn run_to_show<'a>(page: &ArgMatches<'a>) -> Option<AskedCommand<'a>> {
-    Some(AskedCommand::Page(PageOptions {
+    let options = PageOptions {
         file: page.get_str("FILE")?,
-        journal: page.get_str("JOURNAL")?,
-    }))
+        journal: run_path(page)?,
+    };
+    Some(if is_of_log(page) {
+        AskedCommand::OfLog(LogCommand::Page(options))
+    } else {
+        AskedCommand::Page(options)
+    })
 }
 
 fn states_to_tell<'a>(states: &ArgMatches<'a>, terminals: Terminals) -> Option<AskedCommand<'a>> {
-    Some(AskedCommand::States(StatesOptions {
+    let options = StatesOptions {
         file: states.get_str("FILE")?,
-        journal: states.get_str("JOURNAL")?,
+        journal: run_path(states)?,
         at: states.get_one::<usize>("at"),
         with: states.get_one::<usize>("with"),
         explain: explains(states, terminals),
-    }))
+    };
+    Some(if is_of_log(states) {
+        AskedCommand::OfLog(LogCommand::States(options))
+    } else {
+        AskedCommand::States(options)
+    })
 }
 
 fn journals_to_count<'a>(
@@ -278,15 +318,20 @@ fn journals_to_count<'a>(
     let Some(file) = cover.get_str("FILE") else {
         return Ok(None);
     };
-    let Some(journals) = cover.get_strs("JOURNAL") else {
+    let Some(runs) = cover.get_strs("JOURNAL").or(cover.get_strs("log")) else {
         return Ok(None);
     };
-    Ok(Some(AskedCommand::Cover(CoverOptions {
+    let options = CoverOptions {
         file,
-        journals: journals.to_vec(alloc)?,
+        journals: runs.to_vec(alloc)?,
         strict: cover.get_flag("strict"),
         explain: explains(cover, terminals),
-    })))
+    };
+    Ok(Some(if cover.get_strs("log").is_some() {
+        AskedCommand::OfLog(LogCommand::Cover(options))
+    } else {
+        AskedCommand::Cover(options)
+    }))
 }
 
 fn schedule_to_run<'a>(step: &ArgMatches<'a>, terminals: Terminals) -> Option<AskedCommand<'a>> {
@@ -339,11 +384,16 @@ fn manager_to_run<'a>(live: &ArgMatches<'a>, terminals: Terminals) -> Option<Ask
 }
 
 fn journal_to_judge<'a>(audit: &ArgMatches<'a>, terminals: Terminals) -> Option<AskedCommand<'a>> {
-    Some(AskedCommand::Audit(AuditOptions {
+    let options = AuditOptions {
         file: audit.get_str("FILE")?,
-        journal: audit.get_str("JOURNAL")?,
+        journal: run_path(audit)?,
         explain: explains(audit, terminals),
-    }))
+    };
+    Some(if is_of_log(audit) {
+        AskedCommand::OfLog(LogCommand::Audit(options))
+    } else {
+        AskedCommand::Audit(options)
+    })
 }
 
 fn file_to_complete<'a>(completions: &ArgMatches<'a>) -> Option<AskedCommand<'a>> {

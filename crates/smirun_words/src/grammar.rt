@@ -1,36 +1,108 @@
 //! The commands of the program and their arguments.
 
 use crate::help;
-use crate::help::audit::{AUDIT, AUDIT_EXAMPLES, AUDIT_MORE, EXPLAIN, JOURNAL};
-use crate::help::check::{
-    CHECK, CHECK_EXAMPLES, CHECK_MORE, CHECKED_SCHEDULE, CHECKED_SCRIPT, FILES,
-};
-use crate::help::completions::{COMPLETIONS, COMPLETIONS_EXAMPLES, COMPLETIONS_MORE, SHELL};
-use crate::help::cover::{COUNTED_JOURNALS, COVER, COVER_EXAMPLES, COVER_MORE, COVER_STRICT};
-use crate::help::graph::{
-    COUNT, DRAWN_JOURNAL, FROM, GRAPH, GRAPH_EXAMPLES, GRAPH_MORE, MEMBERS, OBJECTS,
-};
-use crate::help::lint::{ALL, LINT, LINT_EXAMPLES, LINT_MORE, LINT_STRICT, LINTED, WHY_SENSELESS};
-use crate::help::list::{LIST, LIST_EXAMPLES, LIST_MORE};
-use crate::help::live::{
-    IN_TURN, KEPT_LOG, LIVE, LIVE_EXAMPLES, LIVE_FILE, LIVE_MORE, RESUME, SYNC,
-};
-use crate::help::page::{PAGE, PAGE_EXAMPLES, PAGE_MORE, SHOWN_JOURNAL};
-use crate::help::print::{COMPARE, KEEP, PRINT, PRINT_EXAMPLES, PRINT_MORE, WHY_DIFFERS};
-use crate::help::run::{
-    PROGRESS, RUN, RUN_EXAMPLES, RUN_JOURNAL, RUN_MORE, RUN_STATES, RUN_STRICT, SCRIPT, WORKERS,
-};
-use crate::help::states::{AT, STATES_COMMAND, STATES_EXAMPLES, STATES_MORE, TOLD_JOURNAL, WITH};
-use crate::help::step::{
-    CAPACITY, KEPT_JOURNAL, SCHEDULE, STARTS, STATES, STEP, STEP_EXAMPLES, STEP_MORE, STRICT,
-};
-use crate::help::{ArgumentHelp, FILE, JSON, NO_EXPLAIN, WHY_LINES, WHY_REFUSED, WHY_TEXTS};
-use crate::maker::{HelpLength, Maker};
-use clap::{Arg, ArgAction, Command};
+use crate::help::ArgumentHelp;
+use crate::help::FILE;
+use crate::help::JSON;
+use crate::help::LOG;
+use crate::help::LOGS;
+use crate::help::NO_EXPLAIN;
+use crate::help::WHY_LINES;
+use crate::help::WHY_REFUSED;
+use crate::help::WHY_TEXTS;
+use crate::help::audit::AUDIT;
+use crate::help::audit::AUDIT_EXAMPLES;
+use crate::help::audit::AUDIT_MORE;
+use crate::help::audit::EXPLAIN;
+use crate::help::audit::JOURNAL;
+use crate::help::check::CHECK;
+use crate::help::check::CHECK_EXAMPLES;
+use crate::help::check::CHECK_MORE;
+use crate::help::check::CHECKED_SCHEDULE;
+use crate::help::check::CHECKED_SCRIPT;
+use crate::help::check::FILES;
+use crate::help::completions::COMPLETIONS;
+use crate::help::completions::COMPLETIONS_EXAMPLES;
+use crate::help::completions::COMPLETIONS_MORE;
+use crate::help::completions::SHELL;
+use crate::help::cover::COUNTED_JOURNALS;
+use crate::help::cover::COVER;
+use crate::help::cover::COVER_EXAMPLES;
+use crate::help::cover::COVER_MORE;
+use crate::help::cover::COVER_STRICT;
+use crate::help::graph::COUNT;
+use crate::help::graph::DRAWN_JOURNAL;
+use crate::help::graph::FROM;
+use crate::help::graph::GRAPH;
+use crate::help::graph::GRAPH_EXAMPLES;
+use crate::help::graph::GRAPH_MORE;
+use crate::help::graph::MEMBERS;
+use crate::help::graph::OBJECTS;
+use crate::help::lint::ALL;
+use crate::help::lint::LINT;
+use crate::help::lint::LINT_EXAMPLES;
+use crate::help::lint::LINT_MORE;
+use crate::help::lint::LINT_STRICT;
+use crate::help::lint::LINTED;
+use crate::help::lint::WHY_SENSELESS;
+use crate::help::list::LIST;
+use crate::help::list::LIST_EXAMPLES;
+use crate::help::list::LIST_MORE;
+use crate::help::live::IN_TURN;
+use crate::help::live::KEPT_LOG;
+use crate::help::live::LIVE;
+use crate::help::live::LIVE_EXAMPLES;
+use crate::help::live::LIVE_FILE;
+use crate::help::live::LIVE_MORE;
+use crate::help::live::RESUME;
+use crate::help::live::SYNC;
+use crate::help::page::PAGE;
+use crate::help::page::PAGE_EXAMPLES;
+use crate::help::page::PAGE_MORE;
+use crate::help::page::SHOWN_JOURNAL;
+use crate::help::print::COMPARE;
+use crate::help::print::KEEP;
+use crate::help::print::PRINT;
+use crate::help::print::PRINT_EXAMPLES;
+use crate::help::print::PRINT_MORE;
+use crate::help::print::WHY_DIFFERS;
+use crate::help::run::PROGRESS;
+use crate::help::run::RUN;
+use crate::help::run::RUN_EXAMPLES;
+use crate::help::run::RUN_JOURNAL;
+use crate::help::run::RUN_MORE;
+use crate::help::run::RUN_STATES;
+use crate::help::run::RUN_STRICT;
+use crate::help::run::SCRIPT;
+use crate::help::run::WORKERS;
+use crate::help::states::AT;
+use crate::help::states::STATES_COMMAND;
+use crate::help::states::STATES_EXAMPLES;
+use crate::help::states::STATES_MORE;
+use crate::help::states::TOLD_JOURNAL;
+use crate::help::states::WITH;
+use crate::help::step::CAPACITY;
+use crate::help::step::KEPT_JOURNAL;
+use crate::help::step::SCHEDULE;
+use crate::help::step::STARTS;
+use crate::help::step::STATES;
+use crate::help::step::STEP;
+use crate::help::step::STEP_EXAMPLES;
+use crate::help::step::STEP_MORE;
+use crate::help::step::STRICT;
+use crate::maker::HelpLength;
+use crate::maker::Maker;
+use clap::Arg;
+use clap::ArgAction;
+use clap::ArgGroup;
+use clap::Command;
 use show_completions::CompletionFile;
-use smirun_commands::{LONGEST_JOURNAL, MAX_CAPACITY, MAX_STARTS};
+use smirun_commands::LONGEST_JOURNAL;
+use smirun_commands::MAX_CAPACITY;
+use smirun_commands::MAX_STARTS;
 use smirun_run::MAX_WORKERS;
-use std::alloc::{AllocError, Global};
+use std::alloc::AllocError;
+use std::alloc::Global;
 
 // The version of the program, and the toolchain that it is proved with: what `--version` writes.
 const VERSION: &str = "0.1.0 (proved with rattle-kit-13f logic dac8208d650f15bf)";
@@ -85,6 +157,31 @@ fn with_argument<'a>(
     command?.arg(made?)
 }
 
+// Adds a journal and in its place the log of a live manager: one of them, and if it is required, no less.
+fn with_run<'a>(
+    maker: Maker,
+    command: Result<Command<'a>, AllocError>,
+    journal: Arg<'a>,
+    log: Arg<'a>,
+    is_required: bool,
+) -> Result<Command<'a>, AllocError> {
+    let command = with_argument(command, Ok(journal));
+    let command = with_argument(command, Ok(log));
+    with_group(command, run_group(maker.alloc, is_required))
+}
+
+fn with_group<'a>(
+    command: Result<Command<'a>, AllocError>,
+    made: Result<ArgGroup<'a>, AllocError>,
+) -> Result<Command<'a>, AllocError> {
+    command?.group(made?)
+}
+
+fn run_group<'a>(alloc: Global, is_required: bool) -> Result<ArgGroup<'a>, AllocError> {
+    let group = ArgGroup::new(alloc, "run").required(is_required);
+    group.arg("JOURNAL")?.arg("log")
+}
+
 fn check_command<'a>(maker: Maker) -> Result<Command<'a>, AllocError> {
     let command = Ok(maker.command("check", CHECK, CHECK_EXAMPLES, CHECK_MORE));
     let command = with_argument(command, Ok(maker.required("FILE", FILES).num_args(1..)));
@@ -123,7 +220,8 @@ fn list_command<'a>(maker: Maker) -> Result<Command<'a>, AllocError> {
 fn graph_command<'a>(maker: Maker) -> Result<Command<'a>, AllocError> {
     let command = Ok(maker.command("graph", GRAPH, GRAPH_EXAMPLES, GRAPH_MORE));
     let command = with_argument(command, Ok(file(maker)));
-    let command = with_argument(command, Ok(maker.argument("JOURNAL", DRAWN_JOURNAL)));
+    let journal = maker.argument("JOURNAL", DRAWN_JOURNAL);
+    let command = with_run(maker, command, journal, log(maker), false);
     let command = with_argument(command, objects(maker));
     let command = with_argument(command, members(maker));
     let command = with_argument(command, from(maker));
@@ -135,13 +233,15 @@ fn graph_command<'a>(maker: Maker) -> Result<Command<'a>, AllocError> {
 fn page_command<'a>(maker: Maker) -> Result<Command<'a>, AllocError> {
     let command = Ok(maker.command("page", PAGE, PAGE_EXAMPLES, PAGE_MORE));
     let command = with_argument(command, Ok(file(maker)));
-    with_argument(command, Ok(maker.required("JOURNAL", SHOWN_JOURNAL)))
+    let journal = maker.argument("JOURNAL", SHOWN_JOURNAL);
+    with_run(maker, command, journal, log(maker), true)
 }
 
 fn states_command<'a>(maker: Maker) -> Result<Command<'a>, AllocError> {
     let command = Ok(maker.command("states", STATES_COMMAND, STATES_EXAMPLES, STATES_MORE));
     let command = with_argument(command, Ok(file(maker)));
-    let command = with_argument(command, Ok(maker.required("JOURNAL", TOLD_JOURNAL)));
+    let journal = maker.argument("JOURNAL", TOLD_JOURNAL);
+    let command = with_run(maker, command, journal, log(maker), true);
     let command = with_argument(command, Ok(line_number(maker, "at", "N", AT)));
     let command = with_argument(
         command,
@@ -154,10 +254,8 @@ fn states_command<'a>(maker: Maker) -> Result<Command<'a>, AllocError> {
 fn cover_command<'a>(maker: Maker) -> Result<Command<'a>, AllocError> {
     let command = Ok(maker.command("cover", COVER, COVER_EXAMPLES, COVER_MORE));
     let command = with_argument(command, Ok(file(maker)));
-    let command = with_argument(
-        command,
-        Ok(maker.required("JOURNAL", COUNTED_JOURNALS).num_args(1..)),
-    );
+    let journals = maker.argument("JOURNAL", COUNTED_JOURNALS).num_args(1..);
+    let command = with_run(maker, command, journals, logs(maker), true);
     let command = with_argument(command, Ok(maker.flag("strict", COVER_STRICT)));
     let command = with_argument(command, Ok(explain(maker, WHY_TEXTS)));
     with_argument(command, no_explain(maker))
@@ -209,7 +307,8 @@ fn live_command<'a>(maker: Maker) -> Result<Command<'a>, AllocError> {
 fn audit_command<'a>(maker: Maker) -> Result<Command<'a>, AllocError> {
     let command = Ok(maker.command("audit", AUDIT, AUDIT_EXAMPLES, AUDIT_MORE));
     let command = with_argument(command, Ok(file(maker)));
-    let command = with_argument(command, Ok(maker.required("JOURNAL", JOURNAL)));
+    let journal = maker.argument("JOURNAL", JOURNAL);
+    let command = with_run(maker, command, journal, log(maker), true);
     let command = with_argument(command, Ok(explain(maker, EXPLAIN)));
     let command = with_argument(command, no_explain(maker));
     with_argument(command, Ok(json(maker)))
@@ -253,8 +352,19 @@ fn json<'a>(maker: Maker) -> Arg<'a> {
     maker.flag("json", JSON)
 }
 
+fn log<'a>(maker: Maker) -> Arg<'a> {
+    maker.option("log", "LOG", LOG)
+}
+
+fn logs<'a>(maker: Maker) -> Arg<'a> {
+    maker.option("log", "LOG", LOGS).action(ArgAction::Append)
+}
+
 fn objects<'a>(maker: Maker) -> Result<Arg<'a>, AllocError> {
-    maker.flag("objects", OBJECTS).conflicts_with("JOURNAL")
+    maker
+        .flag("objects", OBJECTS)
+        .conflicts_with("JOURNAL")?
+        .conflicts_with("log")
 }
 
 fn members<'a>(maker: Maker) -> Result<Arg<'a>, AllocError> {
@@ -264,13 +374,13 @@ fn members<'a>(maker: Maker) -> Result<Arg<'a>, AllocError> {
 fn from<'a>(maker: Maker) -> Result<Arg<'a>, AllocError> {
     line_number(maker, "from", "N", FROM)
         .default_value("1")
-        .requires_arg("JOURNAL")
+        .requires_arg("run")
 }
 
 fn count<'a>(maker: Maker) -> Result<Arg<'a>, AllocError> {
     line_number(maker, "count", "M", COUNT)
         .default_value("1000")
-        .requires_arg("JOURNAL")
+        .requires_arg("run")
 }
 
 fn line_number<'a>(

@@ -59,6 +59,16 @@ pub const FILE: ArgumentHelp = ArgumentHelp {
     full: "The domain file, or - for standard input",
 };
 
+pub const LOG: ArgumentHelp = ArgumentHelp {
+    short: "The log of a live manager, in the place of JOURNAL",
+    full: "The log of a manager of FILE, in the place of JOURNAL: a text as `live --log` writes it, which is performed",
+};
+
+pub const LOGS: ArgumentHelp = ArgumentHelp {
+    short: "A log of a live manager, in the place of journals",
+    full: "A log of a manager of FILE, in the place of journals: a text as `live --log` writes it, which is performed",
+};
+
 pub const JSON: ArgumentHelp = ArgumentHelp {
     short: "Write each line as a JSON object",
     full: "Writes each line of standard output as a JSON object on a line, with the words as its fields",
@@ -70,8 +80,8 @@ pub const WHY_REFUSED: ArgumentHelp = ArgumentHelp {
 };
 
 pub const WHY_TEXTS: ArgumentHelp = ArgumentHelp {
-    short: "Say on standard error why FILE or JOURNAL is refused",
-    full: "Say on standard error why FILE or JOURNAL is refused: line, column, and what could stand there instead",
+    short: "Say on standard error why a text is refused",
+    full: "Say on standard error why a text is refused: line, column, and what could stand there instead",
 };
 
 pub const WHY_LINES: ArgumentHelp = ArgumentHelp {

@@ -21,18 +21,18 @@ _smirun() {
             options="--explain --no-explain --json --help"
             ;;
         graph)
-            options="--objects --members --from --count --explain --no-explain --help"
+            options="--log --objects --members --from --count --explain --no-explain --help"
             numbers="--from --count"
             ;;
         page)
-            options="--help"
+            options="--log --help"
             ;;
         states)
-            options="--at --with --explain --no-explain --help"
+            options="--log --at --with --explain --no-explain --help"
             numbers="--at --with"
             ;;
         cover)
-            options="--strict --explain --no-explain --help"
+            options="--log --strict --explain --no-explain --help"
             ;;
         step)
             options="--capacity --max-starts --journal --explain --no-explain --strict --states --json --help"
@@ -47,7 +47,7 @@ _smirun() {
             numbers="--capacity --max-starts"
             ;;
         audit)
-            options="--explain --no-explain --json --help"
+            options="--log --explain --no-explain --json --help"
             ;;
         completions)
             options="--help"

@@ -9,6 +9,8 @@ mod feed;
 #[cfg(test)]
 mod late;
 #[cfg(test)]
+mod limits;
+#[cfg(test)]
 mod live_rows;
 #[cfg(test)]
 mod managing;

@@ -5,7 +5,7 @@ ghost use Rattle.smi_world.specs.World.{opening};
 use crate::feed::{Come, ToldFeed};
 use smi_core::{Answer, Core, Lookout, Step, StepError, Taken};
 use smi_journal_entries::Entry;
-use smi_live::{LiveFault, Log, Machine, Made, Manager, Observer, live};
+use smi_live::{LiveFault, Log, Machine, Made, Manager, Observer, Unkept, live};
 use smi_live_accounts::Accounts;
 use sml_text::Sink;
 use std::alloc::{AllocError, Global};
@@ -31,23 +31,34 @@ impl Lookout for Asked {
 impl Observer for Asked {
     fn begins(&mut self) {}
 
-    fn remark(&mut self, _core: &Core, _accounts: &Accounts, is_asked: bool, remark: &mut Vec<u8>) {
+    fn unkept(&mut self, _taken: Taken<'_>, _why: Unkept) {}
+
+    fn remark(
+        &mut self,
+        _core: &Core,
+        _accounts: &Accounts,
+        _room: Option<usize>,
+        is_asked: bool,
+        remark: &mut Vec<u8>,
+    ) {
         if is_asked && remark.extend_from_slice(b"asked\n").is_err() {
             remark.clear();
         }
     }
 }
 
-/// A domain, and how many actions are started in it at most.
+/// A domain, how many actions are started in it at most, and how many bytes the log may take.
 #[derive(Clone, Copy)]
 pub(crate) struct Limits<'a> {
     pub(crate) domain: &'a [u8],
     pub(crate) max_starts: usize,
+    pub(crate) room: Option<usize>,
 }
 
 /// A core of a domain.
 pub(crate) fn core_of(alloc: Global, limits: Limits<'_>) -> Option<Core>
-    ensures { IfSome result (λ core. core.world ≡ opening core.setup) }
+    ensures opening { IfSome result (λ core. core.world ≡ opening core.setup) }
+    ensures starts { IfSome result (λ core. core.setup.max_starts ≡ limits.entry.max_starts) }
 {
     let Ok(domain) = sml_load::domain_of(alloc, limits.domain) else {
         return None;
@@ -61,7 +72,7 @@ pub(crate) fn core_of(alloc: Global, limits: Limits<'_>) -> Option<Core>
 /// A manager of a domain.
 pub(crate) fn manager_of(alloc: Global, limits: Limits<'_>) -> Option<Manager<Asked>> {
     match core_of(alloc, limits) {
-        Some(core) => Manager::new(alloc, core, Asked).ok(),
+        Some(core) => Manager::new(alloc, core, limits.max_starts, Asked).ok(),
         None => None,
     }
 }
@@ -101,6 +112,7 @@ pub(crate) fn manage<L: Write, W: Sink>(
     output: &mut W,
 ) -> Option<Managed> {
     let mut manager = manager_of(alloc, limits)?;
+    manager.begin(0, limits.room);
     let mut feed = ToldFeed::new(alloc, lines, fails);
     let mut log = WrittenLog { to: log };
     let ended = live(alloc, &mut manager, &mut feed, &mut log, output);
@@ -117,7 +129,7 @@ pub(crate) fn made_again(alloc: Global, limits: Limits<'_>, log: &[u8]) -> Optio
             return None;
         }
     }
-    manager.begin(0);
+    manager.begin(0, limits.room);
     Some(manager)
 }
 

@@ -22,6 +22,7 @@ struct Row {
 const LIMITS: Limits<'static> = Limits {
     domain: SUPPLIES,
     max_starts: 1_000_000,
+    room: None,
 };
 
 const ONCE: Row = Row {

@@ -21,8 +21,8 @@ pub const AUDIT_EXAMPLES: &str = "\
   smirun audit --explain first.sml broken.journal";
 
 pub const AUDIT_MORE: &str = "\
-FILE, the domain file, has at most 1048576 bytes, and JOURNAL at most 67108864, both ASCII without a
-byte order mark. What is written to standard output is one line:
+FILE, the domain file, has at most 1048576 bytes, JOURNAL at most 67108864, and LOG at most 16777216, all
+ASCII without a byte order mark. What is written to standard output is one line:
 
   Legal              each entry of the journal may follow those before it, by the domain
   Illegal LINE RULE  LINE is the first line whose entry may not, and RULE the first rule that it
@@ -93,13 +93,18 @@ of this in FILE, and the earlier line that this rests on:
   what RUN sent to HV has not ended.
   line 3: post RUN HV 0 SWITCH_ON (VOLTS = 1500)
 
+With `--log` what the log of a `live` manager has done is judged, however long a journal of it would be: the
+log is performed, with the capacity that its first line names and without what stands after its last line
+feed. It may be that of a manager that runs.
+
 A file that is refused is told on standard error, by FILE and one of: `read NO KIND at OFFSET`, `check NO
 KIND NAME` (the domain; `smirun check --help` has the kinds), `unreadable`, and of the journal `too long`,
 `bad header` (it does not begin with the line of journals), `bad line NO` (the line is no entry: another
 form, a name that the domain does not have, a number past 64 bits, arguments that are not named and
 ordered as the action's parameters, or no line feed at its end). A bad header or line goes before every
-rule; with `--explain` standard error has why it is bad. `output fault` says that the output cannot be
-written, `memory` that there is not enough memory. Where `memory` comes behind `Illegal`, it ends what
+rule; with `--explain` standard error has why it is bad. Of the log it is `too long`, `is of another domain`, or
+`bad line NO` (no manager wrote it there). `output fault` says that the output cannot be written, `memory`
+that there is not enough memory. Where `memory` comes behind `Illegal`, it ends what
 `--explain` has to say, and the exit status is still 4.
 
 The time grows with the length of the journal and with what its actions do: a million lines take less than a

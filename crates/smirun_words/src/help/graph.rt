@@ -36,10 +36,10 @@ pub const GRAPH_EXAMPLES: &str = "\
   smirun graph detector.sml run.journal | dot -Tsvg > run.svg";
 
 pub const GRAPH_MORE: &str = "\
-FILE, the domain file, has at most 1048576 bytes, and JOURNAL at most 67108864, both ASCII without a
-byte order mark. The domain is read and checked.
+FILE, the domain file, has at most 1048576 bytes, JOURNAL at most 67108864, and LOG at most 16777216, all
+ASCII without a byte order mark. The domain is read and checked.
 
-Without JOURNAL a text for Graphviz is written to standard output; `dot` of that makes a picture:
+Without JOURNAL and LOG a text for Graphviz is written to standard output; `dot` of that makes a picture:
 
   smirun graph detector.sml | dot -Tsvg > detector.svg
 
@@ -82,10 +82,14 @@ The journal need not be legal; `smirun audit` judges it. What is cut for want of
 The picture is dark where the browser prefers that. Behind one of a journal with more than 2000 entries
 a line on standard error says that `smirun page` shows it better.
 
+With `--log` it is the picture of the log of a `live` manager, also of one that runs. The log is performed,
+with the capacity that its first line names and without what stands after its last line feed.
+
 A file that is refused is told on standard error, by its path and one of: `read NO KIND at OFFSET`, `check
 NO KIND NAME` (the domain; `smirun check --help` has the kinds), `unreadable`, and of the journal `too
-long`, `bad header`, `bad line NO` (`smirun audit --help` has them). `output fault` says that the output
-cannot be written, `memory` that there is not enough memory.
+long`, `bad header`, `bad line NO` (`smirun audit --help` has them); of the log `too long`, `is of another
+domain`, `bad line NO` (no manager wrote it there). `output fault` says that the output cannot be written,
+`memory` that there is not enough memory.
 
 Exit status: 0 done; 1 an input was refused, or a file could not be read or the output not be written; 2
 a wrong command line; 3 not enough memory.";

@@ -99,10 +99,16 @@ of its object then, and always as the last line `stands E`, how many entries the
 With `--log PATH` each line that is made is written to PATH before what it writes is written: after a first line
 that names the domain and the capacity, each line that came, as it came, and each `start` and `go` of the
 manager. In place of one that is `refused BadLine` for its form stands the line `refused BadLine`. PATH is a
-schedule: `smirun step FILE PATH` writes what the manager wrote but for its `once` lines, with `--journal` its
-journal too, and with `--states` how all stands, also while the manager runs. It needs the same `--capacity`. A
-log has 16777216 bytes at most; then the manager ends. PATH is a regular file, is not there before, or empty, and
-no other manager has it. Never move or cut the log of a manager that runs: it writes on into what it opened.
+schedule: `smirun step FILE PATH` writes what the manager wrote but for its `once` lines and `refused Limit`, with
+`--journal` its journal too, and with `--states` how all stands, also while the manager runs. It needs the same
+`--capacity`. PATH is a regular file, is not there before, or empty, and no other manager has it. Never move or
+cut the log of a manager that runs: it looks once a second, and ends where PATH no longer names the file that it
+opened, or where that has other bytes than it wrote.
+
+A log has 16777216 bytes at most. Standard error has `PATH nine tenths full` when nine tenths are used. The last
+65536 bytes are left for answers, faults and kills and for the manager's own steps: there a request and any line
+that would be `refused BadLine` are `refused Limit` (`once NAME K refused Limit`, and K may be used again), a line
+without a token is not kept, and of all these the log has nothing. When it is full, the manager ends.
 
 What the log has survives any end of the manager. A crash of the machine, or a power cut, may lose the last lines
 that the system had not put on the disk, though they were told: with `--sync` they are on the disk before they are
@@ -118,8 +124,9 @@ Without `--in-turn` a thread reads standard input, and what comes between which 
 log has it. With `--in-turn` a line is taken only when nothing else is left to do, for tests, and where the lines are
 those of a file.
 
-`--max-starts` counts the starts of a log that is resumed too. When as many actions were started as may be, standard
-error has `FILE limit` once, and nothing starts any more; answers, kills and requests go on.
+`--max-starts` counts the starts of a log that is resumed too. Standard error has `FILE nine tenths of the starts`,
+and `FILE limit` when as many actions were started as may be: then nothing starts any more, requests are
+`refused Limit`, and answers, faults and kills go on.
 
 With `--explain` standard error has why a line was refused: the place as PATH:LINE:COLUMN, by its line in the log,
 one sentence, the line and a caret under the place; where there is no log, - stands for PATH.
@@ -138,7 +145,7 @@ where the first line names another one, `PATH has capacity C`, which is another 
 `--max-starts`, and `PATH bad line N`, where no manager would have written that line: a `start` or a `go` that
 cannot be made there, no step but `refused BadLine`, a byte that no manager writes, a second first line, or a mark
 `! once NAME K` that no manager wrote; then the lines before it are a log that can be resumed, and nothing was
-changed. `PATH full`;
+changed. `PATH full`, `PATH was moved`, `PATH was written by another`;
 `- unreadable`; `output fault`, also where PATH cannot be made or written (then a second line has PATH and why);
 and `memory`. What the log has by then was told, but for the lines of its last turn.
 

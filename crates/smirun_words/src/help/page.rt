@@ -16,9 +16,9 @@ pub const PAGE_EXAMPLES: &str = "\
   smirun page detector.sml - < run.journal > run.html";
 
 pub const PAGE_MORE: &str = "\
-FILE, the domain file, has at most 1048576 bytes, and JOURNAL at most 67108864, both ASCII without a
-byte order mark. The domain is read and checked, and the journal is judged. The page is written to
-standard output:
+FILE, the domain file, has at most 1048576 bytes, JOURNAL at most 67108864, and LOG at most 16777216, all
+ASCII without a byte order mark. The domain is read and checked, and the journal is judged. The page is
+written to standard output:
 
   smirun page detector.sml run.journal > run.html
 
@@ -43,10 +43,15 @@ The number of the entry stands behind the `#` of the address: run.html#120 begin
 number, and its line in the journal is one more. Whom an object waits for is told by the line `seen` that ends
 the wait; without that line, those are told to which it sent, and which are busy.
 
+With `--log` the page is that of the log of a `live` manager, also of one that runs. The log is performed,
+with the capacity that its first line names and without what stands after its last line feed; the page has
+the journal of that, however long it is.
+
 A file that is refused is told on standard error, by its path and one of: `read NO KIND at OFFSET`, `check
 NO KIND NAME` (the domain; `smirun check --help` has the kinds), `unreadable`, and of the journal `too
-long`, `bad header`, `bad line NO` (`smirun audit --help` has them). `output fault` says that the output
-cannot be written, `memory` that there is not enough memory.
+long`, `bad header`, `bad line NO` (`smirun audit --help` has them); of the log `too long`, `is of another
+domain`, `bad line NO` (no manager wrote it there). `output fault` says that the output cannot be written,
+`memory` that there is not enough memory.
 
 Exit status: 0 done, also for a journal that is not legal; 1 an input was refused, or a file could not be
 read or the output not be written; 2 a wrong command line; 3 not enough memory.";

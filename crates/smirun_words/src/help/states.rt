@@ -26,9 +26,9 @@ pub const STATES_EXAMPLES: &str = "\
   smirun states detector.sml run.journal --at 40 --with 41";
 
 pub const STATES_MORE: &str = "\
-FILE, the domain file, has at most 1048576 bytes, and JOURNAL at most 67108864, both ASCII without a
-byte order mark. The domain is read and checked, and the journal is judged up to line N. Then these lines
-are written to standard output:
+FILE, the domain file, has at most 1048576 bytes, JOURNAL at most 67108864, and LOG at most 16777216, all
+ASCII without a byte order mark. The domain is read and checked, and the journal is judged up to line N. Then
+these lines are written to standard output:
 
   state OBJECT STATE                    every object
   param OBJECT NAME=VALUE               every parameter of its class
@@ -53,10 +53,17 @@ line N, with `+` as they are behind line N2.
 
 A journal that is not legal up to that line is told as `smirun audit` tells it: `Illegal LINE RULE`.
 
+With `--log` it is told of the log of a `live` manager, also of one that runs. The log is performed, with the
+capacity that its first line names and without what stands after its last line feed; line N is that of the
+journal which `step --journal` writes of it, however long that is.
+
+  smirun states detector.sml --log detector.log
+
 A file that is refused is told on standard error, by its path and one of: `read NO KIND at OFFSET`, `check
 NO KIND NAME` (the domain; `smirun check --help` has the kinds), `unreadable`, and of the journal `too
-long`, `bad header`, `bad line NO` (`smirun audit --help` has them), `has no line NO`. `output fault` says
-that the output cannot be written, `memory` that there is not enough memory.
+long`, `bad header`, `bad line NO` (`smirun audit --help` has them), `has no line NO`; of the log `too long`, `is
+of another domain`, `bad line NO` (no manager wrote it there), `has no line NO`. `output fault` says that
+the output cannot be written, `memory` that there is not enough memory.
 
 Exit status: 0 done; 1 an input was refused, or a file could not be read or the output not be written; 2 a
 wrong command line; 3 not enough memory; 4 the journal is not legal up to the line.";

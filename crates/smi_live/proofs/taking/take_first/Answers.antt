@@ -1,7 +1,9 @@
-use Rattle.std.proofs.Common.{◌∙◌}
+use Rattle.std.proofs.Common.{◌≡◌, ◌∙◌, ◌<◌, ◌^◌, subst, sym, true}
+use Rattle.smi_live_once.specs.Forms.{is_once_name}
 use Rattle.smi_live.proofs.Taken.{is_marked}
 use Rattle.smi_live.proofs.taking.take_first.Goals as goal
 
-pub take_new-requires-clause-marked : goal.take_new-requires-clause-marked
-take_new-requires-clause-marked g c =
-    is_marked _ c.args.request.now c.args.mark.now.name.now c.args.mark.now.number c.requires.named c.requires.small (c.deref.ensures.value ∙ c.in_ok-line.ensures)
+pub take_room-requires-clause-marked : goal.take_room-requires-clause-marked
+take_room-requires-clause-marked g c =
+    let m = c.mark_of-mark in
+    is_marked _ c.args.asked.now.request.now m.result.name.now m.result.number (subst (λ n. is_once_name n ≡ true) (sym m.ensures.name) c.requires.named) (subst (λ n. n < 2 ^ 64) (sym m.ensures.number) c.requires.small) (c.deref.ensures.value ∙ c.in_ok-line.ensures)
