@@ -63,7 +63,7 @@ impl Coverage {
             return;
         };
         let action = action_place(domain, o, state, action);
-        let Some(counts) = self.state_of(domain, o, state) else {
+        let Some(counts) = self.state_of(o, state) else {
             return;
         };
         match action {
@@ -84,7 +84,7 @@ impl Coverage {
         let Some(place) = state_place(domain, o, state) else {
             return;
         };
-        if let Some(counts) = self.state_of(domain, o, place) {
+        if let Some(counts) = self.state_of(o, place) {
             count_one(&mut counts.entered);
         }
     }

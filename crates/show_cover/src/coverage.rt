@@ -1,5 +1,4 @@
 //! What is counted, by classes, states and actions, and by instructions.
-ghost use Rattle.std.specs.Prelude.{◌<◌, length};
 
 use smi_audit::Past;
 use smi_interp::Place;
@@ -49,6 +48,9 @@ pub(crate) struct ClassCounts {
 /// It is of the size of the domain, however many entries are counted. A count that would pass 64 bits stays there.
 #[derive(Drop)]
 pub struct Coverage {
+    // The class of each object. (A journal may be of the domain that begins as an outset says, in which each object has
+    // a class of its own, with the states and actions of this one.)
+    class_of: Vec<usize>,
     classes: Vec<ClassCounts>,
     // By blocks and the places in them.
     blocks: Vec<Vec<Tally>>,
@@ -79,14 +81,27 @@ fn uncounted_class(alloc: Global, class: &Class) -> Result<ClassCounts, AllocErr
     })
 }
 
+// The class of each object.
+fn classes_of(alloc: Global, domain: &Domain) -> Result<Vec<usize>, AllocError> {
+    let mut classes = Vec::new(alloc);
+    for o in 0..domain.objects() {
+        classes.push(domain.class_of(ObjId::new(o)).get())?;
+    }
+    Ok(classes)
+}
+
 // Nothing is counted of any class.
-fn uncounted_classes(alloc: Global, domain: &Domain) -> Result<Vec<ClassCounts>, AllocError> {
+fn uncounted_classes(
+    alloc: Global,
+    domain: &Domain,
+    class_of: &[usize],
+) -> Result<Vec<ClassCounts>, AllocError> {
     let mut classes = Vec::new(alloc);
     for class in domain.classes() {
         classes.push(uncounted_class(alloc, class)?)?;
     }
-    for o in 0..domain.objects() {
-        if let Some(class) = classes.get_mut(domain.class_of(ObjId::new(o)).get()) {
+    for number in class_of {
+        if let Some(class) = classes.get_mut(*number) {
             class.has_objects = true;
         }
     }
@@ -114,9 +129,14 @@ fn uncounted_blocks(alloc: Global, domain: &Domain) -> Result<Vec<Vec<Tally>>, A
 impl Coverage {
     /// Nothing is counted. The cost is the size of the domain.
     pub fn new(alloc: Global, domain: &Domain) -> Result<Coverage, AllocError> {
-        let classes = uncounted_classes(alloc, domain)?;
+        let class_of = classes_of(alloc, domain)?;
+        let classes = uncounted_classes(alloc, domain, &class_of)?;
         let blocks = uncounted_blocks(alloc, domain)?;
-        Ok(Coverage { classes, blocks })
+        Ok(Coverage {
+            class_of,
+            classes,
+            blocks,
+        })
     }
 
     // The counts of the class with a number.
@@ -135,16 +155,10 @@ impl Coverage {
         }
     }
 
-    // The counts of a state of an object.
-    pub(crate) fn state_of(
-        &mut self,
-        domain: &Domain,
-        o: ObjId,
-        state: usize,
-    ) -> Option<&mut StateCounts>
-        requires { o < length domain.now.objects }
-    {
-        let class = self.classes.get_mut(domain.class_of(o).get())?;
+    // The counts of the state of an object that has this place in its class.
+    pub(crate) fn state_of(&mut self, o: ObjId, state: usize) -> Option<&mut StateCounts> {
+        let number = *self.class_of.get(o.get())?;
+        let class = self.classes.get_mut(number)?;
         class.states.get_mut(state)
     }
 

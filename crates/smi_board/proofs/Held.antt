@@ -19,7 +19,7 @@ use Rattle.smi_journal_entries.specs.declared.entry.Sender.TheVariants.{Object}
 use Rattle.smi_journal_entries.specs.Requests.{Request, from_sender}
 use Rattle.smi_journal_entries.specs.Sets.{Sets, changed_to, members_in, sets_after, sets_next, with_change, without}
 use Rattle.smi_journal_entries.specs.Words.{any_start, is_clear, is_kill, is_killed, killed_at, killed_next, kills, object_of, open_at, open_next, opened_by, place_next, post_in, posted_to, posts_between, start_in, start_of, starts_at, change_entry}
-use Rattle.smi_journal_entries.proofs.Changing.{set_written}
+use Rattle.smi_journal_entries.proofs.Changing.{change_written}
 use Rattle.smi_journal_entries.proofs.OneMore.{killed_more, open_more, posts_more, sets_more, starts_more}
 use Rattle.smi_interp.specs.declared.contact.Contact.{Contact}
 use Rattle.smi_interp.specs.declared.contact.Contact.TheVariants as named
@@ -316,7 +316,7 @@ in_read d sets add x m set apart (Some (named.End s)) h = h
 in_read d sets add x m set apart (Some (named.Local p v)) h = h
 in_read d sets add x m set apart (Some (named.Read names)) h =
     in_named x (members_in d sets) (members_in d (with_change d sets add m set)) names (λ s there.
-    set_written (λ ms. is_in_ring x ms ≡ true) (members_at d s) sets set s (changed_to add m (members_in d sets set)) there
+    change_written (λ ms. is_in_ring x ms ≡ true) d sets add m set s there
     (λ e. in_changed x m add (members_in d sets set) apart (ap (λ y. is_in_ring x (members_in d sets y)) e ∙ there))) h
 
 -- behind a change, where those that are listed with its object were freed

@@ -1,6 +1,6 @@
 -- The members of sets while they change.
 use Rattle.std.proofs.Common.{◌≡◌, ◌<◌, ◌==◌, ℕ, zero, suc, Bool, true, false, cond, not, List, [], ◌∷◌, ◌++◌, All, length, map, filter, Some, slice_get, slice_set, refl, sym, ap, ◌∙◌, subst}
-use Rattle.std.specs.Prelude.{nat_eq}
+use Rattle.std.specs.Prelude.{nat_eq, if◌then◌else◌}
 use Rattle.std.specs.List.{list_any}
 use Rattle.std.specs.Option.{option_map_or}
 use Rattle.std.proofs.lemmas.Bool.{eqb-true, eq-eqb, or_parts, or_from}
@@ -9,7 +9,7 @@ use Rattle.sml_domain.specs.Domain.{Domain, Group}
 use Rattle.sml_domain.specs.Lookups.{members_at}
 use Rattle.sml_domain.specs.Sound.{IsObject, EachOnce}
 use Rattle.sml_domain.proofs.Setted.{members_once, members_there}
-use Rattle.smi_journal_entries.specs.Sets.{Sets, as_declared, or_declared, members_in, changed_to}
+use Rattle.smi_journal_entries.specs.Sets.{Sets, as_declared, or_declared, members_in, changed_to, changes_nothing, with_change}
 use Rattle.smi_journal_entries.specs.Laws.{BeginDeclared, BeginOf, ChangesAreOf}
 
 -- ---- before any change
@@ -90,6 +90,21 @@ set_written P declared (s ∷ sets) zero (suc other) members h g = h
 set_written P declared (s ∷ sets) (suc set) zero members h g = h
 set_written P declared (s ∷ sets) (suc set) (suc other) members h g = set_written P declared sets set other members h (λ e. g (ap suc e))
 
+-- what is so of the members of a set is so after a change, if it is so of those that were changed
+pub change_written : (P : List ℕ → Type 0) (d : Domain) (sets : Sets) (add : Bool) (o set other : ℕ)
+    → P (members_in d sets other) → (set ≡ other → P (changed_to add o (members_in d sets set)))
+    → P (members_in d (with_change d sets add o set) other)
+change_written P d sets add o set other h g =
+    go (changes_nothing add o (members_in d sets set))
+  where
+    changed : Sets
+    changed = slice_set sets set (Some (changed_to add o (members_in d sets set)))
+
+    go : (b : Bool) → P (members_in d (if b then sets else changed) other)
+    go true = h
+    go false = set_written P (members_at d other) sets set other (changed_to add o (members_in d sets set)) h g
+
 pub changes_are_of : ChangesAreOf
 changes_are_of d sets add o set lt h other =
-    set_written (AreMembers d) (members_at d other) sets set other (changed_to add o (members_in d sets set)) (h other) (λ e. changed_are d add o (members_in d sets set) lt (h set))
+    change_written (AreMembers d) d sets add o set other (h other)
+    (λ e. changed_are d add o (members_in d sets set) lt (h set))

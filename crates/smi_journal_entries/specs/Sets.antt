@@ -48,9 +48,16 @@ abbrev pub changed_to : Bool → ℕ → List ℕ → List ℕ
 changed_to true o members = if list_any (nat_eq o) members then members else (members ++ o ∷ [])
 changed_to false o members = without o members
 
+-- whether a change leaves members as they are: an object is put in that is among them, or taken out that is not
+abbrev pub changes_nothing : Bool → ℕ → List ℕ → Bool
+changes_nothing true o members = list_any (nat_eq o) members
+changes_nothing false o members = not (list_any (nat_eq o) members)
+
 -- the members of all sets, after one of them was changed so
 abbrev pub with_change : Domain → Sets → Bool → ℕ → ℕ → Sets
-with_change d sets add o set = slice_set sets set (Some (changed_to add o (members_in d sets set)))
+with_change d sets add o set =
+    if changes_nothing add o (members_in d sets set) then sets
+    else slice_set sets set (Some (changed_to add o (members_in d sets set)))
 
 -- the members of all sets, after one more entry
 abbrev pub sets_next : Domain → Sets → Entry → Sets

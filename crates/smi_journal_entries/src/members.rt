@@ -129,6 +129,17 @@ fn changed_to(
     }
 }
 
+// Whether a change leaves members as they are.
+fn changes_nothing(add: bool, object: ObjId, members: &[ObjId]) -> bool
+    ensures { result ≡ says.changes_nothing add object members.now }
+{
+    if add {
+        is_one(object, members)
+    } else {
+        !is_one(object, members)
+    }
+}
+
 // Sets the members of a set. Does nothing if no set has the number.
 fn put_members(sets: &mut Vec<Kept>, set: SetId, list: Vec<ObjId>)
     ensures { sets.new.items ≡ slice_set sets.old.items set (Some list.items) }
@@ -217,6 +228,9 @@ impl Members {
     ) -> Result<Members, AllocError>
         ensures { IfOk result (λ m. m ≡ says.with_change domain.now self.now add object set) }
     {
+        if changes_nothing(add, object, self.of(domain, set)) {
+            return self.share();
+        }
         let list = changed_to(alloc, add, object, self.of(domain, set))?;
         let mut sets = copies_of(alloc, &self.sets)?;
         put_members(&mut sets, set, list);

@@ -26,7 +26,7 @@ use Rattle.smi_journal_entries.specs.declared.letter.Letter.{Letter}
 use Rattle.smi_journal_entries.specs.Requests.{Request}
 use Rattle.smi_journal_entries.specs.Words.{Item, Sent, HadNone, Saw, Turned, open_at, open_next, posts_between, post_in, state_of, shown_of}
 use Rattle.smi_journal_entries.proofs.OneMore.{open_more, posts_more, sets_more}
-use Rattle.smi_journal_entries.proofs.Changing.{begin_declared, set_written}
+use Rattle.smi_journal_entries.proofs.Changing.{begin_declared, change_written}
 use Rattle.smi_journal_entries.specs.Sets.{Sets, members_in, changed_to, with_change, sets_next, sets_after}
 use Rattle.smi_meaning.specs.Items.{Posted, item_of, sent_shown}
 use Rattle.smi_meaning.specs.Environment.{Env, value_of, with_set, ValuesFit, ArgumentsAre, EnvFits}
@@ -259,7 +259,7 @@ all_both d o (x ∷ xs) ys h g = (h.0, all_both d o xs ys h.1 g)
 -- a set that was changed has no members but such as it may come to have
 change_within : (d : Domain) (sets : Sets) (add : Bool) (o set : ℕ) → (add ≡ true → Contains (may_at d set) o) → AreAllowedMembers d (members_in d sets) → AreAllowedMembers d (members_in d (with_change d sets add o set))
 change_within d sets add o set may h other =
-    set_written (All (Contains (may_at d other))) (members_at d other) sets set other (changed_to add o (members_in d sets set)) (h other)
+    change_written (All (Contains (may_at d other))) d sets add o set other (h other)
     (λ e. subst (λ s. All (Contains (may_at d s)) (changed_to add o (members_in d sets set))) e (changed add may))
   where
     changed : (b : Bool) → (b ≡ true → Contains (may_at d set) o) → All (Contains (may_at d set)) (changed_to b o (members_in d sets set))

@@ -9,7 +9,7 @@ ghost use Rattle.smirun_commands.specs.declared.audit.TheConstants.{LONGEST_JOUR
 
 use crate::advice::Advice;
 use crate::fault::Fault;
-use crate::loading::{LoadedDomain, load_with_text};
+use crate::loading::load_with_text;
 use crate::status::{DONE, ILLEGAL};
 use crate::text::load_prefix;
 use explain_journals::{DomainText, explain};
@@ -53,7 +53,7 @@ pub fn run_audit<'a, R: Files + AllocGlobal, I: Read, W: Write, E: Write>(
 ) -> Result<u8, Fault<'a>>
     ensures { IfOk result (λ status. status ≤ 4) }
 {
-    let LoadedDomain { domain, text } = match load_with_text(rt, input, options.file, advice) {
+    let loaded = match load_with_text(rt, input, options.file, advice) {
         Ok(loaded) => loaded,
         Err(fault) => return Err(fault),
     };
@@ -63,18 +63,17 @@ pub fn run_audit<'a, R: Files + AllocGlobal, I: Read, W: Write, E: Write>(
     };
     let judged = judge_bytes(
         rt.alloc(),
-        &domain,
-        text.as_slice(),
+        &loaded.domain,
+        loaded.text.as_slice(),
         options,
         bytes.as_slice(),
         output,
         errors,
     );
     if let Err(fault) = &judged {
-        advice.of_journal(&domain, options.journal, bytes.as_slice(), fault);
+        advice.of_journal(&loaded.domain, options.journal, bytes.as_slice(), fault);
     }
-    drop(domain);
-    drop(text);
+    drop(loaded);
     drop(bytes);
     judged
 }

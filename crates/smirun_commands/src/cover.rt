@@ -58,7 +58,7 @@ pub fn run_cover<'a, R: Files + AllocGlobal, I: Read, W: Write, E: Write>(
 fn cover_domain<'a, R: Files + AllocGlobal, I: Read, W: Write, E: Write>(
     rt: &R,
     options: &CoverOptions<'a>,
-    loaded: &LoadedDomain,
+    loaded: &LoadedDomain<'_>,
     input: &mut I,
     output: &mut W,
     errors: &mut E,

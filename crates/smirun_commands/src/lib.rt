@@ -41,7 +41,7 @@ pub use graph::{GraphOptions, MANY_ENTRIES, draw_entries, run_graph};
 pub use judgement::{FileOutcome, judge};
 pub use lint::{LintOptions, run_lint};
 pub use list::run_list;
-pub use loading::{domain_of_bytes, load_domain};
+pub use loading::{LoadedDomain, domain_of_bytes, load_domain, load_with_text};
 pub use log_refusal::LogRefusal;
 pub use page::{PageOptions, page_of_bytes, run_page};
 pub use print::{PrintOptions, print_text, run_print};

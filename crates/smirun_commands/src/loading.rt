@@ -27,26 +27,27 @@ pub fn load_domain<'a, R: Files + AllocGlobal, I: Read>(
     }
 }
 
-/// A domain that was loaded, and its text.
+/// The domain of a file of this path, and its text.
 #[derive(Drop)]
-pub(crate) struct LoadedDomain {
+pub struct LoadedDomain<'a> {
+    pub file: &'a str,
     pub domain: Arc<Domain>,
     pub text: Vec<u8>,
 }
 
 /// The domain of a file as of `load_domain`, with its text.
-pub(crate) fn load_with_text<'a, R: Files + AllocGlobal, I: Read>(
+pub fn load_with_text<'a, R: Files + AllocGlobal, I: Read>(
     rt: &R,
     input: &mut I,
     file: &'a str,
     advice: &mut Advice,
-) -> Result<LoadedDomain, Fault<'a>> {
+) -> Result<LoadedDomain<'a>, Fault<'a>> {
     let text = match load_text(rt, input, file) {
         Ok(text) => text,
         Err(error) => return Err(Fault::of_input(file, &error)),
     };
     match advised_domain(rt.alloc(), file, text.as_slice(), advice) {
-        Ok(domain) => Ok(LoadedDomain { domain, text }),
+        Ok(domain) => Ok(LoadedDomain { file, domain, text }),
         Err(fault) => Err(fault),
     }
 }

@@ -51,8 +51,8 @@ pub fn run_page<'a, R: Files + AllocGlobal, I: Read, W: Write>(
 
 /// Judges the bytes of a journal by a domain, and writes the page of that run to its end.
 ///
-/// The cost is that of judging and of the page, which has the bytes. The error is the fault of the journal, by its path,
-/// `Output` or `Memory`.
+/// The cost is that of judging and of the page, which has the bytes. The error is the fault of the journal, by its
+/// path, `Output` or `Memory`.
 pub fn page_of_bytes<'a, W: Write>(
     heap: Global,
     domain: &Arc<Domain>,

@@ -7,7 +7,7 @@ use Rattle.smi_live.specs.Logs.{LogOutputs}
 use Rattle.smi_live_once.specs.Making.{Keeper}
 use Rattle.smirun_live.specs.Reading.{HasNoFeed}
 
--- the first line of a log, of which so many bytes are whole lines, is this one; without a whole line it begins so
+-- the first line of a log, of which this many bytes are whole lines, is this one; without a whole line it begins so
 pub record BeginsAs (first log : List ℕ) (whole : ℕ) : Type 0 where
   pub begun : whole ≢ 0 → (rest : List ℕ) × (log ≡ first ++ 10 ∷ rest)
   pub torn : whole ≡ 0 → starts_with nat_eq first log ≡ true

@@ -110,9 +110,9 @@ pub(crate) fn manager_after<'a>(
     }
 }
 
-/// The manager of the text of a domain and of that of a log, which `live` runs: on the domain of exactly this text, with
-/// the limits that are given, in the opening world or in that after the whole lines of the log, of which the first names
-/// the domain and the capacity. No file is read or written.
+/// The manager of the text of a domain and of that of a log, which `live` runs: on the domain of exactly this text,
+/// with the limits that are given, in the opening world or in that after the whole lines of the log, of which the first
+/// names the domain and the capacity. No file is read or written.
 ///
 /// The faults are those of the domain's text, then those of the log, and out of memory.
 pub fn manager_of_texts<'a>(

@@ -9,7 +9,7 @@ use Rattle.smi_meaning.specs.Legal.{IsLegal}
 use Rattle.smi_audit.specs.Views.{PastView}
 
 -- a past of a domain has no entries
-pub record IsBegun (d : Domain) (p : PastView) : Type 0 where
+pub record IsEmptyPast (d : Domain) (p : PastView) : Type 0 where
   pub domain : p.books.domain ≡ d
   pub format : p.format ≡ Two
   pub journal : p.books.journal ≡ []

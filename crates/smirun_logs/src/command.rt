@@ -4,15 +4,13 @@ ghost use Rattle.std.specs.Prelude.{◌≤◌, IfOk};
 use crate::covering::tell_covered;
 use crate::drawing::draw_log;
 use crate::judging::tell_judged;
-use crate::loading::{DomainFile, load_domain, load_log};
+use crate::loading::load_log;
 use crate::paging::tell_page;
 use crate::telling::tell_states;
 use smirun_commands::{
-    Advice, AuditOptions, CoverOptions, DONE, Fault, GraphOptions, PageOptions, STANDARD_INPUT,
-    StatesOptions,
+    Advice, AuditOptions, CoverOptions, Fault, GraphOptions, LoadedDomain, PageOptions,
+    StatesOptions, load_with_text,
 };
-use smirun_live::Continued;
-use std::alloc::Global;
 use std::fs::Files;
 use std::io::{Read, Write};
 
@@ -27,8 +25,8 @@ pub enum LogCommand<'a> {
     Cover(CoverOptions<'a>),
     /// To write a page of it.
     Page(PageOptions<'a>),
-    /// To draw it.
-    Graph(GraphOptions<'a>),
+    /// To draw the log of this path.
+    Graph(GraphOptions<'a>, &'a str),
 }
 
 impl<'a> LogCommand<'a> {
@@ -39,7 +37,7 @@ impl<'a> LogCommand<'a> {
             LogCommand::Audit(options) => options.file,
             LogCommand::Cover(options) => options.file,
             LogCommand::Page(options) => options.file,
-            LogCommand::Graph(options) => options.file,
+            LogCommand::Graph(options, _) => options.file,
         }
     }
 
@@ -50,7 +48,7 @@ impl<'a> LogCommand<'a> {
             LogCommand::Audit(options) => options.explain,
             LogCommand::Cover(options) => options.explain,
             LogCommand::Page(_) => false,
-            LogCommand::Graph(options) => options.explain,
+            LogCommand::Graph(options, _) => options.explain,
         }
     }
 }
@@ -72,43 +70,92 @@ pub fn run_over_log<'a, R: Files + AllocGlobal, I: Read, W: Write, E: Write>(
 ) -> Result<u8, Fault<'a>>
     ensures { IfOk result (λ status. status ≤ 4) }
 {
-    let file = match load_domain(rt, input, command.file(), advice) {
+    let file = match load_with_text(rt, input, command.file(), advice) {
         Ok(file) => file,
         Err(fault) => return Err(fault),
     };
-    let path = match command {
-        LogCommand::Cover(options) => {
-            return tell_covered(rt, &file, options, input, output, errors, advice);
+    match command {
+        LogCommand::States(options) => tell_stands(rt, &file, options, input, output, advice),
+        LogCommand::Audit(options) => {
+            tell_ruling(rt, &file, options, input, output, errors, advice)
         }
-        LogCommand::States(options) => options.journal,
-        LogCommand::Audit(options) => options.journal,
-        LogCommand::Page(options) => options.journal,
-        LogCommand::Graph(options) => options.journal.unwrap_or(STANDARD_INPUT),
-    };
-    match load_log(rt, input, &file, path, advice) {
-        Ok(run) => tell_run(rt.alloc(), &file, &run, path, command, output, errors),
+        LogCommand::Cover(options) => {
+            tell_covered(rt, &file, options, input, output, errors, advice)
+        }
+        LogCommand::Page(options) => write_page(rt, &file, options, input, output, advice),
+        LogCommand::Graph(options, log) => {
+            draw(rt, &file, options, log, input, output, errors, advice)
+        }
+    }
+}
+
+// Tells how all stood behind a line of the journal that a log has.
+fn tell_stands<'a, R: Files + AllocGlobal, I: Read, W: Write>(
+    rt: &R,
+    file: &LoadedDomain<'a>,
+    options: &StatesOptions<'a>,
+    input: &mut I,
+    output: &mut W,
+    advice: &mut Advice,
+) -> Result<u8, Fault<'a>>
+    ensures { IfOk result (λ status. status ≤ 4) }
+{
+    match load_log(rt, input, file, options.journal, advice) {
+        Ok(run) => tell_states(rt.alloc(), &run, options, output),
         Err(fault) => Err(fault),
     }
 }
 
-// Does what is asked of the log of a path, which was performed.
-fn tell_run<'a, W: Write, E: Write>(
-    alloc: Global,
-    file: &DomainFile<'a>,
-    run: &Continued<'a>,
-    path: &'a str,
-    command: &LogCommand<'a>,
+// Judges what a log has done.
+fn tell_ruling<'a, R: Files + AllocGlobal, I: Read, W: Write, E: Write>(
+    rt: &R,
+    file: &LoadedDomain<'a>,
+    options: &AuditOptions<'a>,
+    input: &mut I,
     output: &mut W,
     errors: &mut E,
+    advice: &mut Advice,
 ) -> Result<u8, Fault<'a>>
     ensures { IfOk result (λ status. status ≤ 4) }
 {
-    match command {
-        LogCommand::States(options) => tell_states(alloc, run, options, output),
-        LogCommand::Audit(options) => tell_judged(alloc, file, run, options, output, errors),
-        LogCommand::Page(options) => tell_page(alloc, run, options, output),
-        LogCommand::Graph(options) => draw_log(alloc, run, options, path, output, errors),
-        // (it has no run of its own)
-        LogCommand::Cover(_) => Ok(DONE),
+    match load_log(rt, input, file, options.journal, advice) {
+        Ok(run) => tell_judged(rt.alloc(), file, &run, options, output, errors),
+        Err(fault) => Err(fault),
+    }
+}
+
+// Writes the page of what a log has done.
+fn write_page<'a, R: Files + AllocGlobal, I: Read, W: Write>(
+    rt: &R,
+    file: &LoadedDomain<'a>,
+    options: &PageOptions<'a>,
+    input: &mut I,
+    output: &mut W,
+    advice: &mut Advice,
+) -> Result<u8, Fault<'a>>
+    ensures { IfOk result (λ status. status ≤ 4) }
+{
+    match load_log(rt, input, file, options.journal, advice) {
+        Ok(run) => tell_page(rt.alloc(), &run, options, output),
+        Err(fault) => Err(fault),
+    }
+}
+
+// Draws what a log has done.
+fn draw<'a, R: Files + AllocGlobal, I: Read, W: Write, E: Write>(
+    rt: &R,
+    file: &LoadedDomain<'a>,
+    options: &GraphOptions<'a>,
+    log: &'a str,
+    input: &mut I,
+    output: &mut W,
+    errors: &mut E,
+    advice: &mut Advice,
+) -> Result<u8, Fault<'a>>
+    ensures { IfOk result (λ status. status ≤ 4) }
+{
+    match load_log(rt, input, file, log, advice) {
+        Ok(run) => draw_log(rt.alloc(), &run, options, log, output, errors),
+        Err(fault) => Err(fault),
     }
 }

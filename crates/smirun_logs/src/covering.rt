@@ -1,12 +1,12 @@
 //! What logs have exercised.
 ghost use Rattle.std.specs.Prelude.{◌≤◌, IfOk};
 
-use crate::loading::{DomainFile, load_log};
+use crate::loading::load_log;
 use crate::replaying::{Looker, past_of_entries, text_of};
 use show_cover::Coverage;
 use smi_audit::Past;
 use smi_journal::Entry;
-use smirun_commands::{Advice, CoverOptions, Fault, tell_coverage, tell_uncounted};
+use smirun_commands::{Advice, CoverOptions, Fault, LoadedDomain, tell_coverage, tell_uncounted};
 use smirun_live::Continued;
 use std::alloc::Global;
 use std::fs::Files;
@@ -22,7 +22,7 @@ impl Looker for Coverage {
 /// read, performed and counted before the next is opened.
 pub(crate) fn tell_covered<'a, R: Files + AllocGlobal, I: Read, W: Write, E: Write>(
     rt: &R,
-    file: &DomainFile<'a>,
+    file: &LoadedDomain<'a>,
     options: &CoverOptions<'a>,
     input: &mut I,
     output: &mut W,
@@ -62,7 +62,7 @@ fn is_counted(alloc: Global, run: &Continued<'_>, coverage: &mut Coverage) -> bo
 // Writes what the judge says of a log that was not counted.
 fn tell_illegal<'a, W: Write, E: Write>(
     alloc: Global,
-    file: &DomainFile<'a>,
+    file: &LoadedDomain<'a>,
     run: &Continued<'a>,
     options: &CoverOptions<'a>,
     path: &'a str,

@@ -8,11 +8,10 @@ ghost use Rattle.smi_audit.specs.Audit.{Judges};
 ghost use Rattle.smi_audit.specs.JudgementText.{ruling_text};
 ghost use Rattle.smirun_commands.specs.Ruling.{ruling_status};
 
-use crate::loading::DomainFile;
 use crate::replaying::{Unlooked, past_of_entries, text_of};
 use smi_audit::Judgement;
 use smi_journal::Entry;
-use smirun_commands::{AuditOptions, DONE, Fault, judge_bytes, tell_judgement};
+use smirun_commands::{AuditOptions, DONE, Fault, LoadedDomain, judge_bytes, tell_judgement};
 use smirun_live::Continued;
 use sml_domain::Domain;
 use std::alloc::Global;
@@ -66,7 +65,7 @@ pub fn judge_entries<'a, W: Write, E: Write>(
 /// Judges what a log has done.
 pub(crate) fn tell_judged<'a, W: Write, E: Write>(
     alloc: Global,
-    file: &DomainFile<'a>,
+    file: &LoadedDomain<'a>,
     run: &Continued<'a>,
     options: &AuditOptions<'a>,
     output: &mut W,

@@ -5,7 +5,7 @@ ghost use Rattle.smi_journal.specs.EntryText.{line_text};
 ghost use Rattle.smi_journal.specs.HasText.{HasNames, HasTextIn};
 ghost use Rattle.smi_journal.specs.JournalText.{journal_text};
 ghost use Rattle.smi_audit.specs.Pasts.{IsPastOf};
-ghost use Rattle.smirun_logs.specs.Replaying.{EntersLine, IsBegun};
+ghost use Rattle.smirun_logs.specs.Replaying.{EntersLine, IsEmptyPast};
 
 use smi_audit::Past;
 use smi_journal::{Entry, Format, LineReader, laws_of_names, tell_lines, write_journal};
@@ -57,7 +57,7 @@ impl Replayer {
         if failed { Err(AllocError) } else { Ok(()) }
     }
 
-    // The entry that the line of this one is read as. None if it is none, or memory runs out.
+    // The entry that the line of this one is read as. None if it is read as no entry, or memory runs out.
     fn read_back(&mut self, domain: &Domain, entry: &Entry) -> Option<Entry>
         requires { HasNames domain.now }
         ensures { IfSome result (λ read. HasTextIn Format.Two domain.now read
@@ -102,7 +102,7 @@ impl Replayer {
 
 // The past of no entries.
 fn begun(alloc: Global, domain: &Arc<Domain>) -> Option<Past>
-    ensures { IfSome result (IsBegun (arc_value domain.now)) }
+    ensures { IfSome result (IsEmptyPast (arc_value domain.now)) }
 {
     let shared = Arc::try_clone(domain).ok()?;
     Past::of(alloc, Format::Two, shared, &[]).ok()

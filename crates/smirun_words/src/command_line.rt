@@ -157,7 +157,7 @@ fn log_inputs(command: &LogCommand<'_>) -> usize {
         LogCommand::States(options) => inputs_in(&[options.file, options.journal]),
         LogCommand::Audit(options) => inputs_in(&[options.file, options.journal]),
         LogCommand::Page(options) => inputs_in(&[options.file, options.journal]),
-        LogCommand::Graph(options) => inputs_in(&[options.file, options.journal.unwrap_or("")]),
+        LogCommand::Graph(options, log) => inputs_in(&[options.file, log]),
         LogCommand::Cover(options) => {
             inputs_in(&[options.file]).saturating_add(inputs_in(options.journals.as_slice()))
         }
@@ -269,17 +269,16 @@ fn is_of_log(command: &ArgMatches<'_>) -> bool {
 fn what_to_draw<'a>(graph: &ArgMatches<'a>, terminals: Terminals) -> Option<AskedCommand<'a>> {
     let options = GraphOptions {
         file: graph.get_str("FILE")?,
-        journal: run_path(graph),
+        journal: graph.get_str("JOURNAL"),
         objects: graph.get_flag("objects"),
         members: graph.get_flag("members"),
         from: graph.get_one::<usize>("from")?,
         count: graph.get_one::<usize>("count")?,
         explain: explains(graph, terminals),
     };
-    Some(if is_of_log(graph) {
-        AskedCommand::OfLog(LogCommand::Graph(options))
-    } else {
-        AskedCommand::Graph(options)
+    Some(match graph.get_str("log") {
+        Some(log) => AskedCommand::OfLog(LogCommand::Graph(options, log)),
+        None => AskedCommand::Graph(options),
     })
 }
 

@@ -6,6 +6,7 @@ use crate::calls::{
 };
 use crate::explained::compare;
 use crate::limits::tell_untold;
+use crate::meddling::call_meddled;
 use crate::outcomes::tell_run;
 use crate::place::Place;
 use smirun_live::LiveHost;
@@ -84,6 +85,8 @@ fn handle<R: Host + LiveHost + 'static>(rt: &R, line: &str, place: &mut Place) -
         // runs a manager whose lines another thread reads, up to their end or to a fault: FILE LOG
         "arriving" => call_arriving(rt, rest, false, place),
         "failing" => call_arriving(rt, rest, true, place),
+        // the same with a log that is moved, or gets a line of somebody else: FILE LOG PATH, or FILE LOG
+        "meddled" => call_meddled(rt, rest, place),
         // performs a command line as where standard error alone is a terminal
         "piped" => Ok(call_at_terminal(rt, rest, false, place)?),
         // tells what the program says if the words of a command line cannot be read

@@ -8,12 +8,23 @@ use std::fs::{File, Files};
 use std::io::{ErrorKind, Read, Write};
 use std::{fs, io};
 
-// Gives a text, and then ends or fails.
+/// Gives a text, and then ends or fails.
 #[derive(Drop)]
-struct Lines {
+pub struct Lines {
     text: Vec<u8>,
     at: usize,
     fails: bool,
+}
+
+impl Lines {
+    /// Those of a text.
+    pub fn new(alloc: Global, text: &[u8], fails: bool) -> Result<Lines, AllocError> {
+        Ok(Lines {
+            text: Vec::from_slice(alloc, text)?,
+            at: 0,
+            fails,
+        })
+    }
 }
 
 impl Read for Lines {
@@ -60,8 +71,8 @@ impl<R: Files<File = File> + AllocGlobal + Drop> Write for Watching<'_, R> {
     }
 }
 
-// What the lines of a row are done with.
-fn options<'a>(file: &'a str, log: &'a str) -> LiveOptions<'a> {
+/// What the lines of a row are done with.
+pub fn options<'a>(file: &'a str, log: &'a str) -> LiveOptions<'a> {
     LiveOptions {
         file,
         log: Some(log),
@@ -74,8 +85,8 @@ fn options<'a>(file: &'a str, log: &'a str) -> LiveOptions<'a> {
     }
 }
 
-// Tells how a manager ended.
-fn tell_end(
+/// Tells how a manager ended.
+pub fn tell_end(
     alloc: Global,
     place: &mut Place,
     ended: &Result<(), Fault<'_>>,
@@ -105,11 +116,7 @@ pub fn call_arriving<R: LiveHost + 'static>(
     place: &mut Place,
 ) -> io::Result<()> {
     let (file, log) = words.split_once(' ').unwrap_or((words, ""));
-    let input = Lines {
-        text: Vec::from_slice(rt.alloc(), place.text.as_slice())?,
-        at: 0,
-        fails,
-    };
+    let input = Lines::new(rt.alloc(), place.text.as_slice(), fails)?;
     let mut output = Watching {
         rt: *rt,
         log,

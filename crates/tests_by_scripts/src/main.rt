@@ -7,6 +7,7 @@ mod bytes;
 mod calls;
 mod explained;
 mod limits;
+mod meddling;
 mod outcomes;
 mod place;
 mod rows;

@@ -491,8 +491,8 @@ fn add_block(text: &mut Vec<u8>, domain: &Domain, block: usize, by_places: bool)
     }
 }
 
-// Whether these are the tables of a domain, the blocks by their lists or by places.
-fn are_tables(alloc: Global, domain: &Domain, tables: &[u8], by_places: bool) -> bool {
+/// Whether these are the tables of a domain, the blocks by their lists or by places.
+pub fn are_tables(alloc: Global, domain: &Domain, tables: &[u8], by_places: bool) -> bool {
     let mut text = Vec::new(alloc);
     add_counts(&mut text, domain);
     add_sorts(&mut text, domain);

@@ -28,12 +28,14 @@ pub fn changed(alloc: Global, domain: &Domain, members: &Members, change: Change
     laws_of_members();
     let (add, object, set) = change;
     let object = ObjId::new(object);
-    if !domain.has(object) {
-        return None;
+    if domain.has(object) {
+        match members.with_change(alloc, domain, add, object, SetId::new(set)) {
+            Ok(changed) => Some(changed),
+            Err(_) => None,
+        }
+    } else {
+        None
     }
-    members
-        .with_change(alloc, domain, add, object, SetId::new(set))
-        .ok()
 }
 
 /// The members of sets after changes.

@@ -191,9 +191,15 @@ const PAIRS: &[(&str, &[Change], &[Change], bool)] = &[
     // It has the same members.
     (
         "a set that was changed, and one that was not",
-        &[(true, A, G)],
+        &[(false, A, G)],
         &[],
         false,
+    ),
+    (
+        "a set that was changed to what it was",
+        &[(true, A, G)],
+        &[],
+        true,
     ),
 ];
 

@@ -1,0 +1,4 @@
+pub mod Made
+pub mod Alike
+pub mod Fitting
+pub mod Sounds
