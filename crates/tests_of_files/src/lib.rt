@@ -40,6 +40,8 @@ mod limits;
 #[cfg(test)]
 mod one_byte;
 #[cfg(test)]
+mod outset_texts;
+#[cfg(test)]
 mod outsets;
 #[cfg(test)]
 mod printing;

@@ -1,0 +1,9 @@
+mod Fronts
+mod Numbered
+mod Beginning
+mod Spelled
+mod Rows
+mod Names
+mod Words
+mod Valued
+mod One

@@ -1,0 +1,4 @@
+pub mod OutsetText
+pub mod Lines
+pub mod Reading
+pub mod Laws
