@@ -47,7 +47,7 @@ fn judged(
 ///
 /// # Example
 ///
-/// `tests_of_texts` has it as `first_calls::judges`; L is a lamp that is off:
+/// `tests_of_files` has it as `first_calls::judges`; L is a lamp that is off:
 ///
 /// ```
 /// let journal = b"smi-journal 2\nstart L @1 0 LIGHT\nend L ON\n";

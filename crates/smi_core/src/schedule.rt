@@ -403,7 +403,7 @@ impl<R: Read> Input for R {
 /// or ends. Memory is taken for one line and for the journal. Every `Read` is an `Input` and every `Write` a
 /// `Sink`.
 ///
-/// `tests_of_texts` has this example as `first_calls::steps_and_runs`; L is a lamp that is off:
+/// `tests_of_files` has this example as `first_calls::steps_and_runs`; L is a lamp that is off:
 ///
 /// ```
 /// let mut schedule = b"request @1 L LIGHT\nstart L\ngo L\n".as_slice();

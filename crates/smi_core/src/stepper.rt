@@ -1,5 +1,5 @@
 //! The core: a domain under way, one step after another.
-ghost use Rattle.std.specs.Prelude.{◌≡◌, ◌++◌, ◌↔◌, ◌<◌, ◌≤◌, ℕ, Err, IfOk, List, Some, length, option_map};
+ghost use Rattle.std.specs.Prelude.{◌≡◌, ◌++◌, ◌↔◌, ◌<◌, ◌≤◌, ℕ, Err, IfOk, List, Some, length, option_map, true};
 ghost use Rattle.std.specs.Arc.{arc_value};
 ghost use Rattle.smi_journal_entries.specs.Sets.{members_after};
 ghost use Rattle.smi_journal_entries.specs.Words as says;
@@ -10,9 +10,9 @@ ghost use Rattle.smi_meaning.specs.Params.{ParamsAfter};
 ghost use Rattle.sml_domain.specs.Lookups.{object_named};
 ghost use Rattle.smi_world.specs.declared.step.Step.TheVariants as step;
 ghost use Rattle.smi_world.specs.Steps.{StepsTo};
-ghost use Rattle.smi_world.specs.World.{FrontOk, opening};
+ghost use Rattle.smi_world.specs.World.{FrontOk, opening, waiting};
 ghost use Rattle.smi_core.specs.Machines.{AreLimits};
-ghost use Rattle.smi_core.specs.Stepping.{IsCalled};
+ghost use Rattle.smi_core.specs.Stepping.{IsCalled, RestsAt};
 
 use crate::machine::Machine;
 use smi_board::{Board, no_tasks};
@@ -113,7 +113,7 @@ impl Core {
     /// entries before, and each entry of it may follow those before it. The cost of each kind of step is in
     /// docs/FORMATS.md ("Schedules").
     ///
-    /// `tests_of_texts` has this example as `first_calls::steps_and_runs`; L is an object that nobody asked yet:
+    /// `tests_of_files` has this example as `first_calls::steps_and_runs`; L is an object that nobody asked yet:
     ///
     /// ```
     /// let Ok(Some(step)) = read_step(alloc, b"start L") else { .. };
@@ -183,6 +183,33 @@ impl Core {
     {
         self.called(o);
         self.machine.go_of(o)
+    }
+
+    /// How many requests wait at an object: those that were accepted and not started. The cost is constant.
+    pub fn waits(&self, o: ObjId) -> usize
+        requires { o < length self.now.setup.domain.objects }
+        ensures { result ≡ waiting o self.now.world }
+    {
+        self.machine.told();
+        self.machine.board.waits(o)
+    }
+
+    /// The place of an object's kill in the journal, or None if it lives. The cost is constant.
+    pub fn killed_at(&self, o: ObjId) -> Option<u64>
+        requires { o < length self.now.setup.domain.objects }
+        ensures { result ≡ says.killed_at o self.now.world.journal }
+    {
+        self.machine.board.dead_at(o)
+    }
+
+    /// Whether it is known that neither the start nor the go of an object would change anything now. It makes nothing
+    /// and tries nothing, so an answer of no says only that both are to be tried. The cost is constant.
+    pub fn rests_at(&self, o: ObjId) -> bool
+        requires { o < length self.now.setup.domain.objects }
+        ensures { result ≡ true → (x : List ℕ) → object_named self.now.setup.domain x ≡ Some o
+            → RestsAt self.now.setup self.now.world x }
+    {
+        self.machine.rests_at(o)
     }
 
     /// The state of an object. The cost is constant.

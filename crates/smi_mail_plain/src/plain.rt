@@ -1,5 +1,5 @@
 //! The mail of one thread.
-ghost use Rattle.std.specs.Prelude.{◌≡◌, ◌≤◌, ℕ, [], IfOk, length};
+ghost use Rattle.std.specs.Prelude.{◌≡◌, ◌<◌, ◌≤◌, ℕ, [], IfOk, length};
 ghost use Rattle.std.specs.Arc.{arc_value};
 ghost use Rattle.smi_journal_entries.specs.declared.entry.Sender.{Sender};
 ghost use Rattle.smi_mail_plain.specs.Boxes.{sent_at, taken_at, waiting_at};
@@ -94,6 +94,14 @@ impl PlainMail {
         ensures count { length self.now.boxes ≡ length self.now.domain.objects }
     {
         let _boxes = &self.boxes;
+    }
+
+    /// How many requests wait at an object: those that were posted and not taken. The cost is constant.
+    pub fn waits(&self, o: ObjId) -> usize
+        requires { o < length self.now.domain.objects }
+        ensures { result ≡ length (waiting_at self.now o) }
+    {
+        self.boxes[o.get()].len()
     }
 
     /// Makes empty mailboxes for the objects of a domain. In each `capacity` requests may wait, 1 to `MAX_CAPACITY`.

@@ -172,6 +172,28 @@ object: B is_of_class BOSS
 objectset: G { }
 ";
 
+/// A boss that waits for the lamps of a set, and a fitter who takes the only lamp out of it.
+pub const FITTED: &[u8] = b"class: LAMP
+  state: OFF
+    action: LIGHT
+      move_to ON
+  state: ON
+class: BOSS
+  state: IDLE
+    action: GO
+      wait ( all_in G )
+      move_to DONE
+  state: DONE
+class: FITTER
+  state: IDLE
+    action: OUT
+      remove L from G
+object: L is_of_class LAMP
+object: B is_of_class BOSS
+object: F is_of_class FITTER
+objectset: G { L }
+";
+
 /// The supplies with what switches them on, the counter with its sink, the pair, and a watch that switches off one
 /// supply and asks about the other.
 pub const PLANT: &[u8] = b"class: SUPPLY /associated

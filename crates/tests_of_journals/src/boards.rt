@@ -62,6 +62,12 @@ pub enum Call {
     Look(&'static str, &'static [Plain], Option<u64>),
     /// A set has these members, in this order. They go by number.
     Has(usize, &'static [usize]),
+    /// As many requests wait at the object.
+    Waits(usize),
+    /// Why the object's start would be refused, if it would be.
+    Refused(Option<StartError>),
+    /// Whether the object's kept task may be able to continue.
+    MayGo(bool),
 }
 
 /// A board of a domain, with the capacity of its mail and how many starts it makes at most: what is
@@ -265,6 +271,9 @@ fn answers(
         Call::Quiet(told) => board.quiet() == told,
         Call::Look(state, params, dead_at) => is_like(domain, board, o, state, params, dead_at),
         Call::Has(set, members) => are_objects(board.members(SetId::new(set)), members),
+        Call::Waits(told) => board.waits(o) == told,
+        Call::Refused(told) => board.start_refused(o) == told,
+        Call::MayGo(told) => board.may_go_on(o) == told,
     }
 }
 

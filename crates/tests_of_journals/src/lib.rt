@@ -40,6 +40,8 @@ mod long_blocks;
 #[cfg(test)]
 mod look_ups;
 #[cfg(test)]
+mod looks;
+#[cfg(test)]
 mod mails;
 #[cfg(test)]
 mod memory_of_ledgers;

@@ -2,6 +2,7 @@
 
 use crate::boards::{Run, journal_of};
 use crate::counters::{FULL_OF_ARGUMENTS, GIVEN_ARGUMENTS};
+use crate::looks::{FREED, FREED_BY_A_CHANGE, LOOKED};
 use crate::supplies::{
     DEAD_BY_ANSWER, FAULTY, IN_ORDER, KILLED, KILLED_FIRST, NO_DEVICE, NO_START, ONE_START,
     ONE_WAITS, TWO_STARTS,
@@ -16,6 +17,8 @@ const OF_A_SWITCH: &[Run] = &[OTHER_STATES, SKIPPED];
 const DEAD: &[Run] = &[KILLED, KILLED_FIRST, FAULTY];
 
 const LIMITED: &[Run] = &[ONE_WAITS, ONE_START, TWO_STARTS, NO_START];
+
+const LOOKS: &[Run] = &[LOOKED, FREED, FREED_BY_A_CHANGE];
 
 const WITH_ARGUMENTS: &[Run] = &[GIVEN_ARGUMENTS, FULL_OF_ARGUMENTS];
 
@@ -66,6 +69,17 @@ fn mailboxes_and_starts_have_limits(rt: HostRuntime) {
 #[test]
 fn requests_keep_their_arguments(rt: HostRuntime) {
     for run in WITH_ARGUMENTS {
+        let (name, expected, given) = (run.name, run.journal, journal_of(rt.alloc(), *run));
+        assert!(rt;
+            given.as_str() == expected,
+            "{name}: expected {expected}given {given}"
+        );
+    }
+}
+
+#[test]
+fn what_waits_and_what_may_act_is_told(rt: HostRuntime) {
+    for run in LOOKS {
         let (name, expected, given) = (run.name, run.journal, journal_of(rt.alloc(), *run));
         assert!(rt;
             given.as_str() == expected,

@@ -39,4 +39,6 @@ mod memory_of_mailboxes;
 #[cfg(test)]
 mod memory_of_runs;
 #[cfg(test)]
+mod rests;
+#[cfg(test)]
 mod steps;
