@@ -1,19 +1,21 @@
 -- What holds of two journals, the second of which begins where the first has led.
-use Rattle.std.proofs.Common.{◌≡◌, ◌<◌, ◌≤◌, ℕ, zero, suc, Bool, true, false, List, [], ◌∷◌, ◌++◌, Option, Some, length, slice_get, slice_set, refl, sym, ap, ◌∙◌, subst, append_assoc, append-nil, ⊎_elim, arith}
-use Rattle.std.specs.Prelude.{fold, if◌then◌else◌}
+use Rattle.std.proofs.Common.{◌≡◌, ◌<◌, ◌≤◌, ℕ, ◌+◌, zero, suc, Bool, true, false, cond, List, [], ◌∷◌, ◌++◌, Option, Some, length, slice_get, slice_set, refl, sym, ap, ◌∙◌, subst, append_assoc, append-nil, ⊎_elim, arith}
+use Rattle.std.specs.Prelude.{fold, if◌then◌else◌, is_some}
+use Rattle.std.specs.List.{position_from}
 use Rattle.std.specs.Option.{option_map_or}
 use Rattle.std.proofs.lemmas.Grind.{fold-append, flat_map-append}
 use Rattle.std.proofs.lemmas.List.Elements.{filter-append}
 use Rattle.std.proofs.lemmas.List.{length-map}
 use Rattle.sml_domain.specs.Domain.{Domain}
-use Rattle.std.proofs.lemmas.Bool.{cases_lt}
+use Rattle.std.proofs.lemmas.Bool.{cases_lt, eq-eqb}
 use Rattle.std.proofs.lemmas.Option.{slice_get_past}
 use Rattle.sml_domain.specs.Lookups.{members_at, members_of_group}
+use Rattle.smi_journal_entries.specs.declared.entry.Cause.{Cause}
 use Rattle.smi_journal_entries.specs.declared.entry.Entry.{Entry}
 use Rattle.smi_journal_entries.specs.declared.entry.Entry.TheVariants.{Start, Post, Wait, Seen, End, Kill, Insert, Remove, NoMember}
 use Rattle.smi_journal_entries.specs.declared.entry.Sender.{Sender}
 use Rattle.smi_journal_entries.specs.Requests.{Request, same_sender, from_sender}
-use Rattle.smi_journal_entries.specs.Words.{initial_of, dead_of, state_of, state_next, state_after, starts_at, start_in, is_killed}
+use Rattle.smi_journal_entries.specs.Words.{initial_of, dead_of, state_of, state_next, state_after, starts_at, start_in, is_killed, kills}
 use Rattle.smi_journal_entries.specs.Sets.{Sets, as_declared, unchanged, or_declared, members_in, changed_to, changes_nothing, with_change, sets_next, sets_after, members_after}
 use Rattle.smi_journal_entries.proofs.Changing.{begin_declared}
 use Rattle.smi_journal_joined.specs.Joined.{GoesOn, StatesGoOn, MembersGoOn, FrontsGoOn, KillsGoOn, GoesOnAgain}
@@ -168,5 +170,19 @@ fronts_go_on J K first second rests killed was now o s = ⊎_elim
     left : (rest : List Request) × (from_sender s (starts_at o J) ++ rest ≡ from_sender s (first o))
     left = was o s
 
+-- ---- kills
+
+-- a journal with a kill of an object kills it
+killed_in : (o n : ℕ) (front back : List Entry) (by : Cause)
+    → is_some (position_from (kills o) n (front ++ Kill o by ∷ back)) ≡ true
+killed_in o n [] back by =
+    ap (λ b. is_some (cond (if b then true else false) (Some n) (position_from (kills o) (n + 1) back))) (eq-eqb o o refl)
+killed_in o n (e ∷ front) back by = either (kills o e) (killed_in o (n + 1) front back by)
+  where
+    either : (b : Bool) {rest : Option ℕ} → is_some rest ≡ true → is_some (cond b (Some n) rest) ≡ true
+    either true h = refl
+    either false h = h
+
 pub kills_go_on : KillsGoOn
-kills_go_on front back K o h g = starts_joined o back K ∙ ap (λ xs. xs ++ starts_at o K) h ∙ g
+kills_go_on front back K o by none h =
+    starts_joined o back K ∙ ap (λ xs. xs ++ starts_at o K) h ∙ none o (killed_in o 0 front back by)

@@ -1,8 +1,10 @@
 -- Two journals, the second of which begins where the first has led: what the first promised holds of both together.
-use Rattle.std.specs.Prelude.{◌≡◌, ◌<◌, ℕ, true, false, ◌⊎◌, List, [], ◌++◌, length}
+use Rattle.std.specs.Prelude.{◌≡◌, ◌<◌, ℕ, true, false, ◌⊎◌, List, [], ◌∷◌, ◌++◌, length}
 use Rattle.sml_domain.specs.Domain.{Domain}
 use Rattle.sml_domain.specs.Lookups.{members_at}
+use Rattle.smi_journal_entries.specs.declared.entry.Cause.{Cause}
 use Rattle.smi_journal_entries.specs.declared.entry.Entry.{Entry}
+use Rattle.smi_journal_entries.specs.declared.entry.Entry.TheVariants.{Kill}
 use Rattle.smi_journal_entries.specs.declared.entry.Sender.{Sender}
 use Rattle.smi_journal_entries.specs.Requests.{Request, from_sender}
 use Rattle.smi_journal_entries.specs.Words.{initial_of, dead_of, state_of, starts_at, is_open, is_killed}
@@ -46,10 +48,11 @@ abbrev pub FrontsGoOn : Type 0
 FrontsGoOn = (J K : List Entry) (first second : ℕ → List Request) → Rests J first → StartsNothingKilled J K
     → KeepsFronts J first → KeepsFronts K second → KeepsFronts (J ++ K) (λ o. first o ++ second o)
 
--- kills across both: what was killed in either is killed, and what was killed in the first starts nothing after it
+-- kills across both: where the second journal starts nothing at what the first has killed, and the first starts nothing
+-- at an object after its kill, nothing starts at that object after its kill in both
 abbrev pub KillsGoOn : Type 0
-KillsGoOn = (front back K : List Entry) (o : ℕ) → starts_at o back ≡ [] → starts_at o K ≡ []
-    → starts_at o (back ++ K) ≡ []
+KillsGoOn = (front back K : List Entry) (o : ℕ) (by : Cause) → StartsNothingKilled (front ++ Kill o by ∷ back) K
+    → starts_at o back ≡ [] → starts_at o (back ++ K) ≡ []
 
 -- a domain that begins where a journal has led goes on where both have led: a third log may follow, and so on
 abbrev pub GoesOnAgain : Type 0
