@@ -17,7 +17,7 @@ HOLDER = re.compile(r"(?:pub(?:\([a-z]+\))? )?(?:unsafe )?(impl|trait)\b(.*)")
 TYPE = re.compile(r" *(?:pub(?:\([a-z]+\))? )?(const|static|struct|enum|trait|type) (\w+)")
 # What a line of specs/ defines: `pub Name (..) : ..`, `abbrev pub name : ..`, `pub record Name : ..` and their like.
 DEFINITION = re.compile(
-    r"(?:abbrev |opaque |record |data )*pub (?:abbrev |opaque |record |data )*([A-Za-z_][\w']*)\s*(?:[({].*)?:"
+    r"(?:abbrev |opaque |unfoldable )*pub (?:abbrev |record |data )*([A-Za-z_][\w']*)\s*(?:[({].*)?:"
 )
 CLAUSE = re.compile(r"(ensures|requires) (?:(\w+) )?\{")
 # Crates that are no product: of tests, and the example.
@@ -202,13 +202,18 @@ def functions() -> tuple[Function, ...]:
     return tuple(found for path, lines in code().items() for found in functions_in(path, lines))
 
 
+def definitions_in(path: str, lines: list[str]) -> Iterator[Definition]:
+    """The words that a file of specs/ defines: those of a block stand two columns to the right."""
+    is_in_block = False
+    for at, line in enumerate(lines):
+        if line and not line.startswith((" ", "--")):
+            is_in_block = line in ("mutual", "abbrev mutual") or line.startswith("module ")
+        if found := DEFINITION.match(line, 2 if is_in_block and line.startswith("  ") else 0):
+            above = lines[at - 1].strip() if at else ""
+            yield Definition(path, at + 1, found[1], above[3:] if above.startswith("-- ") else "")
+
+
 @functools.cache
 def definitions() -> tuple[Definition, ...]:
     """All words that the crates define in specs/."""
-    found = []
-    for path, lines in specs().items():
-        for at, line in enumerate(lines):
-            if it := DEFINITION.match(line):
-                above = lines[at - 1] if at else ""
-                found.append(Definition(path, at + 1, it[1], above[3:] if above.startswith("-- ") else ""))
-    return tuple(found)
+    return tuple(found for path, lines in specs().items() for found in definitions_in(path, lines))
