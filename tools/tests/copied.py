@@ -1,11 +1,14 @@
 """Small repositories with copies of some tools: a tool works on the folder above the one in which it stands."""
 import contextlib
+import importlib.machinery
+import importlib.util
 import io
 import os
 import runpy
 import shutil
 import sys
 import tempfile
+import types
 import unittest
 import unittest.mock
 
@@ -42,6 +45,19 @@ class Repository(unittest.TestCase):
         text = self.read(name)
         self.assertEqual(text.count(old), 1, old)
         self.write(name, text.replace(old, new))
+
+    def load(self, name: str) -> types.ModuleType:
+        """The copy of a tool as a module, with modules of its own below it."""
+        loader = importlib.machinery.SourceFileLoader(f"copied_{name}", f"{self.top}/tools/{name}")
+        spec = importlib.util.spec_from_loader(loader.name, loader)
+        assert spec is not None
+        module = importlib.util.module_from_spec(spec)
+        with unittest.mock.patch.dict(sys.modules), \
+                unittest.mock.patch.object(sys, "path", [f"{self.top}/tools", *sys.path]):
+            for own in OWN:
+                sys.modules.pop(own, None)
+            loader.exec_module(module)
+        return module
 
     def tell(self, *words: str) -> tuple[int, list[str]]:
         """The status of a tool, and the lines that it writes. It runs in this process, with modules of its own."""
