@@ -1,5 +1,10 @@
 """The table of docs/GATE.md, and the rows that it is made of: `tools/gate-times`."""
+import contextlib
+import io
+import os
+import sys
 import unittest
+import unittest.mock
 
 from copied import Repository
 
@@ -26,6 +31,15 @@ SUMS = (
     "from sums import own_sum\n"
     "print(own_sum('low', ('src', 'specs', 'proofs', 'must-fail', 'data')))\n"
 )
+
+
+STAND_IN = """#!{python}
+import subprocess, sys
+{meanwhile}
+subprocess.run([sys.executable, "-c", "import time; time.sleep(0.7)", "--crate-name", "low"])
+print(" ".join(sys.argv[1:]))
+print("1 passed, 0 failed")
+"""
 
 
 class GateTimes(Repository):
@@ -112,6 +126,34 @@ class Stale(GateTimes):
         self.write("crates.txt", "low: itoa\n")
         self.with_sum()
         self.assertEqual(self.tell("gate-times", "--stale"), (0, ["0 of 1 rows are stale"]))
+
+
+class Measured(GateTimes):
+    """A gate of one crate, with a stand-in for `rt` that proves nothing and takes a while."""
+
+    def measure(self, meanwhile: str) -> None:
+        self.write("bin/rt", STAND_IN.format(python=sys.executable, meanwhile=meanwhile))
+        os.chmod(f"{self.top}/bin/rt", 0o755)
+        tool, path = self.load("gate-times"), f"{self.top}/bin:{os.environ['PATH']}"
+        with unittest.mock.patch.dict(os.environ, {"PATH": path}), \
+                unittest.mock.patch.object(tool, "yardstick", lambda: 0.25), \
+                unittest.mock.patch.object(sys, "argv", ["gate-times", "--anew", "low"]), \
+                contextlib.redirect_stdout(io.StringIO()) as told:
+            self.assertEqual(tool.main(), 0)
+        self.assertIn("ci --anew low\n1 passed, 0 failed\n", told.getvalue())
+
+    def test_a_row_has_the_sum_of_what_was_measured(self) -> None:
+        self.measure("")
+        self.assertEqual(self.tell("gate-times", "--same-page"), (0, ["0 wrong"]))
+        self.assertNotIn("low", " ".join(self.tell("gate-times", "--stale")[1]))
+        head, low, middle, whole = self.read("tools/gate-times.last").splitlines()
+        self.assertRegex(low, r"low \d\.\d\d 0\.00 0\.00 \d{4}-\d\d-\d\d 0\.25 [0-9a-f]{16}$")
+        self.assertEqual((middle, whole), (ROWS.splitlines()[1], f"whole: {WHOLE}"))
+
+    def test_what_changed_meanwhile_has_no_sum(self) -> None:
+        self.measure("open('crates/low/src/other.rt', 'w').close()")
+        told = "measured without a sum of its files: low, middle"
+        self.assertEqual(self.tell("gate-times", "--stale")[1][0], told)
 
 
 class Words(GateTimes):

@@ -121,6 +121,10 @@ class Looks(Order):
         text = "".join(f"    fn f{it}(&self)\n{clause}" for it in range(20))
         self.write("crates/two/src/lib.rt", f"trait Many {{\n{text}}}\n")
         self.assertEqual(self.new(), [])
+        others = "        ensures { a }\n" * 27
+        text = f"    fn f(&self)\n{clause.replace('} };', '} }')}{others}        ensures {{ a }};\n"
+        self.write("crates/two/src/lib.rt", f"trait Many {{\n{text}}}\n")
+        self.assertEqual(self.new(), ["long two/src/lib.rt Many::f 31"])
 
     def test_python_without_types(self) -> None:
         for text, name in (
