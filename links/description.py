@@ -149,7 +149,7 @@ class Hierarchy:
         return rows
 
     def beside(self, path: str) -> str:
-        return os.path.join(self.folder, path)
+        return os.path.normpath(os.path.join(self.folder, path))
 
     def domain_of(self, name: str) -> Domain:
         return self.domains[self.managers[name].domain_path]
