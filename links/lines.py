@@ -5,9 +5,15 @@ import collections
 import os
 import re
 
-# The program: SMIRUN, or else the one that is built in this repository.
-PROGRAM = os.environ.get("SMIRUN") or os.path.normpath(
-    f"{os.path.dirname(os.path.realpath(__file__))}/../crates/smirun/out/smirun")
+
+def program(named: str) -> str:
+    """What SMIRUN names, by a path that holds in every folder; or else the program that is built in this repository."""
+    if not named:
+        return os.path.normpath(f"{os.path.dirname(os.path.realpath(__file__))}/../crates/smirun/out/smirun")
+    return os.path.abspath(named) if os.sep in named else named
+
+
+PROGRAM = program(os.environ.get("SMIRUN", ""))
 # A line from outside has this many bytes at most, its line feed not counted; one of the manager has fewer than the
 # second.
 LONGEST_LINE, LONGEST_TOLD = 8192, 65536

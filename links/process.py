@@ -175,7 +175,8 @@ class Program:
     def start(self, now: float) -> None:
         self.next_start = now + AGAIN
         self.process = subprocess.Popen(self.words, stdin=subprocess.PIPE, stdout=subprocess.PIPE, bufsize=0,
-                                        start_new_session=True, cwd=self.folder)
+                                        start_new_session=True, cwd=self.folder,
+                                        env=os.environ | {"SMIRUN": PROGRAM})
         assert self.process.stdin and self.process.stdout
         for stream in (self.process.stdin, self.process.stdout):
             os.set_blocking(stream.fileno(), False)

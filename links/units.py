@@ -2,6 +2,7 @@
 from __future__ import annotations
 
 import os
+import shutil
 import sys
 
 from .description import Hierarchy
@@ -48,6 +49,6 @@ def write_units(hierarchy: Hierarchy, folder: str) -> list[str]:
         with open(paths[-1], "w", encoding="utf-8") as file:
             file.write(UNIT.format(
                 name=manager.name, root=hierarchy.name, python=quoted(sys.executable),
-                file=quoted(hierarchy.path).replace("$", "$$"), program=quoted(f"SMIRUN={os.path.abspath(PROGRAM)}"),
+                file=quoted(hierarchy.path).replace("$", "$$"), program=quoted(f"SMIRUN={shutil.which(PROGRAM) or PROGRAM}"),
                 folder=above.replace("%", "%%"), logs=quoted(os.path.dirname(os.path.abspath(manager.log)))))
     return paths
