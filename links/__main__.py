@@ -6,6 +6,7 @@
        links units FILE FOLDER              writes units of systemd, a folder for each machine
        links look FILE NAME [SECONDS]       shows, as operator NAME, how all managers and links stand
        links ask FILE NAME NODE OBJECT ACTION [ARGS] [SECONDS]    asks as operator NAME, and tells what came of it
+       links panel FILE NAME [PORT]         a page for a browser of this machine, as operator NAME
 
 `links` is `python3 -m links` in the repository, and `smirun-links` where it was installed. FILE is the description of a
 hierarchy (links/description.py says what stands in it). `look` listens for 5 seconds, and `ask` asks for 600 at most,
@@ -24,7 +25,7 @@ from .domain import Refused, read_domain
 
 # Of each command how many words it needs after FILE, and how many it may have.
 WORDS = {"check": (0, 0), "run": (0, 10_000), "node": (1, 1), "broker": (1, 1), "keys": (1, 10_000), "units": (1, 1),
-         "look": (1, 2), "ask": (4, 6)}
+         "look": (1, 2), "ask": (4, 6), "panel": (1, 2)}
 
 
 def check(hierarchy: Hierarchy, path: str) -> int:
@@ -49,6 +50,12 @@ def seconds_of(word: str) -> float:
     if not 0 < seconds <= description.MOST_SECONDS:
         raise Refused(f"{word} is no number of seconds, more than 0 and at most a million")
     return seconds
+
+
+def port_of(word: str) -> int:
+    if not word.isdecimal() or not 1 <= int(word) <= 65535:
+        raise Refused(f"{word} is no port")
+    return int(word)
 
 
 def write(command: str, hierarchy: Hierarchy, path: str, rest: list[str]) -> int:
@@ -87,6 +94,9 @@ def run_command(command: str, path: str, rest: list[str]) -> int:
     if command == "look":
         from .people import look
         return look(hierarchy, rest[0], seconds_of(rest[1]) if rest[1:] else 5.0)
+    if command == "panel":
+        from .panel import serve
+        return serve(hierarchy, rest[0].upper(), port_of(rest[1]) if rest[1:] else 0)
     return write(command, hierarchy, path, rest)
 
 

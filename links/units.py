@@ -40,15 +40,15 @@ def quoted(text: str) -> str:
 
 
 def write_units(hierarchy: Hierarchy, folder: str) -> list[str]:
-    paths = []
+    paths, above = [], os.path.dirname(os.path.dirname(os.path.realpath(__file__)))
+    program = quoted(f"SMIRUN={shutil.which(PROGRAM) or PROGRAM}")
     for manager in hierarchy.managers.values():
         machine = os.path.join(folder, manager.machine)
         os.makedirs(machine, exist_ok=True)
         paths.append(os.path.join(machine, f"{hierarchy.name}-{manager.name.lower()}.service"))
-        above = os.path.dirname(os.path.dirname(os.path.realpath(__file__)))
         with open(paths[-1], "w", encoding="utf-8") as file:
             file.write(UNIT.format(
                 name=manager.name, root=hierarchy.name, python=quoted(sys.executable),
-                file=quoted(hierarchy.path).replace("$", "$$"), program=quoted(f"SMIRUN={shutil.which(PROGRAM) or PROGRAM}"),
+                file=quoted(hierarchy.path).replace("$", "$$"), program=program,
                 folder=above.replace("%", "%%"), logs=quoted(os.path.dirname(os.path.abspath(manager.log)))))
     return paths
