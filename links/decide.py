@@ -306,7 +306,7 @@ class Decider:
         name, table = sub.link.sub, self.table
         known, was = self.notes.knows.get(name), table.open.get(name)
         former = known.child if known is not None and known.child != f"{sub.link.child}.{sub.link.object}" else ""
-        # Its arguments come with its start, which is told again behind how all stands.
+        # Its arguments come with its start, which is told again after how all stands.
         start = self.start_at(name) if was is not None and was.number != NOT_KNOWN else None
         return At(table.states[name], self.states_of[name], start, None if former else known, former, self.last[name])
 

@@ -99,7 +99,7 @@ def answers(told: bytes, asked: bytes, devices: set[str]) -> bool:
       end OBJECT skipped    is of a start, at every object. Names are in upper case, so no state is called `skipped`
 
     and all else (start, post, set, wait, seen, insert, remove, empty; the lines of a standing at --resume, and the
-    start lines that are told again behind it) answers nothing. `! unanswered` is what supervise.py writes for a line
+    start lines that are told again after it) answers nothing. `! unanswered` is what supervise.py writes for a line
     whose answer the end of a manager has swallowed.
     """
     if told.startswith(b"! unanswered "):
@@ -150,7 +150,7 @@ class Inlet:
         self.descriptor, self.longest, self.rest, self.has_ended = descriptor, longest, b"", False
 
     def read(self) -> list[bytes]:
-        """The lines that have come. What stands behind the last line feed is kept, at the end too."""
+        """The lines that have come. What stands after the last line feed is kept, at the end too."""
         try:
             got = os.read(self.descriptor, 65536)
         except BlockingIOError:

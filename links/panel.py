@@ -30,12 +30,12 @@ from .people import interrupt, topics_to_look_at
 HERE = os.path.dirname(os.path.realpath(__file__))
 PATIENCE, LIFE_SECONDS, LEAST_SECONDS = 10.0, 15.0, 0.25
 MOST_CONNECTIONS, MOST_STREAMS, LONGEST_BODY = 48, 16, 8192
-# A request that nobody answers is withdrawn after so many seconds, and the withdrawal is told for so many.
+# A request that nobody answers is withdrawn after the first number of seconds, and that is told for the second.
 ASKS, WITHDRAWS, AGAIN = 120.0, 6.0, 2.0
 
 
 class Request:
-    """What a page asks for, and what is said of it, line by line; nothing more behind an empty one."""
+    """What a page asks for, and what is said of it, line by line; nothing more after an empty one."""
 
     def __init__(self, node: str, asking: Asking) -> None:
         self.node, self.asking = node, asking

@@ -134,7 +134,7 @@ class Process:
                 os.fdatasync(log.fileno())
 
     def close_input(self) -> None:
-        """The manager's input ends, behind whole lines."""
+        """The manager's input ends, after whole lines."""
         ends = time.monotonic() + PATIENCE
         while self.is_blocked() and time.monotonic() < ends:
             self.flush()

@@ -202,7 +202,7 @@ class Tables(unittest.TestCase):
         for line in lines:
             table.take(line)
 
-    def test_tables_behind_a_restart(self) -> None:
+    def test_tables_after_a_restart(self) -> None:
         for seed in range(12):
             dice, ks = random.Random(seed), dict.fromkeys("ABC", 0)
             followed = Table(self.domain)

@@ -58,7 +58,8 @@ class Commands(unittest.TestCase):
         with open(f"{self.folder.name}/paho/__init__.py", "w", encoding="ascii") as file:
             file.write("raise ModuleNotFoundError('No module named paho')\n")
         env = os.environ | {"PYTHONPATH": f"{self.folder.name}:{ABOVE}"}
-        for words in (["-m", "links", "look", self.file, "ANNA"], [f"{ABOVE}/links/test-with-broker"]):
+        tools = [["-m", f"links.trials.{name}"] for name in ("crash", "hostile", "measure")]
+        for words in (["-m", "links", "look", self.file, "ANNA"], [f"{ABOVE}/links/test-with-broker"], *tools):
             done = subprocess.run([sys.executable, *words], env=env, capture_output=True, text=True)
             self.assertEqual((done.returncode, len(done.stderr.splitlines())), (1, 1), done.stderr)
             self.assertIn("does not find paho.mqtt: ", done.stderr)

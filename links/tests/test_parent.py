@@ -117,7 +117,7 @@ class AtSub(unittest.TestCase):
         self.assertEqual(self.asked(), f"command {K} {CHILDS} T GO")
 
     def test_what_was_given_up_stays_withdrawn(self) -> None:
-        """The register goes by the log: behind a restart of the node, a kill of SUB, and a number that is new."""
+        """The register goes by the log: after a restart of the node, a kill of SUB, and a number that is new."""
         self.begin(notes=known_notes(answered=K + 4))
         self.assertEqual(self.asked(), f"withdraw {K + 4} {CHILDS} T")
         self.side.begin("state SUB DEAD", "started SUB 9", "ended SUB 9", notes=known_notes(answered=K + 4))
@@ -142,7 +142,7 @@ class AtSub(unittest.TestCase):
         self.assertEqual(side.told(COMMANDS), f"command {(1000 << 32) + 2} {CHILDS} T GO")
 
     def test_a_limit_that_passes_before_the_log_is_known(self) -> None:
-        """Nothing is asked behind it, though the log comes to be known before it is given up."""
+        """Nothing is asked after it, though the log comes to be known before it is given up."""
         self.begin(notes=Notes(LOG, "boot", 1))
         self.side.hear(START)
         self.assertEqual(self.asked(), "")
@@ -223,7 +223,7 @@ class Reports(unittest.TestCase):
         self.assertEqual(side.hear("end SUB ON") + side.wait(1), [])
         self.assertEqual(side.decider.notes.knows["SUB"], Known("C.T", CHILDS, 2))
 
-    def test_a_state_counts_behind_two_beats(self) -> None:
+    def test_a_state_counts_after_two_beats(self) -> None:
         """A retained `up` and `state` of a child that is dead are one beat."""
         side = self.side
         side.begin(notes=known_notes())
