@@ -204,5 +204,10 @@ class Outlet:
         del self.waiting[:done]
         return bool(self.waiting) and done == len(piece)
 
+    def close(self) -> None:
+        """Its descriptor was closed, and its number may come to be that of another file: nothing more is written."""
+        self.descriptor, self.is_broken = -1, True
+        self.waiting.clear()
+
     def is_full(self) -> bool:
         return len(self.waiting) > MOST_WAITING

@@ -139,14 +139,15 @@ class Process:
         while self.is_blocked() and time.monotonic() < ends:
             self.flush()
             time.sleep(0.001)
-        if not self.stdin.closed:
-            self.stdin.close()
+        self.stdin.close()
+        self.to.close()
 
     def end(self) -> int:
         """The manager has ended, or is ended now: its status."""
         for stream in (self.stdin, self.process.stdout, self.process.stderr):
-            if stream and not stream.closed:
+            if stream:
                 stream.close()
+        self.to.close()
         try:
             return self.process.wait(PATIENCE if self.told.has_ended else 0)
         except subprocess.TimeoutExpired:
