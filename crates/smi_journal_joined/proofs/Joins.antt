@@ -177,11 +177,11 @@ killed_in : (o n : ℕ) (front back : List Entry) (by : Cause)
     → is_some (position_from (kills o) n (front ++ Kill o by ∷ back)) ≡ true
 killed_in o n [] back by =
     ap (λ b. is_some (cond (if b then true else false) (Some n) (position_from (kills o) (n + 1) back))) (eq-eqb o o refl)
-killed_in o n (e ∷ front) back by = either (kills o e) (killed_in o (n + 1) front back by)
+killed_in o n (e ∷ front) back by = either (kills o e) _ (killed_in o (n + 1) front back by)
   where
-    either : (b : Bool) {rest : Option ℕ} → is_some rest ≡ true → is_some (cond b (Some n) rest) ≡ true
-    either true h = refl
-    either false h = h
+    either : (b : Bool) (rest : Option ℕ) → is_some rest ≡ true → is_some (cond b (Some n) rest) ≡ true
+    either true rest h = refl
+    either false rest h = h
 
 pub kills_go_on : KillsGoOn
 kills_go_on front back K o by none h =
