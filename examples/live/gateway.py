@@ -5,7 +5,8 @@ usage: gateway.py FILE [--log PATH] [--port N] [--contact PATH] [words of smirun
 
 It starts `smirun live FILE`, with --log through supervise.py, which starts it again where it is killed. It prints its
 port and a secret that is made at each start, and writes both to --contact, a file that its user alone can read. A
-client sends the secret as its first line. Each client has a session of its own, @1 to @8, the lowest that is free.
+client sends the secret as its first line; a driver (driver.py) sends `SECRET driver OBJECT..`, and is told `# driver
+OBJECT..` after how all stands. Each client has a session of its own, @1 to @8, the lowest that is free.
 
 What a client may write, one line each, at most 8,192 bytes:
 
@@ -14,6 +15,8 @@ What a client may write, one line each, at most 8,192 bytes:
                                                  answer: once S3 K request @3 OBJECT ..
   kill OBJECT                                    the session is put in: kill OBJECT @3
   answer OBJECT STATE, fault OBJECT              a device's driver; it has no session
+  answer OBJECT STATE SENDER NUMBER              the same, with the request as its `start` names it
+  fault OBJECT SENDER NUMBER
   ! remark                                       gets into the log; it has no answer, as a line of blanks alone
   ?                                              asks how all stands
 
@@ -72,6 +75,8 @@ MOST_AHEAD = 3_600_000_000
 # What the manager says on standard error where it does not tell how all stands.
 NOT_TOLD = b"? not told"
 NAME = rb"[A-Za-z][A-Za-z0-9_]*"
+# An answer that names its request, as the `start` did: answer HV1 ON TRACKER 3.
+OF_REQUEST = re.compile(rb"((?:answer " + NAME + rb" |fault )" + NAME + rb") (@[1-8]|" + NAME + rb") ([0-9]{1,20})")
 REQUEST = re.compile(rb"[ \t\r]*request(?![A-Za-z0-9_])(.*)", re.I)
 KILL = re.compile(rb"[ \t\r]*kill[ \t\r]+(%b)[ \t\r]*(?:!.*)?" % NAME, re.I)
 ANSWER = re.compile(rb"[ \t\r]*answer[ \t\r]+%b[ \t\r]+%b[ \t\r]*(?:!.*)?" % (NAME, NAME), re.I)
@@ -335,7 +340,8 @@ class Gateway:
 
     def greet(self, client, line):
         """A stranger's first line. Who does not know the secret is told nothing else."""
-        if not hmac.compare_digest(line.rstrip(b"\r"), self.secret):
+        secret, _, rest = line.rstrip(b"\r").partition(b" ")
+        if not hmac.compare_digest(secret, self.secret) or rest and not rest.startswith(b"driver "):
             client.leave("this is not the secret")
             return
         taken = {other.session for other in self.clients}
@@ -343,15 +349,19 @@ class Gateway:
         if client.session is None:
             client.leave(f"there are {MOST_CLIENTS} clients already; come back when one has left")
         else:
-            client.tell(b"#", b"session @%d" % client.session)
+            if not rest:
+                client.tell(b"#", b"session @%d" % client.session)
             for line in self.standing.lines():
                 client.tell(b"-", line.encode())
+            if rest:
+                client.tell(b"#", rest)
 
     def hear(self, client: Client, line: bytes) -> None:
         if line.startswith(b"?"):
             self.standings.want(client)
             return
-        made = for_manager(line, client.session, time.time_ns() // 1000)
+        of_request = OF_REQUEST.fullmatch(line)
+        made = for_manager(of_request[1] if of_request else line, client.session, time.time_ns() // 1000)
         if made is None:
             asked = Asked(client)
             client.asked.append(asked)

@@ -6,8 +6,9 @@ usage: play_devices.py FILE IN OUT                 IN is what the manager reads,
        play_devices.py FILE --pipe                 standard input and output; nothing is shown
 
 FILE is the domain: examples/detector.sml, examples/partition.sml, or one with the same actions of devices. At each
-`start` line of a device its action is begun, and answered after a while; the devices work at the same time. What the
-manager writes is shown. SIGTERM ends it once the manager has ended.
+`start` line of a device its action is begun, and answered after a while; the devices work at the same time. Over FIFOs
+what the manager writes is shown, and SIGTERM ends it once the manager has ended. At a gateway it connects again, for
+ever, and SIGTERM ends it at once.
 
 With `--trip OBJECT=STATE@SECONDS` a device changes by itself: it is in STATE that many seconds after the start. With
 `--trips PATH` each line `OBJECT STATE` that is added to the file PATH does so when it comes. A device that rests in
@@ -15,24 +16,22 @@ another state than its object asks for the report, the action REPORT of its own 
 that it is in then; where that is refused, it asks again, ever more seldom. So its class declares `REPORT`, without
 parameters, in each of its states. At first a device is in the state that the manager tells of its object.
 
-A driver of real equipment has the same form: `Device.begin` talks to the equipment where this one sets a clock.
+A driver of real equipment has the same form: its `perform` talks to the equipment where this one waits (driver.py).
 """
 from __future__ import annotations
 
 import argparse
 import os
 import signal
-import socket
 import sys
 import threading
 import time
-from collections.abc import Iterable
 
 from domain import Domain
-from lines import read_contact
+from driver import Arguments, Driver, Failed
 
-# The action by which a change is reported, and the seconds between two requests of it: at first, and at most.
-REPORT, FIRST_PAUSE, LAST_PAUSE = "REPORT", 0.1, 10.0
+# The action by which a change is reported.
+REPORT = "REPORT"
 # How often it is looked whether something has changed by itself.
 LOOKS_EVERY = 0.1
 MOST_SECONDS = 1_000_000.0
@@ -43,105 +42,67 @@ ACTIONS = {
     "LOAD": ("LOADED", 0.8), "CONFIGURE": ("READY", 0.8), "START": ("TAKING_DATA", 0.4), "STOP": ("READY", 0.4),
     "RESET": ("IDLE", 0.3),
 }
-Request = tuple[str, str]
 
 
-class Asking:
-    """The way to the manager. A line goes out in one write, so that lines of several writers do not mix. `session`
-    stands in front of the object of a request: a gateway puts in one of its own, and elsewhere it is that of drivers.
-    """
+class Player(Driver):
+    """Plays devices: the first action of some fails, by a state, or by FAULT; some change by themselves."""
 
-    def __init__(self, descriptor: int, session: str = "@7 ") -> None:
-        self.descriptor, self.session = descriptor, session
+    def __init__(self, domain: Domain, failures: dict[str, str], factor: float, is_shown: bool) -> None:
+        super().__init__([name for name in domain.objects if name in domain.devices])
+        self.domain, self.failures, self.factor, self.is_shown = domain, failures, factor, is_shown
+        # The states in which the devices are; those of their objects are `known`.
+        self.states = {name: domain.class_of(name).initial for name in self.devices}
+        self.known = dict(self.states)
+        # Those that have changed neither by an action nor by themselves.
+        self.new = {*self.devices}
+        self.reporting = [name for name in self.devices if REPORT in domain.class_of(name).actions()]
 
-    def ask(self, line: str) -> None:
-        try:
-            os.write(self.descriptor, line.encode("ascii") + b"\n")
-        except OSError:
-            pass  # the manager has ended
+    def hear(self, mark: str, line: str, is_again: bool = False) -> None:
+        super().hear(mark, line, is_again)
+        words = line.split(" ")
+        if words[0] == "state" and words[1] in self.new:
+            self.states[words[1]] = words[2]
 
-    def leave(self, *_: object) -> None:
-        """Lets go of the manager's input, which may then end. What the manager still writes is shown."""
-        descriptor, self.descriptor = self.descriptor, -1
-        if descriptor >= 0:
-            os.close(descriptor)
-
-
-class Device:
-    """A device: what it does now, and how its first action fails, if it does: a state, or FAULT. And the state that it
-    is in, beside that in which the manager has its object."""
-
-    def __init__(self, name: str, asking: Asking, failure: str | None, factor: float, state: str) -> None:
-        self.name, self.asking, self.failure, self.factor = name, asking, failure, factor
-        self.state = self.known = state
-        # It has changed neither by an action nor by itself; and its object was killed.
-        self.is_new, self.is_dead = True, False
-        self.next_report, self.pause = 0.0, FIRST_PAUSE
-        # The request whose action it is at, by its sender and number. A clock's own thread ends an action.
-        self.request: Request | None = None
-        self.clock: threading.Timer | None = None
-        self.lock = threading.Lock()
-
-    def begin(self, request: Request, action: str) -> None:
-        """Begins the action of a request. One that is told again, because the manager was started again, goes on."""
-        with self.lock:
-            if self.request == request:
-                return
-            self.request, self.is_new, self.is_dead = request, False, False
+    def perform(self, name: str, action: str, arguments: Arguments) -> str:
+        self.new.discard(name)
         if action == REPORT:
-            self.end(request, None)
-            return
+            return self.states[name]
         state, seconds = ACTIONS[action]
-        state, self.failure = self.failure or state, None
-        self.clock = threading.Timer(seconds * self.factor, self.end, [request, state])
-        self.clock.daemon = True
-        self.clock.start()
-
-    def end(self, request: Request, state: str | None) -> None:
-        """The action of a request is done, in a state, or in that of now. It is ended before that is told, since the
-        next may begin at once."""
+        state = self.failures.pop(name, state)
+        self.wait(seconds * self.factor)
+        if state == "FAULT":
+            raise Failed("as it was asked for")
         with self.lock:
-            if self.request != request:
-                return
-            self.request = None
-            if state != "FAULT":
-                self.state = state or self.state
-            line = f"fault {self.name}" if state == "FAULT" else f"answer {self.name} {self.state}"
-        self.asking.ask(line)
+            self.wait(0)  # it may have tripped meanwhile
+            self.states[name] = state
+        return state
 
-    def trip(self, state: str) -> None:
-        """It changes by itself. An action that is under way ends so."""
+    def trip(self, name: str, state: str) -> None:
+        """A device changes by itself. An action that is under way ends so."""
         with self.lock:
-            self.state, self.is_new, request = state, False, self.request
-        if request is not None:
-            if self.clock is not None:
-                self.clock.cancel()
-            self.end(request, state)
+            self.new.discard(name)
+            self.states[name] = state
+            self.answer(name, state)
 
-    def hear(self, state: str, is_first: bool) -> None:
-        """The manager has its object in a state."""
+    def differs(self, name: str) -> bool:
+        known = self.known.get(name)
+        return known not in (None, self.states[name], self.domain.class_of(name).dead)
+
+    def declares(self, name: str, action: str) -> bool | None:
+        return self.domain.declares(name, self.known[name], action) if name in self.known else None
+
+    def report_all(self) -> None:
+        """Asks for the report of each device that rests in another state than its object."""
         with self.lock:
-            self.known = state
-            self.state = state if is_first and self.is_new else self.state
+            for name in self.reporting:
+                if self.differs(name) and not self.is_at_work(name):
+                    self.report(name)
 
-    def report(self, now: float) -> None:
-        """Asks for a report, where it rests in another state than its object."""
-        if self.request is not None or self.state == self.known or self.is_dead:
-            self.pause = FIRST_PAUSE
-        elif now >= self.next_report:
-            self.next_report, self.pause = now + self.pause, min(2 * self.pause, LAST_PAUSE)
-            self.asking.ask(f"request {self.asking.session}{self.name} {REPORT}")
-
-    def stop(self, is_dead: bool = False) -> None:
-        """The object was killed, or there is nothing to do: nothing is answered."""
-        with self.lock:
-            self.request, self.is_dead = None, is_dead
-        if self.clock is not None:
-            self.clock.cancel()
-            self.clock = None
+    def show(self, line: str) -> None:
+        if self.is_shown:
+            print(line, flush=True)
 
 
-Devices = dict[str, Device]
 # A device, the state that it comes to by itself, and how many seconds after the start.
 Trip = tuple[str, str, float]
 
@@ -162,20 +123,20 @@ def read_trip(domain: Domain, word: str) -> Trip:
 class Trips:
     """What changes by itself, and when."""
 
-    def __init__(self, domain: Domain, devices: Devices, left: list[Trip], path: str | None) -> None:
-        self.domain, self.devices, self.left, self.path = domain, devices, left, path
+    def __init__(self, player: Player, left: list[Trip], path: str | None) -> None:
+        self.player, self.left, self.path = player, left, path
         # What stands in the file already is over.
         self.place = os.path.getsize(path) if path and os.path.exists(path) else 0
 
     def look(self, seconds: float) -> None:
         """So long after the start."""
         for name, state, _ in [trip for trip in self.left if seconds >= trip[2]]:
-            self.devices[name].trip(state)
+            self.player.trip(name, state)
         self.left = [trip for trip in self.left if seconds < trip[2]]
         for line in self.added():
             name, _, state = line.strip().upper().partition(" ")
-            if is_state(self.domain, name, state):
-                self.devices[name].trip(state)
+            if is_state(self.player.domain, name, state):
+                self.player.trip(name, state)
             elif line.strip():
                 print(f"{self.path}: {line.strip()} is no device with one of its states", file=sys.stderr, flush=True)
 
@@ -194,50 +155,9 @@ class Trips:
         """It never ends."""
         begun = time.monotonic()
         while True:
-            now = time.monotonic()
-            self.look(now - begun)
-            for device in self.devices.values():
-                device.report(now)
+            self.look(time.monotonic() - begun)
+            self.player.report_all()
             time.sleep(LOOKS_EVERY)
-
-
-def follow(told: Iterable[str], devices: Devices, shows: bool) -> None:
-    """Follows what the manager writes, line by line."""
-    for line in told:
-        if shows:
-            print(line.rstrip("\n"), flush=True)
-        words = line.split()
-        device = devices.get(words[1]) if len(words) > 2 else None
-        if device is None:
-            continue
-        if words[0] == "start":  # start OBJECT SENDER NUMBER ACTION (arguments)
-            device.begin((words[2], words[3]), words[4])
-        elif words[0] == "kill" or words[0] == "end" and words[2] == "skipped":
-            device.stop(is_dead=words[0] == "kill")
-        elif words[0] in ("end", "state"):
-            device.hear(words[2], is_first=words[0] == "state")
-
-
-def at_gateway(contact: str) -> tuple[socket.socket, Iterable[str], Asking]:
-    """A connection to a gateway: what it tells, without the marks in front, and the way to it."""
-    host, port, secret = read_contact(contact)
-    try:
-        link = socket.create_connection((host, int(port)))
-    except OSError as fault:
-        raise SystemExit(f"{contact} tells of no gateway that is there: {fault.strerror}") from None
-    asking = Asking(link.fileno(), session="")
-    asking.ask(secret)
-    marked = link.makefile("r", encoding="ascii")
-    return link, (line[2:] for line in marked if line[:2] in ("= ", "- ")), asking
-
-
-def at_pipes(asked: argparse.Namespace) -> tuple[None, Iterable[str], Asking]:
-    """The two FIFOs. Opening waits until the manager has them too."""
-    try:
-        asking = Asking(os.open(asked.input, os.O_WRONLY))
-        return None, open(asked.output, encoding="ascii"), asking
-    except OSError as fault:
-        raise SystemExit(f"{fault.filename}: {fault.strerror}") from None
 
 
 def parser() -> argparse.ArgumentParser:
@@ -280,18 +200,20 @@ def main() -> None:
         trips = [read_trip(domain, word) for word in asked.trip]
     except ValueError as fault:
         words.error(f"--trip {fault}: it is OBJECT=STATE@SECONDS, of a device and one of its states")
-    _link: socket.socket | None = None
-    told: Iterable[str] = sys.stdin
-    asking = Asking(1)
-    if not asked.pipe:
-        _link, told, asking = at_gateway(asked.gateway) if asked.gateway else at_pipes(asked)
-    if not asked.pipe and not asked.gateway:
-        signal.signal(signal.SIGTERM, asking.leave)
-    devices = {name: Device(name, asking, failures.get(name), asked.factor, domain.class_of(name).initial)
-               for name in domain.devices}
+    player = Player(domain, failures, asked.factor, is_shown=not asked.pipe)
     if trips or asked.trips:
-        threading.Thread(target=Trips(domain, devices, trips, asked.trips).watch, daemon=True).start()
-    follow(told, devices, shows=not asked.pipe)
+        threading.Thread(target=Trips(player, trips, asked.trips).watch, daemon=True).start()
+    if asked.pipe:
+        player.serve_descriptors(1, 0)
+        return
+    signal.signal(signal.SIGTERM, lambda *_: player.leave())
+    if asked.gateway:
+        player.serve(asked.gateway)
+        return
+    try:
+        player.serve_pipes(asked.input, asked.output)
+    except OSError as fault:
+        raise SystemExit(f"{fault.filename}: {fault.strerror}") from None
 
 
 if __name__ == "__main__":
