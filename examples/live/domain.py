@@ -70,6 +70,22 @@ class Standing:
             self.starts[rest[0]] = line
         getattr(self, f"take_{word}", self.pass_over)(*rest)
 
+    def is_skipped(self, line: str) -> bool:
+        """Whether a line is the start of an action that its object's state does not declare: the manager skips it."""
+        words = line.split(" ", 5)
+        return (words[0] == "start" and words[1] in self.domain.objects
+                and not self.domain.declares(words[1], self.states[words[1]], words[4]))
+
+    def in_hand(self, name: str) -> tuple[str, str] | None:
+        """The request that a device has in hand, by its sender and number, as far as the manager has told."""
+        words = self.starts[name].split(" ") if name in self.open and name in self.starts else []
+        return (words[2], words[3]) if words else None
+
+    def lacks_starts(self) -> bool:
+        """Whether a device is at work of which no start was told. So it is after how all stands, until the starts of
+        what devices have in hand are told again."""
+        return any(name not in self.starts for name in self.open if name in self.domain.devices)
+
     def pass_over(self, *_: str) -> None:
         """Lines that change nothing here: refused, empty, remarks; answers to who asks once (the request's own line
         `accept` stands before); and of how all stands the counts, and what became of such requests."""
