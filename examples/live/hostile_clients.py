@@ -181,8 +181,8 @@ def foreign_drivers(served: Served) -> bool:
 
 
 def many_drivers(served: Served) -> bool:
-    """Twelve connections that want to drive the same two devices, and leave, again and again: the devices are free after
-    them, and an honest client has its answers."""
+    """Twelve connections that want to drive the same two devices, and leave, again and again: the devices are free
+    after them, and an honest client has its answers."""
     for _ in range(5):
         ones = [served.driver("TRACKER_CRATE1" if n == 0 else "TRACKER_CRATE2") for n in range(12)]
         if ones[0].session != "# driver TRACKER_CRATE1" or not served.answers():

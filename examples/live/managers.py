@@ -2,6 +2,7 @@
 from __future__ import annotations
 
 import os
+import re
 import subprocess
 import time
 
@@ -9,6 +10,9 @@ from lines import LONGEST_TOLD, Inlet, Outlet
 
 # A log has this many bytes at most; it is looked at after this many seconds.
 LONGEST_LOG, LOOKS_APART = 1 << 24, 5.0
+# What a manager complains of, where it is not over after a while. (How full a log is the gateway says itself.)
+LASTING = re.compile(r"nine tenths of|limit$|(?<!nine tenths )full$|was moved|was written by another|output fault"
+                     r"|memory")
 
 
 class Manager:

@@ -15,7 +15,7 @@ from domain import Domain, Standing, tells_standing
 from drivers import Drivers, Timeouts
 from holders import Holders, Operators
 from lines import has_answer, is_once_answer
-from managers import Log, Manager
+from managers import LASTING, Log, Manager
 from times import is_time
 
 MOST_CLIENTS, MOST_DRIVERS = 6, 64
@@ -66,6 +66,8 @@ class Gateway:
         self.dispatch = Dispatch(self.manager.to, self.domain.devices, self.standing.in_hand, settings.log is not None)
         self.clients: list[Client] = []
         self.leaving_since: float | None = None
+        # What the manager complains of that is not over after a while: who comes later is told it too.
+        self.complaints: dict[bytes, None] = {}
         # The manager has ended: when it is started again.
         self.again_at: float | None = None
         self.pause, self.is_first, self.is_in_use, self.is_log_lost = LEAST_PAUSE, True, False, False
@@ -109,7 +111,7 @@ class Gateway:
     def start_again(self) -> None:
         self.manager.close()
         self.manager = Manager(self.settings.words)
-        self.is_first, self.is_in_use = False, False
+        self.is_first, self.is_in_use, self.complaints = False, False, {}
         self.standings.manager = self.manager.to
         self.dispatch.begin_again(self.manager.to)
         self.standings.ask()
@@ -258,8 +260,8 @@ class Gateway:
             return
         client.who = name or f"@{client.session}"
         client.tell(b"#", b"session @%d" % client.session + (b" " + name.encode() if name else b""))
-        for line in self.standing.lines():
-            client.tell(b"-", line.encode())
+        for text in self.standing.lines():
+            client.tell(b"-", text.encode())
         client.tell(b"#", b"told")
         for devices in self.drivers.lists():
             client.tell(b"#", f"driver of {' '.join(devices)} here".encode())
@@ -267,6 +269,8 @@ class Gateway:
             client.tell(b"#", f"{top} is held by {who}".encode())
         if self.log.tenths > 0:
             client.tell(b"#", self.log.sentence())
+        for line in self.complaints:
+            client.tell(b"#", line)
         if self.again_at is not None:
             client.tell(b"#", b"the manager is away")
 
@@ -402,11 +406,14 @@ class Gateway:
         for line in self.manager.complaints.read():
             if line.startswith((b"! restarted", b"! begun anew")):
                 self.standings.ask()
+                self.complaints = {}
             if line == NOT_TOLD or tells_standing(line.decode("latin1")):
                 self.standings.take(line)
                 continue
             # The manager of a gateway that was killed may have the log for a while yet.
             self.is_in_use = self.is_in_use or line.endswith(b" is in use")
             self.is_log_lost = self.is_log_lost or line.endswith(LOG_IS_LOST)
+            if LASTING.search(line.decode("latin1")):
+                self.complaints[line] = None
             print(line.decode("latin1"), file=sys.stderr, flush=True)
             self.tell_all(b"#", line)

@@ -1,4 +1,4 @@
-"""What the panel says of what it was asked, at a gateway that is played and cuts the connection: `panel.py`."""
+"""What the panel says of what it was asked, at a gateway that is played and cuts the connection: `panel_client.py`."""
 import contextlib
 import os
 import socket
@@ -9,12 +9,14 @@ import time
 import types
 import unittest
 from collections.abc import Callable, Iterator
+from typing import Any
 from unittest import mock
 
 LIVE = os.path.dirname(os.path.dirname(os.path.realpath(__file__)))
 sys.path.insert(0, LIVE)
 
-import panel  # noqa: E402
+import panel_client  # noqa: E402
+from connections import shut  # noqa: E402
 from domain import Class  # noqa: E402
 
 # Nothing here takes longer, in seconds, unless it stands still.
@@ -30,11 +32,12 @@ SAID = (
 )
 
 
-def domain() -> types.SimpleNamespace:
+def domain() -> Any:
     """One supply."""
     kind = Class(True)
     kind.states, kind.initial = {"OFF": {}}, "OFF"
-    return types.SimpleNamespace(classes={"SUPPLY": kind}, objects={"HV1": "SUPPLY"}, sets={}, devices={"HV1"})
+    return types.SimpleNamespace(classes={"SUPPLY": kind}, objects={"HV1": "SUPPLY"}, sets={}, devices={"HV1"},
+                                 commands={"HV1": []})
 
 
 class Play:
@@ -70,7 +73,7 @@ def run_plays(door: socket.socket, contact: str, plays: tuple[Play, ...]) -> Non
 
 
 @contextlib.contextmanager
-def at_gateway(*plays: Play) -> Iterator[panel.Manager]:
+def at_gateway(*plays: Play) -> Iterator[panel_client.Manager]:
     """A panel at a gateway that does this, connection by connection."""
     with tempfile.TemporaryDirectory() as folder, socket.create_server(("127.0.0.1", 0)) as door:
         door.settimeout(LIMIT)
@@ -79,7 +82,7 @@ def at_gateway(*plays: Play) -> Iterator[panel.Manager]:
             file.write(f"127.0.0.1 {door.getsockname()[1]} one\n")
         thread = threading.Thread(target=run_plays, args=[door, contact, plays], daemon=True)
         thread.start()
-        manager = panel.Manager(domain(), contact)
+        manager = panel_client.Manager(domain(), contact)
         try:
             yield manager
         finally:
@@ -87,11 +90,11 @@ def at_gateway(*plays: Play) -> Iterator[panel.Manager]:
             thread.join(LIMIT)
 
 
-def leave(manager: panel.Manager) -> None:
-    with mock.patch.object(panel, "RETRY_SECONDS", 0.0), manager.changed:
+def leave(manager: panel_client.Manager) -> None:
+    with mock.patch.object(panel_client, "RETRY_SECONDS", 0.0), manager.changed:
         if manager.link:
-            panel.hang_up(manager.link)
-        manager.changed.wait_for(lambda: manager.has_ended, LIMIT)
+            shut(manager.link)
+        manager.changed.wait_for(lambda: manager.view.has_ended, LIMIT)
 
 
 class Connections(unittest.TestCase):
@@ -121,7 +124,9 @@ class Connections(unittest.TestCase):
 
     def test_nothing_is_asked_again_of_another(self) -> None:
         """With another session it would be another request; another gateway may have another log."""
-        for name, session, last in (("session", 4, lambda _: None), ("gateway", 3, renew)):
+        tries: tuple[tuple[str, int, Callable[[str], None]], ...] = (
+            ("session", 4, lambda _: None), ("gateway", 3, renew))
+        for name, session, last in tries:
             plays = Play(3, 1, last=last), Play(session, 1, f"= {ACCEPTED}\n")
             with self.subTest(name), at_gateway(*plays) as manager:
                 self.assertEqual([*manager.ask(REQUEST)], ["sent", "not known"])
@@ -131,7 +136,7 @@ class Connections(unittest.TestCase):
     def test_what_is_not_waited_for_is_not_asked_again(self) -> None:
         plays = Play(3, 2), Play(3, 1, f"= {ACCEPTED}\n")
         with at_gateway(*plays) as manager:
-            with mock.patch.object(panel, "ANSWER_SECONDS", 0.01):
+            with mock.patch.object(panel_client, "ANSWER_SECONDS", 0.01):
                 self.assertEqual([*manager.ask(REQUEST)], ["sent", "no answer yet"])
             self.assertEqual([*manager.ask(REQUEST)], ["sent", "accepted"])
             self.assertEqual(plays[1].heard, plays[0].heard[1:])
@@ -141,7 +146,7 @@ class Answers(unittest.TestCase):
     def test_what_is_said_of_an_answer(self) -> None:
         for answer, is_again, said in SAID:
             with self.subTest(answer=answer, is_again=is_again):
-                self.assertEqual(panel.said_of(answer, is_again), said)
+                self.assertEqual(panel_client.said_of(answer, is_again), said)
 
 
 if __name__ == "__main__":
