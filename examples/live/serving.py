@@ -364,6 +364,7 @@ class Gateway:
 
     def hear_manager(self, _: int) -> None:
         for line in self.manager.told.read():
+            self.log.has_begun = True
             text = line.decode("latin1")
             self.standing.take(text)
             self.timeouts.take(text, time.monotonic())
