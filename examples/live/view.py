@@ -68,7 +68,8 @@ class View:
 
     def begin(self, first: str) -> None:
         """A new connection, by the first line that the gateway tells: `# session @1 anna`. All is told anew."""
-        self.facts.standing, self.facts.drivers = Standing(self.domain), Drivers()
+        self.facts.standing = Standing(self.domain)
+        self.facts.drivers.begin(time.time())
         self.holders, self.complaints, self.is_greeted, self.cut_since = {}, {}, False, None
         self.who = first.split()[-1]
         self.keep(first)

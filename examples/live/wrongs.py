@@ -126,6 +126,11 @@ class Drivers:
         self.lost: dict[str, float] = {}
         self.is_told = False
 
+    def begin(self, now: float) -> None:
+        """A new connection: the gateway tells anew who is there. Drivers that do not come back are lost from now on."""
+        self.lost = {**dict.fromkeys(self.here, now), **self.lost}
+        self.here, self.is_told = set(), False
+
     def take(self, sentence: str, now: float) -> None:
         # After this line the drivers that are there are told.
         self.is_told = self.is_told or sentence == "told"

@@ -77,6 +77,15 @@ class Wrongs(unittest.TestCase):
         self.drivers.take("driver of HV2 lost", 107.0)
         self.assertEqual(self.found(108.0), [("driver", "no driver: HV1, HV2", ["HV1", "HV2"], 105.0)])
 
+    def test_a_driver_that_does_not_come_back_to_a_gateway_is_lost(self) -> None:
+        for sentence in ("driver of HV1 here", "driver of HV2 here", "driver of HV2 lost"):
+            self.drivers.take(sentence, 101.0)
+        self.drivers.begin(102.0)
+        self.drivers.take("told", 102.0)
+        self.assertEqual(self.found(103.0), [("driver", "no driver: HV1, HV2", ["HV1", "HV2"], 101.0)])
+        self.drivers.take("driver of HV2 here", 104.0)
+        self.assertEqual(self.found(105.0), [("driver", "no driver: HV1", ["HV1"], 102.0)])
+
     def test_dead_and_in_error(self) -> None:
         self.take(101.0, "kill HV1 fault")
         self.take(102.0, "accept @1 HV2 0 X", "start HV2 @1 0 X", "end HV2 TRIPPED")
