@@ -69,9 +69,9 @@ was made is not made twice. A last line without its line feed is not taken.
 
 With --log the gateway outlives its manager: where supervise.py has ended, all are told `# the manager is away ..`, no
 line is handed on, and it is started again after 1, 2, 4 .. 60 seconds. It ends with the manager where that ends by
-itself within five seconds of the first start (a wrong domain, or a wrong log), and where the log was moved, was written
-by another, or is gone. While a manager reads its log nobody is told how all stands, and no line is handed on: both wait
-until it has told how all stands, and what devices have in hand.
+itself within five seconds of the first start, or before it told anything (a wrong domain or log), and where the log was
+moved, was written by another, or is gone. While a manager reads its log nobody is told how all stands, and no line is
+handed on: both wait until it has told how all stands, and what devices have in hand.
 """
 from __future__ import annotations
 

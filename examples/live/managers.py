@@ -28,7 +28,7 @@ class Manager:
         self.to = Outlet(self.process.stdin.fileno())
         self.told = Inlet(self.process.stdout.fileno(), LONGEST_TOLD)
         self.complaints = Inlet(self.process.stderr.fileno(), LONGEST_TOLD)
-        self.since = time.monotonic()
+        self.since, self.has_told = time.monotonic(), False
 
     def seconds(self) -> float:
         return time.monotonic() - self.since

@@ -23,7 +23,8 @@ MOST_CLIENTS, MOST_DRIVERS = 6, 64
 DRIVERS_SESSION = 7
 # A manager that has ended is started again after this many seconds: at first, and at most.
 LEAST_PAUSE, MOST_PAUSE = 1.0, 60.0
-# A manager that ends by itself within this many seconds of the first start has a wrong file or log: then all ends.
+# A manager that ends by itself within this many seconds of the first start, or before it has told anything, has a wrong
+# file or log: then all ends.
 FIRST_SECONDS = 5.0
 # So does it where its log is no more what it wrote: another one would begin a new log while all is switched on.
 LOG_IS_LOST = (b" was moved", b" was written by another")
@@ -91,8 +92,10 @@ class Gateway:
             self.be_away()
 
     def is_wrong(self, status: int) -> bool:
-        """Whether a manager that has ended had a wrong file or log."""
-        return self.is_first and status > 0 and self.manager.seconds() < FIRST_SECONDS and not self.is_in_use
+        """Whether a manager that has ended had a wrong file or log: on a busy machine it may take long to say so, but
+        then it has told nothing else."""
+        is_early = self.manager.seconds() < FIRST_SECONDS or not self.manager.has_told
+        return self.is_first and status > 0 and is_early and not self.is_in_use
 
     def be_away(self) -> None:
         """The manager has ended, and this gateway goes on: until it is started again, or this one is to end too."""
@@ -364,7 +367,7 @@ class Gateway:
 
     def hear_manager(self, _: int) -> None:
         for line in self.manager.told.read():
-            self.log.has_begun = True
+            self.log.has_begun = self.manager.has_told = True
             text = line.decode("latin1")
             self.standing.take(text)
             self.timeouts.take(text, time.monotonic())

@@ -150,6 +150,15 @@ class Serving(unittest.TestCase):
         self.assertEqual(operator.until("# " + self.log), f"# {self.log} is gone")
         self.assertEqual(self.gateway.wait(LIMIT), 1)
 
+    def test_it_ends_with_a_manager_that_cannot_begin(self) -> None:
+        """However long that takes to say so."""
+        with open(f"{self.folder}/smirun", "r+", encoding="ascii") as file:
+            text = file.read().replace("exec", '[ "$1" != live ] || { sleep 6; exit 1; }\nexec')
+            file.seek(0)
+            file.write(text)
+        self.start("--log", self.log)
+        self.assertEqual(self.gateway.wait(LIMIT), 1)
+
     def test_what_is_late_is_answered(self) -> None:
         with open(f"{self.folder}/timeouts", "w", encoding="ascii") as file:
             file.write("SUPPLY SWITCH_ON 0.2 OFF\n")
