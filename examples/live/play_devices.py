@@ -53,8 +53,8 @@ class Player(Driver):
         # The states in which the devices are; those of their objects are `known`.
         self.states = {name: domain.class_of(name).initial for name in self.devices}
         self.known = dict(self.states)
-        # Those that have changed neither by an action nor by themselves.
-        self.new = {*self.devices}
+        # Those that have changed neither by an action nor by themselves; and those whose objects' states were told.
+        self.new, self.told = {*self.devices}, set[str]()
         self.reporting = [name for name in self.devices if REPORT in domain.class_of(name).actions()]
 
     def hear(self, mark: str, line: str, is_again: bool = False) -> None:
@@ -62,6 +62,8 @@ class Player(Driver):
         words = line.split(" ")
         if words[0] == "state" and words[1] in self.new:
             self.states[words[1]] = words[2]
+        if words[0] in ("state", "end") and words[2] != "skipped":
+            self.told.add(words[1])
 
     def perform(self, name: str, action: str, arguments: Arguments) -> str:
         self.new.discard(name)
@@ -89,7 +91,9 @@ class Player(Driver):
         return known not in (None, self.states[name], self.domain.class_of(name).dead)
 
     def declares(self, name: str, action: str) -> bool | None:
-        return self.domain.declares(name, self.known[name], action) if name in self.known else None
+        """By the state that was told. Who comes to a manager that runs already is told none over FIFOs."""
+        is_known = name in self.told and name in self.known
+        return self.domain.declares(name, self.known[name], action) if is_known else None
 
     def report_all(self) -> None:
         """Asks for the report of each device that rests in another state than its object."""
