@@ -19,9 +19,9 @@ from metrics import lines_of
 from panel_client import Manager
 from view import tree_of
 
-# A picture goes out so many times a second at most; and a sign of life where nothing has changed for so many seconds.
+# Between two pictures at least; and after this many seconds a sign of life, where nothing has changed.
 LEAST_SECONDS, LIFE_SECONDS = 0.1, 5.0
-# A request has come whole after so many seconds, or it is cut off; so does one that does not read.
+# A request has come whole within this many seconds, or it is cut off; so is one that does not read.
 PATIENCE = 10.0
 MOST_CONNECTIONS, MOST_STREAMS, LONGEST_BODY = 48, 16, 8192
 HOLDS = ("take", "release", "seize")

@@ -18,9 +18,7 @@ from view import View
 from wrongs import SILENT_SECONDS
 
 ANSWER_SECONDS = 5.0
-# Who looks on waits for this long for something to change.
-LIFE_SECONDS = 5.0
-# A connection that was cut is tried again for so long, and this is between two tries.
+# A connection that was cut is tried again for this many seconds, and these are between two tries.
 RETRY_SECONDS, PAUSE_SECONDS = 86400.0, 0.5
 # An action that has been open for this long is asked about; between two questions lie this many times the seconds that
 # the answer took, and this many seconds at least.

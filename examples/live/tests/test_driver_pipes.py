@@ -1,0 +1,103 @@
+"""Drivers over FIFOs, and what a subclass may have."""
+from __future__ import annotations
+
+import os
+import sys
+import tempfile
+import threading
+import time
+import unittest
+
+LIVE = os.path.dirname(os.path.dirname(os.path.realpath(__file__)))
+sys.path[:0] = [LIVE, f"{LIVE}/tests"]
+
+from driver import Driver, arguments_of  # noqa: E402
+from trial_driver import Trial  # noqa: E402
+
+
+class OverPipes(unittest.TestCase):
+    def setUp(self) -> None:
+        folder = tempfile.TemporaryDirectory()
+        self.addCleanup(folder.cleanup)
+        pipes = [f"{folder.name}/in", f"{folder.name}/out"]
+        for pipe in pipes:
+            os.mkfifo(pipe)
+        self.trial = Trial(["HV1"])
+        self.thread = threading.Thread(target=self.trial.serve_pipes, args=pipes)
+        self.thread.start()
+        self.given = open(pipes[0], encoding="ascii")
+        self.told = open(pipes[1], "w", encoding="ascii", buffering=1)
+        self.addCleanup(self.leave)
+
+    def leave(self) -> None:
+        self.told.close()
+        self.thread.join(10)
+        self.given.close()
+
+    def test_it_answers_and_ends_with_the_manager(self) -> None:
+        self.told.write("start HV1 T 0 SWITCH_ON\n")
+        self.assertEqual(self.given.readline(), "answer HV1 ON\n")
+        self.told.write("end HV1 ON\nstate HV1 ON\nstands 4\nstart HV1 T 1 RAMP\n")
+        self.assertEqual(self.given.readline(), "answer HV1 RESUMED\n")
+        self.leave()
+        self.assertFalse(self.thread.is_alive())
+
+    def test_what_is_skipped_is_never_performed(self) -> None:
+        """The line that says so comes in the same read, or a little later."""
+        for number, pause in enumerate((0, 0, 0.005, 0.005)):
+            self.told.write(f"start HV1 T {2 * number} RAMP\n" + ("end HV1 skipped\n" if pause == 0 else ""))
+            if pause:
+                time.sleep(pause)
+                self.told.write("end HV1 skipped\n")
+            self.told.write(f"start HV1 T {2 * number + 1} SWITCH_ON\n")
+            self.assertEqual(self.given.readline(), "answer HV1 ON\n")
+            self.told.write("end HV1 ON\n")
+        self.assertEqual([action for _, _, action, _ in self.trial.done], ["SWITCH_ON"] * 4)
+
+    def test_what_is_known_not_to_be_declared_is_never_performed(self) -> None:
+        """However late the line comes that says that it is skipped."""
+        setattr(self.trial, "declares", lambda _name, action: action != "RAMP")
+        self.told.write("start HV1 T 0 RAMP\n")
+        time.sleep(0.1)
+        self.told.write("end HV1 skipped\nstart HV1 T 1 SWITCH_ON\n")
+        self.assertEqual(self.given.readline(), "answer HV1 ON\n")
+        self.assertEqual([action for _, _, action, _ in self.trial.done], ["SWITCH_ON"])
+
+    def test_a_report_is_asked_for_until_it_is_started(self) -> None:
+        """In the drivers' session; again where it was refused or skipped, and not while it is accepted."""
+        self.told.write("state HV1 ON\n")
+        self.trial.report("HV1")
+        for told in ("refused Full\n", "refused Full\n", "accept @7 HV1 3 REPORT\nstart HV1 @7 3 REPORT\n"
+                     "end HV1 skipped\n"):
+            self.assertEqual(self.given.readline(), "request @7 HV1 REPORT\n")
+            self.told.write(told)
+        self.assertEqual(self.given.readline(), "request @7 HV1 REPORT\n")
+        self.told.write("accept @7 HV1 4 REPORT\n")
+        time.sleep(1)
+        self.told.write("start HV1 @7 4 REPORT\n")
+        self.assertEqual(self.given.readline(), "answer HV1 ON\n")
+        self.assertEqual(self.trial.reports, {})
+
+
+class Subclasses(unittest.TestCase):
+    def test_a_name_that_is_taken_is_refused(self) -> None:
+        """A driver whose own `begin` is called in the place of the class's would stand still."""
+        type("Mine", (Driver,), {"perform": print, "limits": {}, "mine": print})
+        for name in ("begin", "settle", "serve"):
+            with self.assertRaises(TypeError):
+                type("Mine", (Driver,), {name: print})
+
+
+class Lines(unittest.TestCase):
+    def test_arguments(self) -> None:
+        for text, wanted in ((None, {}), ("A = 1", {"A": 1}), ('A = "", B_2 = "x = 3"', {"A": "", "B_2": "x = 3"})):
+            self.assertEqual(arguments_of(text), wanted)
+
+    def test_devices(self) -> None:
+        trial = Trial(["HV1", "hv2_*"])
+        self.assertEqual([trial.drives(name) for name in ("HV1", "HV11", "HV2_", "HV2_9", "HV2")],
+                         [True, False, True, True, False])
+
+
+if __name__ == "__main__":
+    unittest.main()
