@@ -15,35 +15,35 @@ import os
 DEVICE = """class: SUPPLY /associated
   state: OFF /initial_state
     action: SWITCH_ON (int VOLTS)
-    action: REPORT  ! lint: Unused (the node asks for it)
+    action: REPORT
   state: ON
     action: SWITCH_OFF
-    action: REPORT  ! lint: Unused (the node asks for it)
+    action: REPORT
   state: TRIPPED
     action: SWITCH_OFF
-    action: REPORT  ! lint: Unused (the node asks for it)
+    action: REPORT
   state: DEAD /dead_state
-    action: REPORT  ! lint: Unused (the node asks for it)
+    action: REPORT
 
 """
 SUB = """class: BELOW /associated
   state: OFF /initial_state
     action: SWITCH_ON (int VOLTS)
     action: SWITCH_OFF
-    action: REPORT  ! lint: Unused (the node asks for it)
+    action: REPORT
   state: ON
     action: SWITCH_OFF
-    action: REPORT  ! lint: Unused (the node asks for it)
+    action: REPORT
   state: ERROR
     action: SWITCH_ON (int VOLTS)
     action: SWITCH_OFF
-    action: REPORT  ! lint: Unused (the node asks for it)
+    action: REPORT
   state: LOST
     action: SWITCH_ON (int VOLTS)
     action: SWITCH_OFF
-    action: REPORT  ! lint: Unused (the node asks for it)
+    action: REPORT
   state: DEAD /dead_state
-    action: REPORT  ! lint: Unused (the node asks for it)
+    action: REPORT
 
 """
 

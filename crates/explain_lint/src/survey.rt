@@ -6,7 +6,7 @@ use crate::bits::Bits;
 use crate::sites::{Owner, Site, sites_of};
 use explain_landmarks::{Landmarks, landmarks_of};
 use smi_reach::{Reach, Unreached, Way, reach_of, unentered_of, unreached_of, ways_of};
-use sml_domain::{Action, BlockId, Class, ClassId, Domain, ObjId, SetId, StateId, Subject};
+use sml_domain::{Action, BlockId, Class, ClassId, Domain, ObjId, SetId, State, StateId, Subject};
 use std::alloc::{AllocError, Global};
 
 /// A domain and its text, with what warnings are found by.
@@ -29,6 +29,15 @@ impl<'a> Survey<'a> {
     /// The class of a number, or None if no class has it.
     pub(crate) fn class(&self, class: usize) -> Option<&Class> {
         self.domain.classes().get(class)
+    }
+
+    /// The states of a class that its text declares: all but an added dead one, which is the last.
+    pub(crate) fn declared(&self, class: usize) -> &[State] {
+        let (Some(row), Some(marks)) = (self.class(class), self.marks.classes.get(class)) else {
+            return &[];
+        };
+        let states = row.states.rows();
+        states.split_at(marks.states.len().min(states.len())).0
     }
 
     /// The action whose block it is.

@@ -4,7 +4,7 @@ use crate::bits::Bits;
 use crate::kind::WarningKind;
 use crate::survey::Survey;
 use crate::warning::{Detail, Warning};
-use sml_domain::{Class, Cond, Instr, ObjId, SetId, Subject, Target};
+use sml_domain::{ActionId, Class, Cond, Instr, ObjId, SetId, State, Subject, Target};
 use std::alloc::{AllocError, Global};
 
 /// What instructions use.
@@ -245,7 +245,22 @@ fn warn_of_devices(
     Ok(())
 }
 
-// Adds the warnings on the actions of a class of devices that no object sends, if one of its objects is used.
+// Whether an action of a class of devices is a report: without parameters, and declared by each of the declared states,
+// of two or more. The cost is a look-up by hash for each state up to the first that does not declare it.
+fn is_report(class: &Class, declared: &[State], action: ActionId) -> bool {
+    let is_bare = match class.signatures.get(action.get()) {
+        Some(signature) => signature.params.is_empty(),
+        None => false,
+    };
+    is_bare
+        && declared.len() > 1
+        && declared
+            .iter()
+            .all(|state| state.actions.get(action.get()).is_some())
+}
+
+// Adds the warnings on the actions of a class of devices that no object sends, but for its reports, if one of its
+// objects is used.
 fn warn_of_actions(
     alloc: Global,
     survey: &Survey<'_>,
@@ -260,14 +275,16 @@ fn warn_of_actions(
     let (true, Some(class)) = (is_used, survey.class(place)) else {
         return Ok(());
     };
-    let mut told = Vec::new(alloc);
+    let declared = survey.declared(place);
+    let mut judged = Vec::new(alloc);
     for (state, row) in class.states.rows().iter().enumerate() {
         for (action, item) in row.actions.rows().iter().enumerate() {
-            if uses.is_sent(item.number.get(), place) || told.contains(&item.number) {
+            if uses.is_sent(item.number.get(), place) || judged.contains(&item.number) {
                 continue;
             }
-            told.push(item.number)?;
-            if let (Some(name), Some(marks)) = (
+            judged.push(item.number)?;
+            if let (false, Some(name), Some(marks)) = (
+                is_report(class, declared, item.number),
                 domain.action_name(item.number),
                 survey.marks.action(place, state, action),
             ) {

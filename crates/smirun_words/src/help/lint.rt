@@ -49,7 +49,8 @@ NAME is what it is about, and LINE:COLUMN where that stands; both count from 1. 
   8 WaitCircle    objects whose `if`s and `wait`s ask one another in a circle, and may wait for ever
   9 NeverRead     a parameter that nothing reads; devices read all of theirs
  10 Unused        a class without objects, a set that nothing names, an object with a device that nobody uses, and
-                  an action of such objects that no object sends
+                  an action of such objects that no object sends, but for a report: one without parameters that
+                  each state declares, of two or more
  11 DeadByName    a `move_to` or `terminate_action` with the dead state, which does not kill; or a state DEAD where
                   another is marked as the dead one
 
