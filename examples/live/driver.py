@@ -27,7 +27,8 @@ What this class does of itself:
     does not tell it. Over FIFOs `declares` says so; where it does not know, a start is performed once the line after
     it is there, or has not come for 20 ms.
   - `report` tells that a device has changed by itself: it asks for an action (REPORT), and at its start `perform` says
-    the state. Until it was started it is asked for again, after 0.1 to 10 seconds, as long as `differs` says so.
+    the state. Until it was started it is asked for again, after 0.1 to 10 seconds, as long as `differs` says so. The
+    constructor takes the first of these times, `first_again`.
 
 An exception in a method that is overridden is told on standard error, and ends nothing else.
 """
@@ -100,8 +101,8 @@ class Job:
 class Report:
     """A report that is to be made: by which action, when it may be asked for again, and whether one is under way."""
 
-    def __init__(self, action: str) -> None:
-        self.action, self.next, self.pause, self.is_under_way = action, 0.0, FIRST_AGAIN, False
+    def __init__(self, action: str, pause: float) -> None:
+        self.action, self.next, self.pause, self.is_under_way = action, 0.0, pause, False
 
 
 class Driver:
@@ -115,8 +116,8 @@ class Driver:
         if taken := {name for name in vars(cls).keys() & vars(Driver).keys() - OVERRIDDEN if name[:2] != "__"}:
             raise TypeError(f"{cls.__name__}: a driver has {', '.join(sorted(taken))} of its own: take another name")
 
-    def __init__(self, devices: Iterable[str]) -> None:
-        self.devices = [name.upper() for name in devices]
+    def __init__(self, devices: Iterable[str], first_again: float = FIRST_AGAIN) -> None:
+        self.devices, self.first_again = [name.upper() for name in devices], first_again
         # The state of each object, as far as the manager has told it.
         self.known: dict[str, str] = {}
         # What is in hand; and of each device the last answer that the manager has not told yet.
@@ -185,7 +186,7 @@ class Driver:
         with self.lock:
             if name in self.reports:
                 return
-            self.reports[name] = Report(action.upper())
+            self.reports[name] = Report(action.upper(), self.first_again)
             self.ask_report(name, time.monotonic())
             if self.reminder is None:
                 self.reminder = threading.Thread(target=self.remind, daemon=True)
@@ -232,11 +233,7 @@ class Driver:
             self.known.pop(words[1], None)
             self.end(words[1], is_killed=True)
         elif words[0] == "end" and len(words) > 2:
-            self.end(words[1], is_killed=False)
-            if words[2] == "skipped":
-                self.lose_report(words[1])
-            else:
-                self.known[words[1]] = words[2]
+            self.hear_end(words[1], words[2])
         elif words[0] == "state" and len(words) > 2:
             self.known[words[1]] = words[2]
         elif words[0] == "accept" and self.session and words[1:2] == [connections.SESSION]:
@@ -252,6 +249,14 @@ class Driver:
         name, sender, number, action, arguments = found.groups()
         if self.drives(name) and self.declares(name, action) is not False:
             self.begin(Job(name, (sender, number), action, arguments_of(arguments), self.secret), is_again)
+
+    def hear_end(self, name: str, state: str) -> None:
+        """The state comes first: who sees that a device is at work no more may ask at once whether it differs."""
+        if state != "skipped":
+            self.known[name] = state
+        self.end(name, is_killed=False)
+        if state == "skipped":
+            self.lose_report(name)
 
     def drives(self, name: str) -> bool:
         return any(name == device or device.endswith("*") and name.startswith(device[:-1]) for device in self.devices)
@@ -338,7 +343,7 @@ class Driver:
     def remind(self) -> None:
         """Asks for reports again, in its own thread, which ends with the last of them."""
         while True:
-            time.sleep(FIRST_AGAIN / 2)
+            time.sleep(self.first_again / 2)
             with self.lock:
                 now = time.monotonic()
                 for name in [name for name in self.reports if not self.is_at_work(name)]:

@@ -14,7 +14,8 @@ With `--trip OBJECT=STATE@SECONDS` a device changes by itself: it is in STATE th
 `--trips PATH` each line `OBJECT STATE` that is added to the file PATH does so when it comes. A device that rests in
 another state than its object asks for the report, the action REPORT of its own object, and answers it with the state
 that it is in then; where that is refused, it asks again, ever more seldom. So its class declares `REPORT`, without
-parameters, in each of its states. At first a device is in the state that the manager tells of its object.
+parameters, in each of its states. At first a device is in the state that the manager tells of its object. `--every`
+says how often it is looked for changes, and after how long the report is asked for again at first.
 
 A driver of real equipment has the same form: its `perform` talks to the equipment where this one waits (driver.py).
 """
@@ -27,13 +28,12 @@ import sys
 import threading
 import time
 
+from connections import SESSION
 from domain import Domain
-from driver import Arguments, Driver, Failed
+from driver import FIRST_AGAIN, Arguments, Driver, Failed
 
 # The action by which a change is reported.
 REPORT = "REPORT"
-# How often it is looked whether something has changed by itself.
-LOOKS_EVERY = 0.1
 MOST_SECONDS = 1_000_000.0
 
 # The state that an action ends in, and the seconds that it takes.
@@ -47,8 +47,9 @@ ACTIONS = {
 class Player(Driver):
     """Plays devices: the first action of some fails, by a state, or by FAULT; some change by themselves."""
 
-    def __init__(self, domain: Domain, failures: dict[str, str], factor: float, is_shown: bool) -> None:
-        super().__init__([name for name in domain.objects if name in domain.devices])
+    def __init__(self, domain: Domain, failures: dict[str, str], factor: float, is_shown: bool,
+                 first_again: float = FIRST_AGAIN) -> None:
+        super().__init__([name for name in domain.objects if name in domain.devices], first_again)
         self.domain, self.failures, self.factor, self.is_shown = domain, failures, factor, is_shown
         # The states in which the devices are; those of their objects are `known`.
         self.states = {name: domain.class_of(name).initial for name in self.devices}
@@ -58,10 +59,11 @@ class Player(Driver):
         self.reporting = [name for name in self.devices if REPORT in domain.class_of(name).actions()]
 
     def hear(self, mark: str, line: str, is_again: bool = False) -> None:
-        super().hear(mark, line, is_again)
         words = line.split(" ")
-        if words[0] == "state" and words[1] in self.new:
-            self.states[words[1]] = words[2]
+        with self.lock:  # what is told of a device and how it is are compared meanwhile
+            super().hear(mark, line, is_again)
+            if words[0] == "state" and words[1] in self.new:
+                self.states[words[1]] = words[2]
         if words[0] in ("state", "end") and words[2] != "skipped":
             self.told.add(words[1])
 
@@ -155,13 +157,13 @@ class Trips:
         self.place += len(lines)
         return lines.decode("ascii", "replace").splitlines()
 
-    def watch(self) -> None:
-        """It never ends."""
+    def watch(self, pause: float) -> None:
+        """Looks, and again after every pause. It never ends."""
         begun = time.monotonic()
         while True:
             self.look(time.monotonic() - begun)
             self.player.report_all()
-            time.sleep(LOOKS_EVERY)
+            time.sleep(pause)
 
 
 def parser() -> argparse.ArgumentParser:
@@ -176,6 +178,8 @@ def parser() -> argparse.ArgumentParser:
     words.add_argument("--trip", metavar="OBJECT=STATE@SECONDS", action="append", default=[],
                        help="the device is in STATE by itself, that many seconds after the start")
     words.add_argument("--trips", metavar="PATH", help="a file: each line OBJECT STATE that is added trips a device")
+    words.add_argument("--every", metavar="SECONDS", type=float, default=FIRST_AGAIN,
+                       help="it looks this often for changes, and asks for a report again after as long at first")
     words.add_argument("--factor", type=float, default=1.0, help="all takes this many times as long")
     return words
 
@@ -204,9 +208,13 @@ def main() -> None:
         trips = [read_trip(domain, word) for word in asked.trip]
     except ValueError as fault:
         words.error(f"--trip {fault}: it is OBJECT=STATE@SECONDS, of a device and one of its states")
-    player = Player(domain, failures, asked.factor, is_shown=not asked.pipe)
+    if not 0 < asked.every <= MOST_SECONDS:
+        words.error("--every is more than no seconds")
+    player = Player(domain, failures, asked.factor, not asked.pipe, asked.every)
+    if not asked.gateway:
+        player.session = f"{SESSION} "  # (a device may change before the manager is there)
     if trips or asked.trips:
-        threading.Thread(target=Trips(player, trips, asked.trips).watch, daemon=True).start()
+        threading.Thread(target=Trips(player, trips, asked.trips).watch, args=[asked.every], daemon=True).start()
     if asked.pipe:
         player.serve_descriptors(1, 0)
         return

@@ -6,19 +6,24 @@ import sys
 import threading
 
 LIVE = os.path.dirname(os.path.dirname(os.path.realpath(__file__)))
-sys.path.insert(0, LIVE)
+sys.path[:0] = [LIVE, f"{LIVE}/tests"]
 
 from driver import Arguments, Driver  # noqa: E402
+from patience import LIMIT  # noqa: E402
+
+# A report that is not started is asked for again after this many seconds at first.
+AGAIN = 0.02
 
 
 class Trial(Driver):
     """A driver that keeps what it is asked, and does it as `doing` says: a state, an exception, or seconds to wait."""
 
     def __init__(self, devices: list[str]) -> None:
-        super().__init__(devices)
+        super().__init__(devices, AGAIN)
         self.done: list[tuple[str, str, str, Arguments]] = []
         self.stopped: list[str] = []
         self.said: list[str] = []
+        self.shown: list[str] = []
         self.doing: dict[str, object] = {}
         self.same: set[str] = set()
         self.late_state: str | None = None
@@ -34,7 +39,7 @@ class Trial(Driver):
                 self.wait(0.01)
             return "ON"
         if isinstance(doing, threading.Barrier):
-            doing.wait(10)
+            doing.wait(LIMIT)
             return "ON"
         return doing  # type: ignore[return-value]
 
@@ -60,3 +65,6 @@ class Trial(Driver):
 
     def say(self, sentence: str) -> None:
         self.said.append(sentence)
+
+    def show(self, line: str) -> None:
+        self.shown.append(line)
