@@ -2,7 +2,8 @@
 """Serves a manager to clients on a loopback TCP port: to six with a session of their own, and to 64 drivers.
 
 usage: gateway.py FILE [--log PATH] [--port N] [--contact PATH] [--secret-file PATH] [--timeouts PATH]
-                  [--operators PATH] [--holders PATH] [words of smirun live: --capacity C, --max-starts M, --sync]
+                  [--operators PATH] [--holders PATH] [--pause SECONDS] [--first SECONDS]
+                  [words of smirun live: --capacity C, --max-starts M, --sync]
 
 It starts `smirun live FILE`, with --log through supervise.py, which starts it again where it is killed. It prints its
 port and a secret, and writes both to --contact, a file that its user alone can read. The secret is made at each start;
@@ -68,10 +69,10 @@ a line `once` that the killed manager did not answer is asked again by the gatew
 was made is not made twice. A last line without its line feed is not taken.
 
 With --log the gateway outlives its manager: where supervise.py has ended, all are told `# the manager is away ..`, no
-line is handed on, and it is started again after 1, 2, 4 .. 60 seconds. It ends with the manager where that ends by
-itself within five seconds of the first start, or before it told anything (a wrong domain or log), and where the log was
-moved, was written by another, or is gone. While a manager reads its log nobody is told how all stands, and no line is
-handed on: both wait until it has told how all stands, and what devices have in hand.
+line is handed on, and it is started again after 1, 2, 4 .. 60 seconds (--pause is the first of them). It ends with the
+manager where that ends by itself within five seconds of the first start (--first), or before it told anything (a wrong
+domain or log), and where the log was moved, was written by another, or is gone. While a manager reads its log nobody is
+told how all stands, and no line is handed on: both wait until it has told that, and what devices have in hand.
 """
 from __future__ import annotations
 
@@ -89,7 +90,7 @@ from domain import Domain
 from drivers import Timeouts
 from holders import Holders, Operators, read_own
 from lines import HERE, PROGRAM
-from serving import Gateway, Settings
+from serving import MOST_PAUSE, Gateway, Settings, Times
 
 Made = TypeVar("Made")
 
@@ -133,6 +134,13 @@ def text_of(path: str) -> str:
         return file.read()
 
 
+def seconds(word: str) -> float:
+    """ValueError, where a word is no time to wait for."""
+    if not 0 < float(word) <= MOST_PAUSE:
+        raise ValueError(word)
+    return float(word)
+
+
 def command_line() -> argparse.ArgumentParser:
     words = argparse.ArgumentParser(description=__doc__, formatter_class=argparse.RawDescriptionHelpFormatter,
                                     allow_abbrev=False)
@@ -141,6 +149,8 @@ def command_line() -> argparse.ArgumentParser:
     words.add_argument("--port", type=int, default=0, help="0, if it is not given: one that is free")
     for name in ("contact", "secret-file", "timeouts", "operators", "holders"):
         words.add_argument(f"--{name}", metavar="PATH")
+    for name, usual in vars(Times()).items():
+        words.add_argument(f"--{name}", metavar="SECONDS", type=seconds, default=usual)
     return words
 
 
@@ -153,7 +163,8 @@ def settings_of(asked: argparse.Namespace, others: list[str]) -> Settings:
     operators = of_file(asked.operators, lambda path: Operators(read_own(path)))
     holders = of_file(asked.holders, lambda path: Holders(domain, path))
     return Settings(live + others, domain, asked.port, of_file(asked.secret_file, kept_secret) or secrets.token_hex(16),
-                    asked.log, timeouts or Timeouts(domain), operators or Operators(), holders or Holders(domain))
+                    asked.log, timeouts or Timeouts(domain), operators or Operators(), holders or Holders(domain),
+                    Times(asked.pause, asked.first))
 
 
 def main() -> int:

@@ -21,11 +21,8 @@ from times import is_time
 MOST_CLIENTS, MOST_DRIVERS = 6, 64
 # In this session all drivers request what their devices report. (The last one, @8, is that of links.)
 DRIVERS_SESSION = 7
-# A manager that has ended is started again after this many seconds: at first, and at most.
-LEAST_PAUSE, MOST_PAUSE = 1.0, 60.0
-# A manager that ends by itself within this many seconds of the first start, or before it has told anything, has a wrong
-# file or log: then all ends.
-FIRST_SECONDS = 5.0
+# A manager that has ended is started again after this many seconds at most.
+MOST_PAUSE = 60.0
 # So does it where its log is no more what it wrote: another one would begin a new log while all is switched on.
 LOG_IS_LOST = (b" was moved", b" was written by another")
 # This many may be connected without a session.
@@ -34,6 +31,15 @@ MOST_STRANGERS = 16
 LINES_A_TURN = 16
 # How long the manager may take to rest, once it is to end.
 PATIENCE = 6.0
+
+
+@dataclasses.dataclass
+class Times:
+    """After how many seconds a manager that has ended is started again at first, and within how many of the first start
+    one that ends by itself has a wrong file or log, as one that has told nothing: then all ends."""
+
+    pause: float = 1.0
+    first: float = 5.0
 
 
 @dataclasses.dataclass
@@ -48,6 +54,7 @@ class Settings:
     timeouts: Timeouts
     operators: Operators
     holders: Holders
+    times: Times
 
 
 class Gateway:
@@ -71,7 +78,7 @@ class Gateway:
         self.complaints: dict[bytes, None] = {}
         # The manager has ended: when it is started again.
         self.again_at: float | None = None
-        self.pause, self.is_first, self.is_in_use, self.is_log_lost = LEAST_PAUSE, True, False, False
+        self.pause, self.is_first, self.is_in_use, self.is_log_lost = settings.times.pause, True, False, False
 
     # The manager, and where it has ended.
 
@@ -94,13 +101,13 @@ class Gateway:
     def is_wrong(self, status: int) -> bool:
         """Whether a manager that has ended had a wrong file or log: on a busy machine it may take long to say so, but
         then it has told nothing else."""
-        is_early = self.manager.seconds() < FIRST_SECONDS or not self.manager.has_told
+        is_early = self.manager.seconds() < self.settings.times.first or not self.manager.has_told
         return self.is_first and status > 0 and is_early and not self.is_in_use
 
     def be_away(self) -> None:
         """The manager has ended, and this gateway goes on: until it is started again, or this one is to end too."""
         if self.manager.seconds() > MOST_PAUSE:
-            self.pause = LEAST_PAUSE
+            self.pause = self.settings.times.pause
         self.lose(self.dispatch.lose())
         self.say_all(f"the manager is away; it is started again in {self.pause:g} s")
         self.again_at = time.monotonic() + self.pause

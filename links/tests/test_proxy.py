@@ -3,7 +3,6 @@ import os
 import socket
 import subprocess
 import sys
-import time
 import unittest
 
 from links.tests.sides import TESTS
@@ -11,8 +10,6 @@ from links.tests.sides import TESTS
 ABOVE = os.path.dirname(os.path.dirname(TESTS))
 # A message of quality 1 with the number 7 on the topic `t`, its receipt, and a ping.
 PUBLISH, RECEIPT, PING = b"\x32\x06\x00\x01t\x00\x07x", b"\x40\x02\x00\x07", b"\xc0\x00"
-
-
 # Nothing here takes longer, in seconds, unless it stands still.
 LIMIT = 30.0
 
@@ -21,18 +18,16 @@ class Disturbs(unittest.TestCase):
     def setUp(self) -> None:
         self.broker = socket.create_server(("127.0.0.1", 0))
         self.addCleanup(self.broker.close)
-        with socket.create_server(("127.0.0.1", 0)) as one:
-            self.port = int(one.getsockname()[1])
 
     def through(self, *words: str) -> tuple[bytes, bytes, str]:
         """What the broker and the client have, and what the proxy counted, of a message and a ping after it."""
-        command = [sys.executable, "-m", "links.trials.proxy", str(self.port), str(self.broker.getsockname()[1])]
+        command = [sys.executable, "-m", "links.trials.proxy", "0", str(self.broker.getsockname()[1])]
         proxy = subprocess.Popen([*command, *words], stdout=subprocess.PIPE, text=True,
                                  env=os.environ | {"PYTHONPATH": ABOVE})
         self.addCleanup(proxy.wait)
         self.addCleanup(proxy.kill)
         assert proxy.stdout
-        with proxy.stdout, self.client() as client:
+        with proxy.stdout, socket.create_connection(("127.0.0.1", int(proxy.stdout.readline()))) as client:
             self.broker.settimeout(LIMIT)
             with self.broker.accept()[0] as link:
                 client.sendall(PUBLISH + PING)
@@ -40,16 +35,6 @@ class Disturbs(unittest.TestCase):
                 got = self.read(link), self.read(client)
             proxy.terminate()
             return (*got, proxy.stdout.read().strip())
-
-    def client(self) -> socket.socket:
-        ends = time.monotonic() + LIMIT
-        while True:
-            try:
-                return socket.create_connection(("127.0.0.1", self.port))
-            except OSError:
-                if time.monotonic() > ends:
-                    raise
-                time.sleep(0.02)
 
     @staticmethod
     def read(link: socket.socket) -> bytes:

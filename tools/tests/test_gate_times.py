@@ -33,10 +33,12 @@ SUMS = (
 )
 
 
+# It proves as long as it takes until the tool has seen it.
 STAND_IN = """#!{python}
 import subprocess, sys
 {meanwhile}
-subprocess.run([sys.executable, "-c", "import time; time.sleep(0.7)", "--crate-name", "low"])
+proof = "import os, time\\nwhile not os.path.exists('seen'): time.sleep(0.01)"
+subprocess.run([sys.executable, "-c", proof, "--crate-name", "low"], timeout=60)
 print(" ".join(sys.argv[1:]))
 print("1 passed, 0 failed")
 """
@@ -129,14 +131,22 @@ class Stale(GateTimes):
 
 
 class Measured(GateTimes):
-    """A gate of one crate, with a stand-in for `rt` that proves nothing and takes a while."""
+    """A gate of one crate, with a stand-in for `rt` that proves nothing."""
 
     def measure(self, meanwhile: str) -> None:
         self.write("bin/rt", STAND_IN.format(python=sys.executable, meanwhile=meanwhile))
         os.chmod(f"{self.top}/bin/rt", 0o755)
         tool, path = self.load("gate-times"), f"{self.top}/bin:{os.environ['PATH']}"
+        part_of = tool.part_of
+
+        def seen(pid: int) -> object:
+            if part := part_of(pid):
+                self.write("seen", "")
+            return part
+
         with unittest.mock.patch.dict(os.environ, {"PATH": path}), \
                 unittest.mock.patch.object(tool, "yardstick", lambda: 0.25), \
+                unittest.mock.patch.object(tool, "part_of", seen), \
                 unittest.mock.patch.object(sys, "argv", ["gate-times", "--anew", "low"]), \
                 contextlib.redirect_stdout(io.StringIO()) as told:
             self.assertEqual(tool.main(), 0)

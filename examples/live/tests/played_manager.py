@@ -20,6 +20,8 @@ object HV2 SUPPLY
 object TOP UNIT"""
 PRINT = """class: UNIT
       do SWITCH_ON HV1"""
+# Between how all stands and what devices have in hand, in seconds: a gateway reads them one after the other.
+PAUSE = 0.1
 DECLARED = {"OFF": "SWITCH_ON", "ON": "SWITCH_OFF"}
 FORMS = re.compile(r"(?P<once>once \w+ \d+ )?request (?P<session>@\d) (?P<object>\w+) (?P<action>\w+)"
                    r"|answer (?P<answered>\w+) (?P<state>\w+)|kill (?P<killed>\w+) (?P<killer>@\d)")
@@ -92,7 +94,7 @@ class Manager:
                 self.make(line)
         self.told = self.standing()
         self.tell()
-        time.sleep(0.3)
+        time.sleep(PAUSE)
         self.told = [f"start {name} {session} {number} {action}"
                      for name, (session, number, action) in self.open.items()]
         self.tell()

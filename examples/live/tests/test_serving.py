@@ -7,16 +7,20 @@ import socket
 import subprocess
 import sys
 import tempfile
-import time
 import unittest
 
 LIVE = os.path.dirname(os.path.dirname(os.path.realpath(__file__)))
-sys.path.insert(0, LIVE)
+sys.path[:0] = [LIVE, f"{LIVE}/tests"]
 
 from lines import read_contact  # noqa: E402
+from patience import LIMIT, Limited, until  # noqa: E402
+from played_manager import LIST, PRINT  # noqa: E402
 
-# Nothing here takes longer, in seconds, unless it stands still.
-LIMIT = 60
+# What stands in the place of the program. A manager alone needs a Python.
+PROGRAM = f"""#!/bin/sh
+[ "$1" = live ] || exec cat "${{0%/*}}/$1"
+exec "{sys.executable}" -IS "{LIVE}/tests/played_manager.py" "$@"
+"""
 
 
 class Client:
@@ -49,16 +53,17 @@ def children_of(pid: int) -> list[int]:
         return [int(word) for word in file.read().split()]
 
 
-class Serving(unittest.TestCase):
+class Serving(Limited):
     def setUp(self) -> None:
+        super().setUp()
         room = tempfile.TemporaryDirectory()
         self.addCleanup(room.cleanup)
         self.folder, self.contact, self.log = room.name, f"{room.name}/contact", f"{room.name}/log"
-        program = f"{room.name}/smirun"
-        with open(program, "w", encoding="ascii") as file:
-            file.write(f'#!/bin/sh\nexec "{sys.executable}" "{LIVE}/tests/played_manager.py" "$@"\n')
-        os.chmod(program, 0o755)
-        self.env = {**os.environ, "SMIRUN": program}
+        for name, text in (("smirun", PROGRAM), ("list", f"{LIST}\n"), ("print", f"{PRINT}\n")):
+            with open(f"{room.name}/{name}", "w", encoding="ascii") as file:
+                file.write(text)
+        os.chmod(f"{room.name}/smirun", 0o755)
+        self.env = {**os.environ, "SMIRUN": f"{room.name}/smirun"}
 
     def start(self, *words: str) -> None:
         given = [sys.executable, f"{LIVE}/gateway.py", f"{self.folder}/domain.sml", "--contact", self.contact, *words]
@@ -77,11 +82,9 @@ class Serving(unittest.TestCase):
 
     def manager(self) -> int:
         """The manager that runs, below the supervisor."""
-        ends = time.monotonic() + LIMIT
-        while time.monotonic() < ends:
-            if found := [pid for one in children_of(self.gateway.pid) for pid in children_of(one)]:
-                return found[0]
-        raise TimeoutError
+        found: list[int] = []
+        until(lambda: found.extend(pid for one in children_of(self.gateway.pid) for pid in children_of(one)) or found)
+        return found[0]
 
     def test_a_driver_is_told_of_its_devices_alone(self) -> None:
         """And no start of what the manager skips."""
@@ -126,13 +129,13 @@ class Serving(unittest.TestCase):
         self.assertEqual(operator.until("= once"), "= once S1 7 accept @1 HV1 0 SWITCH_ON")
 
     def test_it_outlives_its_supervisor(self) -> None:
-        self.start("--log", self.log)
+        self.start("--log", self.log, "--pause", "0.3")
         operator = self.client()
         operator.say("request HV1 SWITCH_ON")
         operator.until("= accept")
         for pid in children_of(self.gateway.pid):
             os.kill(pid, signal.SIGKILL)
-        self.assertEqual(operator.until("# the manager"), "# the manager is away; it is started again in 1 s")
+        self.assertEqual(operator.until("# the manager"), "# the manager is away; it is started again in 0.3 s")
         operator.say("answer HV1 ON")
         self.assertEqual(operator.until("# the manager is started", "="), "# the manager is started again")
         self.assertEqual([operator.until("- !", "- start"), operator.until("- start"), operator.until("=")],
@@ -153,10 +156,10 @@ class Serving(unittest.TestCase):
     def test_it_ends_with_a_manager_that_cannot_begin(self) -> None:
         """However long that takes to say so."""
         with open(f"{self.folder}/smirun", "r+", encoding="ascii") as file:
-            text = file.read().replace("exec", '[ "$1" != live ] || { sleep 6; exit 1; }\nexec')
+            text = file.read().replace("\n", '\n[ "$1" != live ] || { sleep 0.4; exit 1; }\n', 1)
             file.seek(0)
             file.write(text)
-        self.start("--log", self.log)
+        self.start("--log", self.log, "--first", "0.2")
         self.assertEqual(self.gateway.wait(LIMIT), 1)
 
     def test_what_is_late_is_answered(self) -> None:
