@@ -20,7 +20,7 @@ class Lines(unittest.TestCase):
         with selectors.DefaultSelector() as ready:
             program = Program(["printf", "%s\\n", *TAKEN, *DROPPED, TAKEN[0]], "/", ready, side)
             program.start(time.monotonic())
-            ends = time.monotonic() + 10
+            ends = time.monotonic() + 60
             while program.process and time.monotonic() < ends:
                 ready.select(0.1)
                 program.hear()

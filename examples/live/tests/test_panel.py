@@ -20,7 +20,7 @@ from connections import shut  # noqa: E402
 from domain import Class  # noqa: E402
 
 # Nothing here takes longer, in seconds, unless it stands still.
-LIMIT = 10
+LIMIT = panel_client.ANSWER_SECONDS = 60
 REQUEST, KILL = "request HV1 SWITCH_ON", "kill HV1"
 ACCEPTED, OLD = "once S3 7 accept @3 HV1 0 SWITCH_ON", "once S3 7 refused Old"
 # An answer, whether it is that of a line that was sent again, and what is said of it.
