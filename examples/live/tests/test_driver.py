@@ -301,14 +301,14 @@ class AtGateway(unittest.TestCase):
         self.serve()
         begun = time.monotonic()
         self.driver.report("HV1")
-        for _ in range(3):
+        for _ in range(4):
             self.assertEqual(self.gateway.read(), "request HV1 REPORT")
             self.gateway.tell("= refused Full")
         self.assertEqual(self.gateway.read(), "request HV1 REPORT")
-        self.assertGreater(time.monotonic() - begun, (1 + 2 + 4) * AGAIN * 0.99)
+        self.assertGreater(time.monotonic() - begun, (1 + 2 + 4 + 8) * AGAIN * 0.99)
         self.gateway.tell("= accept @7 HV1 0 REPORT")
         self.driver.report("HV2")
-        for _ in range(4):
+        for _ in range(5):
             self.assertEqual(self.gateway.read(), "request HV2 REPORT")
             self.gateway.tell("= refused Full")
         self.assertEqual(self.gateway.read(), "request HV2 REPORT")
