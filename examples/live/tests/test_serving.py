@@ -82,9 +82,11 @@ class Serving(Limited):
 
     def manager(self) -> int:
         """The manager that runs, below the supervisor."""
-        found: list[int] = []
-        until(lambda: found.extend(pid for one in children_of(self.gateway.pid) for pid in children_of(one)) or found)
-        return found[0]
+        def managers() -> list[int]:
+            return [pid for one in children_of(self.gateway.pid) for pid in children_of(one)]
+
+        until(managers)
+        return managers()[0]
 
     def test_a_driver_is_told_of_its_devices_alone(self) -> None:
         """And no start of what the manager skips."""
