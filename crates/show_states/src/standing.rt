@@ -30,8 +30,8 @@ fn has_open(domain: &Domain, history: &History) -> bool {
 }
 
 // The members of all sets that have others than the declared ones.
-fn tell_all_members<S: Standing, W: Sink>(out: &mut Out<'_, W>, standing: &S) {
-    for (place, group) in standing.domain().groups().iter().enumerate() {
+fn tell_all_members<S: Standing, W: Sink>(out: &mut Out<'_, W>, standing: &S, declared: &Domain) {
+    for (place, group) in declared.groups().iter().enumerate() {
         tell_members(out, standing, SetId::new(place), group);
     }
 }
@@ -40,6 +40,7 @@ fn tell_all_members<S: Standing, W: Sink>(out: &mut Out<'_, W>, standing: &S) {
 fn tell_all<W: Sink>(
     alloc: Global,
     core: &Core,
+    declared: &Domain,
     history: &History,
     past: Option<&Past>,
     out: &mut Out<'_, W>,
@@ -52,7 +53,7 @@ fn tell_all<W: Sink>(
         let o = ObjId::new(o);
         tell_waiting(out, core, o, history.waiting(o));
     }
-    tell_all_members(out, core);
+    tell_all_members(out, core, declared);
     Ok(())
 }
 
@@ -60,36 +61,43 @@ fn tell_all<W: Sink>(
 /// what it waits for, each mailbox that is not empty, and each set that has other members than the declared ones.
 /// (docs/FORMATS.md, "How all stands".)
 ///
-/// The domain is that of the core, and the history that of its steps. Where an action is open that no device performs,
-/// the time and the memory are those of writing the journal and judging it; else the time is that of the lines, and
-/// memory is taken for one line. The error is out of memory; then a part is written.
+/// The domain is that of the core, and the history that of its steps. The declared domain is that of the file: the same
+/// one, unless the domain begins otherwise than it is declared. Where an action is open that no device performs, the
+/// time and the memory are those of writing the journal and judging it; else the time is that of the lines, and memory
+/// is taken for one line. The error is out of memory; then a part is written.
 pub fn tell_standing<W: Sink>(
     alloc: Global,
     domain: &Arc<Domain>,
+    declared: &Domain,
     core: &Core,
     history: &History,
     out: &mut Out<'_, W>,
 ) -> Result<(), AllocError> {
     if !has_open(domain, history) {
-        return tell_all(alloc, core, history, None, out);
+        return tell_all(alloc, core, declared, history, None, out);
     }
     let mut text = Vec::new(alloc);
     if write_journal(core.domain(), core.journal(), &mut text).is_err() {
         return Err(AllocError);
     }
     match Past::of_text(alloc, domain, text.as_slice()) {
-        Some(past) => tell_all(alloc, core, history, Some(&past), out),
+        Some(past) => tell_all(alloc, core, declared, history, Some(&past), out),
         None => Err(AllocError),
     }
 }
 
 // Writes how all stood behind the entries of a past. The error is out of memory; then a part is written.
-fn tell_past<W: Sink>(alloc: Global, past: &Past, out: &mut Out<'_, W>) -> Result<(), AllocError>
+fn tell_past<W: Sink>(
+    alloc: Global,
+    past: &Past,
+    declared: &Domain,
+    out: &mut Out<'_, W>,
+) -> Result<(), AllocError>
     ensures { OnOk result ((text : List ℕ)
         × TellsStanding past.now.format past.now.books.domain past.now.books.journal text
         × Tells W.contents W.has_refused out.old out.new text) }
 {
-    let more = other_lines(alloc, past)?;
+    let more = other_lines(alloc, past, declared)?;
     tell_states(out, past);
     tell_params(out, past);
     tell_opens(alloc, past, Some(past), out)?;
@@ -118,7 +126,7 @@ pub fn rest_text(
     let mut out = Out::new(&mut text);
     tell_params(&mut out, &past);
     tell_opens(alloc, &past, Some(&past), &mut out)?;
-    tell_all_members(&mut out, &past);
+    tell_all_members(&mut out, &past, domain);
     if out.failed {
         Err(AllocError)
     } else {
@@ -130,15 +138,15 @@ pub fn rest_text(
 /// are counted as waiting, since no journal holds those of sessions, and a line for what each open action does next.
 /// (docs/FORMATS.md, "How all stood".)
 ///
-/// The cost is that of the lines, and for the requests that wait the square of the count of objects. The error is out
-/// of memory.
-pub fn past_text(alloc: Global, past: &Past) -> Result<Vec<u8>, AllocError>
+/// The declared domain is that of the file. The cost is that of the lines, and for the requests that wait the square of
+/// the count of objects. The error is out of memory.
+pub fn past_text(alloc: Global, past: &Past, declared: &Domain) -> Result<Vec<u8>, AllocError>
     ensures { IfOk result (λ text.
         TellsStanding past.now.format past.now.books.domain past.now.books.journal text.items) }
 {
     let mut text = Vec::new(alloc);
     let mut out = Out::new(&mut text);
-    tell_past(alloc, past, &mut out)?;
+    tell_past(alloc, past, declared, &mut out)?;
     if out.failed {
         Err(AllocError)
     } else {

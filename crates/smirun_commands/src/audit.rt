@@ -112,6 +112,7 @@ pub fn judge_bytes<'a, W: Write, E: Write>(
         let text = DomainText {
             file: options.file,
             bytes: text,
+            declared: domain,
         };
         tell_against(heap, domain, text, bytes, judgement, errors);
     }

@@ -135,6 +135,7 @@ pub fn tell_uncounted<'a, W: Write, E: Write>(
         let text = DomainText {
             file: options.file,
             bytes: text,
+            declared: domain,
         };
         tell_against(heap, domain, text, bytes, judgement, errors);
     }

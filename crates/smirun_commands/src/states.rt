@@ -167,7 +167,7 @@ fn tell_standing<W: Write>(
         (W.contents output.old) (W.contents output.new)) }
     ensures err { IfErr result (λ fault. fault ≢ Fault.Output → fault ≡ Fault.Memory) }
 {
-    let Ok(text) = past_text(heap, past) else {
+    let Ok(text) = past_text(heap, past, domain) else {
         return Err(Fault::Memory);
     };
     tell_text(text.as_slice(), output)
@@ -216,7 +216,7 @@ fn changes_of_bytes<'a, W: Write>(
     let Some(behind) = Past::of_text(heap, domain, others) else {
         return tell_illegal(heap, domain, journal, others, output);
     };
-    let Ok(text) = change_text(heap, &before, &behind) else {
+    let Ok(text) = change_text(heap, &before, &behind, domain) else {
         return Err(Fault::Memory);
     };
     match tell_text(text.as_slice(), output) {

@@ -50,7 +50,7 @@ fn tell_stood<'a, W: Write>(
     ensures told { IfOk result (λ status. (status ≡ 0) × WritesStanding (arc_value domain.now)
         (journal_text Two (arc_value domain.now) entries.now) (W.contents output.old) (W.contents output.new)) }
 {
-    let Ok(text) = past_text(alloc, past) else {
+    let Ok(text) = past_text(alloc, past, domain) else {
         return Err(Fault::Memory);
     };
     match tell_text(text.as_slice(), output) {
@@ -145,7 +145,7 @@ fn tell_changes<'a, W: Write>(
     let Some(after) = past_of_entries(alloc, domain, others, &mut Unlooked) else {
         return tell_of_text(alloc, domain, path, others, output);
     };
-    let Ok(text) = change_text(alloc, &before, &after) else {
+    let Ok(text) = change_text(alloc, &before, &after, domain) else {
         return Err(Fault::Memory);
     };
     match tell_text(text.as_slice(), output) {
