@@ -21,7 +21,7 @@ use Rattle.smi_core.specs.Output.{LineWrites}
 use Rattle.smi_core.proofs.OneOutput.{line_one, reads_one}
 use Rattle.smi_live_once.specs.declared.table.Verdict.{Verdict}
 use Rattle.smi_live_once.specs.declared.table.Verdict.TheVariants as once
-use Rattle.smi_live_once.specs.Forms.{is_reserved, marked_text, told_text}
+use Rattle.smi_live_once.specs.Forms.{is_barred_line, marked_text, told_text}
 use Rattle.smi_live_once.specs.Making.{Keeper, KeeperDoes, MakesKept}
 use Rattle.smi_live_once.specs.Tables.{OnceTold, verdict_in}
 use Rattle.smi_live_once.proofs.Again.{made_one}
@@ -294,8 +294,8 @@ not_both false e f = cc e
 
 line_taken : SomeReading → (room : Option ℕ) (k : Keeper CoreView) (asked a b out out2 : List ℕ) (k2 k3 : Keeper CoreView) → KeeperDoes LineWrites k a out k2 → KeeperDoes LineWrites k b out2 k3 → TakesLine room k asked a out k2 → TakesLine room k asked b out2 k3 → IsSame a b out out2 k2 k3
 line_taken some room k asked a b out out2 k2 k3 x y (inl p) (inl q) = refused_one some room k a b out out2 k2 k3 x y p.1 q.1
-line_taken some room k asked a b out out2 k2 k3 x y (inl p) (inr q) = absurd (not_both (is_reserved asked) p.0 q.0)
-line_taken some room k asked a b out out2 k2 k3 x y (inr p) (inl q) = absurd (not_both (is_reserved asked) q.0 p.0)
+line_taken some room k asked a b out out2 k2 k3 x y (inl p) (inr q) = absurd (not_both (is_barred_line asked) p.0 q.0)
+line_taken some room k asked a b out out2 k2 k3 x y (inr p) (inl q) = absurd (not_both (is_barred_line asked) q.0 p.0)
 line_taken some room k asked a b out out2 k2 k3 x y (inr p) (inr q) = outside_one some room k asked a b out out2 k2 k3 x y p.1 q.1
 
 pub took_one : SomeReading → (m : ManagerView) (asked a b out out2 : List ℕ) (m2 m3 : ManagerView) → makes_line m a out m2 → ManagerTakesLine m asked a out m2 → makes_line m b out2 m3 → ManagerTakesLine m asked b out2 m3 → (a ≡ b) × (out ≡ out2) × (m2 ≡ m3)

@@ -11,7 +11,7 @@ use Rattle.smi_lines.specs.Line.{LineReads}
 use Rattle.smi_live_once.specs.declared.table.Verdict.TheVariants as once
 use Rattle.smi_live_once.specs.Forms.{IsMarked, IsUnmarked, is_once_name, marked_text, told_text}
 use Rattle.smi_live_once.specs.Making.{IsBeside, Keeper, KeeperDoes, KeeperWrites}
-use Rattle.smi_live_once.specs.Tables.{OnceTold, verdict_in, with_told}
+use Rattle.smi_live_once.specs.Tables.{OnceTold, verdict_in, with_last_told}
 use Rattle.smi_live.specs.Keeping.{IsNoRequest, IsNoStep}
 use Rattle.smi_live.specs.Limiting.{IsKept, IsUnkept, line_for_bad, logged, unkept_text}
 use Rattle.smi_live.specs.Managing.{StandsFor, StandsForOnce, TakesNew, TakesPlain}
@@ -37,7 +37,7 @@ made_bad k kept out writes e = made_plain k k line_for_bad kept out bad_unmarked
 
 -- a request that is new was made, and its answer told
 pub made_new : (k k2 : Keeper CoreView) (line name : List ℕ) (number : ℕ) (one kept out : List ℕ) → IsMarked line name number → verdict_in k.told name number ≡ once.New → list_all no_line_feed line ≡ true → LineWrites k.core line one k2.core
-    → k2.told ≡ with_told k.told (record { name = name; number = number; answer = one }) → kept ≡ logged line → out ≡ one ++ told_text name number one → KeeperDoes LineWrites k kept out k2
+    → k2.told ≡ with_last_told k.told (record { name = name; number = number; answer = one }) → kept ≡ logged line → out ≡ one ++ told_text name number one → KeeperDoes LineWrites k kept out k2
 made_new k k2 line name number one kept out mark new free writes told e both = inl record {
   line = line;
   one = free;
@@ -66,7 +66,7 @@ unkept_beside (Err x) out e = inr (inl e)
 pub again_plain : (k k2 : Keeper CoreView) (line out : List ℕ) → IsUnmarked line → LineWrites k.core line out k2.core → k2.told ≡ k.told → KeeperWrites LineWrites k line out k2
 again_plain k k2 line out unmarked writes told = (writes, inr (unmarked, told))
 
-pub again_marked : (k k2 : Keeper CoreView) (line out name : List ℕ) (number : ℕ) → IsMarked line name number → verdict_in k.told name number ≡ once.New → LineWrites k.core line out k2.core → k2.told ≡ with_told k.told (record { name = name; number = number; answer = out }) → KeeperWrites LineWrites k line out k2
+pub again_marked : (k k2 : Keeper CoreView) (line out name : List ℕ) (number : ℕ) → IsMarked line name number → verdict_in k.told name number ≡ once.New → LineWrites k.core line out k2.core → k2.told ≡ with_last_told k.told (record { name = name; number = number; answer = out }) → KeeperWrites LineWrites k line out k2
 again_marked k k2 line out name number mark new writes told = (writes, inl (name, number, mark, new, told))
 
 -- ---- from what the parts of a function say
@@ -90,19 +90,19 @@ pub own_does : (k k2 : Keeper CoreView) (s : Option Step) (kept0 text0 kept text
 own_does k k2 s kept0 text0 kept text free reads writes told f t =
     made_plain k k2 kept0 kept text free (one_line kept0 s reads) (subst (λ o. LineWrites k.core kept0 o k2.core) (sym t) writes) told f
 
-told_by : (k mid k2 : Keeper CoreView) (x : OnceTold) → mid.told ≡ k.told → k2.told ≡ with_told mid.told x → k2.told ≡ with_told k.told x
-told_by k mid k2 x e f = f ∙ ap (λ ts. with_told ts x) e
+told_by : (k mid k2 : Keeper CoreView) (x : OnceTold) → mid.told ≡ k.told → k2.told ≡ with_last_told mid.told x → k2.told ≡ with_last_told k.told x
+told_by k mid k2 x e f = f ∙ ap (λ ts. with_last_told ts x) e
 
 -- a request that is new was made, its answer kept and told, and its line feed added
 pub new_does : (k mid k2 : Keeper CoreView) (line name : List ℕ) (number : ℕ) (s : Option Step) (kept0 text0 kept text : List ℕ) → IsMarked line name number → verdict_in k.told name number ≡ once.New → LineReads line (Ok s) → LineWrites k.core kept0 text0 mid.core
-    → kept0 ≡ line → mid.told ≡ k.told → k2.core ≡ mid.core → k2.told ≡ with_told mid.told (record { name = name; number = number; answer = text0 }) → kept ≡ logged kept0 → text ≡ text0 ++ told_text name number text0 → KeeperDoes LineWrites k kept text k2
+    → kept0 ≡ line → mid.told ≡ k.told → k2.core ≡ mid.core → k2.told ≡ with_last_told mid.told (record { name = name; number = number; answer = text0 }) → kept ≡ logged kept0 → text ≡ text0 ++ told_text name number text0 → KeeperDoes LineWrites k kept text k2
 new_does k mid k2 line name number s kept0 text0 kept text mark new reads writes e told core more f t =
     made_new k k2 line name number text0 kept text mark new (one_line line s reads) (subst (λ c. LineWrites k.core line text0 c) (sym core) (subst (λ l. LineWrites k.core l text0 mid.core) e writes))
     (told_by k mid k2 _ told more) (same_kept line kept0 kept e f) t
 
 -- a request of a log was made again, and its answer kept
 pub new_again : (k mid k2 : Keeper CoreView) (line name : List ℕ) (number : ℕ) (kept0 text : List ℕ) → IsMarked line name number → verdict_in k.told name number ≡ once.New → LineWrites k.core kept0 text mid.core
-    → kept0 ≡ line → mid.told ≡ k.told → k2.core ≡ mid.core → k2.told ≡ with_told mid.told (record { name = name; number = number; answer = text }) → KeeperWrites LineWrites k line text k2
+    → kept0 ≡ line → mid.told ≡ k.told → k2.core ≡ mid.core → k2.told ≡ with_last_told mid.told (record { name = name; number = number; answer = text }) → KeeperWrites LineWrites k line text k2
 new_again k mid k2 line name number kept0 text mark new writes e told core more =
     again_marked k k2 line text name number mark new (subst (λ c. LineWrites k.core line text c) (sym core) (subst (λ l. LineWrites k.core l text mid.core) e writes)) (told_by k mid k2 _ told more)
 

@@ -6,8 +6,8 @@ use Rattle.smi_core.specs.Machines.{CoreView}
 use Rattle.smi_core.specs.Output.{LineWrites}
 use Rattle.smi_core.specs.ScheduleLaws.{OutputOf}
 use Rattle.smi_live_loop.specs.Turns.{RunsTurns, Turn, heard_in, log_text, texts_in}
-use Rattle.smi_live_once.specs.Laws.{IsToldBy, NumbersGrow}
-use Rattle.smi_live_once.specs.Making.{HasAnswers, Keeper, KeeperWrites, LogWrites}
+use Rattle.smi_live_once.specs.Laws.{NumbersGrow}
+use Rattle.smi_live_once.specs.Making.{HasAnswers, IsAnsweredBy, Keeper, KeeperWrites, LogWrites}
 use Rattle.smi_live_once.specs.Tables.{OnceTold, told_to}
 use Rattle.smi_live.specs.Managing.{AllRest, ManagerView, ManagerTakesLine, TakesTurn, keeper_of, makes_line}
 
@@ -53,12 +53,13 @@ EachMadeOnce =
     (k : Keeper CoreView) (text out : List ℕ) (k2 : Keeper CoreView) → LogOutputs k text out k2
     → NumbersGrow (lines_of text)
 
--- what is told again is what the line of the log wrote that is marked so
+-- what is told again is what the line of the log wrote that is marked so, where the lines before it had led
 abbrev pub ToldAsMade : Type 0
 ToldAsMade =
     (c : CoreView) (text out : List ℕ) (k2 : Keeper CoreView)
     → LogOutputs (record { core = c; told = [] }) text out k2 → (name : List ℕ) (t : OnceTold)
-    → told_to k2.told name ≡ Some t → IsToldBy (lines_of text) out t
+    → told_to k2.told name ≡ Some t
+    → IsAnsweredBy LineWrites (record { core = c; told = [] }) (lines_of text) out t
 
 -- turns lead from a world that is reached by steps to one that is
 abbrev pub ManagersReach : Type 0

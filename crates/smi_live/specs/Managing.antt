@@ -18,7 +18,7 @@ use Rattle.smi_core.specs.Machines.{CoreView}
 use Rattle.smi_core.specs.Output.{LineWrites}
 use Rattle.smi_live_once.specs.declared.table.Verdict.{Verdict}
 use Rattle.smi_live_once.specs.declared.table.Verdict.TheVariants as once
-use Rattle.smi_live_once.specs.Forms.{IsAsked, IsMarked, IsUnmarked, is_reserved, marked_text, told_text}
+use Rattle.smi_live_once.specs.Forms.{IsAsked, IsMarked, IsUnmarked, is_barred_line, marked_text, told_text}
 use Rattle.smi_live_once.specs.Making.{Keeper, KeeperDoes, limit_text}
 use Rattle.smi_live_once.specs.Tables.{OnceTold, told_to, verdict_in}
 use Rattle.smi_live.specs.Limiting.{HasNoStartLeft, HasRoomFor, HasStartsLeft, KeepsOrTells, LacksRoomFor, line_for_bad, logged, room_after}
@@ -160,8 +160,8 @@ TakesOutside room k asked kept out k2 =
 -- a line from outside: one that may not come is refused
 abbrev pub TakesLine : Option ℕ → Keeper CoreView → List ℕ → List ℕ → List ℕ → Keeper CoreView → Type 0
 TakesLine room k asked kept out k2 =
-    ((is_reserved asked ≡ true) × TakesRefused room kept out)
-    ⊎ ((is_reserved asked ≡ false) × TakesOutside room k asked kept out k2)
+    ((is_barred_line asked ≡ true) × TakesRefused room kept out)
+    ⊎ ((is_barred_line asked ≡ false) × TakesOutside room k asked kept out k2)
 
 -- a manager takes a line from outside so, and the turn stays
 pub record ManagerTakesLine (m : ManagerView) (asked kept out : List ℕ) (m2 : ManagerView) : Type 0 where

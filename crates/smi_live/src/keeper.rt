@@ -3,14 +3,15 @@ ghost use Rattle.std.specs.Prelude.{◌≡◌, ◌<◌, [], IfOk, OnErr, OnOk, f
 ghost use Rattle.smi_world.specs.Runs.{IsReached};
 ghost use Rattle.smi_world.specs.Steps.{StepsTo};
 ghost use Rattle.smi_world.specs.World.{opening};
-ghost use Rattle.smi_live_once.specs.Tables.{with_told};
+ghost use Rattle.smi_live_once.specs.Carrying.{past_text};
+ghost use Rattle.smi_live_once.specs.Tables.{with_last_told};
 ghost use Rattle.smi_live_accounts.specs.Accounts.{AccountsTell};
 ghost use Rattle.smi_live_accounts.specs.Requested.{RequestedAs};
 ghost use Rattle.smi_live.specs.Limiting.{HasNoStartLeft, HasStartsLeft};
 ghost use Rattle.smi_live.specs.Managing.{IsAtObject};
 
 use smi_core::{Answer, Core, Step, StepError};
-use smi_live_accounts::{Accounts, Requested, laws_of_accounts};
+use smi_live_accounts::{Accounts, Recalled, Requested, laws_of_accounts};
 use smi_live_once::{Mark, OnceTable};
 use sml_domain::ObjId;
 use std::alloc::{AllocError, Global};
@@ -153,12 +154,29 @@ impl Keeper {
     ) -> Result<(), AllocError>
         requires { RequestedAs self.old.core.setup.domain self.old.core.world.journal requested answer.now }
         ensures core { self.new.core ≡ self.old.core }
-        ensures told { OnOk result (self.new.told ≡ with_told self.old.told
+        ensures told { OnOk result (self.new.told ≡ with_last_told self.old.told
             (record { name = mark.now.name.now; number = mark.now.number; answer = answer.now })) }
         ensures same { OnErr result (self.new.told ≡ self.old.told) }
     {
         let watched = self.accounts.watched_of(requested);
         self.accounts
             .put(alloc, mark.name, mark.number, answer, watched)
+    }
+
+    /// Keeps what a log before had of a name. The error is out of memory; then what was told stays.
+    pub(crate) fn recall(
+        &mut self,
+        alloc: Global,
+        recalled: &Recalled<'_>,
+    ) -> Result<(), AllocError>
+        ensures core { self.new.core ≡ self.old.core }
+        ensures told { OnOk result (self.new.told ≡ with_last_told self.old.told (record {
+          name = recalled.now.name.now;
+          number = recalled.now.number;
+          answer = past_text recalled.now.what.now;
+        })) }
+        ensures same { OnErr result (self.new.told ≡ self.old.told) }
+    {
+        self.accounts.recall(alloc, recalled)
     }
 }

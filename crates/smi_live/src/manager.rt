@@ -1,8 +1,10 @@
 //! The manager.
-ghost use Rattle.std.specs.Prelude.{◌≡◌, ◌<◌, ◌≤◌, ◌+◌, [], ℕ, List, IfOk, None, false, length, true};
+ghost use Rattle.std.specs.Prelude.{◌≡◌, ◌<◌, ◌≤◌, ◌+◌, [], ℕ, List, IfOk, None, OnErr, OnOk, false, length, true};
 ghost use Rattle.smi_core.specs.Output.{LineWrites};
 ghost use Rattle.smi_live_accounts.specs.Accounts.{AccountsTell};
+ghost use Rattle.smi_live_once.specs.Carrying.{past_text};
 ghost use Rattle.smi_live_once.specs.Making.{KeeperWrites};
+ghost use Rattle.smi_live_once.specs.Tables.{with_last_told};
 ghost use Rattle.smi_world.specs.World.{opening};
 ghost use Rattle.smi_live.specs.Keeping.{FirstOf, IsNeverLogged, MayBeLogged};
 ghost use Rattle.smi_live.specs.Managing as managing;
@@ -17,7 +19,7 @@ use crate::own::{OwnLines, all_lines};
 use crate::taking::take_line;
 use crate::telling::end_line;
 use smi_core::{Core, Taken};
-use smi_live_accounts::Accounts;
+use smi_live_accounts::{Accounts, Recalled};
 use smi_live_loop::{Machine, Made};
 use std::alloc::{AllocError, Global};
 use std::marker::Model;
@@ -81,6 +83,22 @@ impl<L: Observer> Manager<L> {
             lookout,
             alloc,
         })
+    }
+
+    /// Keeps what a log before had of a name: who asks for the same number again is told `past`, and what became of it,
+    /// and only a greater number is made. The cost is the count of names. The error is out of memory; then nothing is
+    /// changed of what was told.
+    pub fn recall(&mut self, recalled: &Recalled<'_>) -> Result<(), AllocError>
+        ensures told { OnOk result (self.new ≡ record self.old {
+          told = with_last_told self.old.told (record {
+            name = recalled.now.name.now;
+            number = recalled.now.number;
+            answer = past_text recalled.now.what.now;
+          });
+        }) }
+        ensures same { OnErr result (self.new ≡ self.old) }
+    {
+        self.keeper.recall(self.alloc, recalled)
     }
 
     /// The core.

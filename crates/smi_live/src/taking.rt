@@ -6,7 +6,7 @@ ghost use Rattle.smi_lines.specs.Line.{LineReads};
 ghost use Rattle.smi_live_accounts.specs.Requested.{RequestedAs};
 ghost use Rattle.smi_live_once.specs.Forms.{IsMarked, IsUnmarked, is_once_name, marked_text, told_text};
 ghost use Rattle.smi_live_once.specs.Making.{KeeperDoes};
-ghost use Rattle.smi_live_once.specs.Tables.{verdict_in, with_told};
+ghost use Rattle.smi_live_once.specs.Tables.{verdict_in, with_last_told};
 ghost use Rattle.smi_live.specs.Keeping.{IsNoStep};
 ghost use Rattle.smi_live.specs.Limiting.{line_for_bad, logged};
 ghost use Rattle.smi_live.specs.Managing.{StandsFor, TakesFirst, TakesLine, TakesNew, TakesOnce, TakesOther};
@@ -226,7 +226,7 @@ fn answer_once(
 ) -> Result<(), AllocError>
     requires { RequestedAs keeper.old.core.setup.domain keeper.old.core.world.journal requested made.old.text.items }
     ensures core { keeper.new.core ≡ keeper.old.core }
-    ensures told { OnOk result (keeper.new.told ≡ with_told keeper.old.told (record {
+    ensures told { OnOk result (keeper.new.told ≡ with_last_told keeper.old.told (record {
       name = mark.now.name.now;
       number = mark.now.number;
       answer = made.old.text.items;

@@ -11,7 +11,7 @@ use Rattle.smi_world.specs.World.{Setup, World}
 use Rattle.smi_world.specs.Steps.{StepsTo}
 use Rattle.smi_world.specs.Runs.{IsReached}
 use Rattle.smi_core.specs.Machines.{CoreView}
-use Rattle.smi_request_fates.specs.Kept.{IsOfCounted, Tells, request_in}
+use Rattle.smi_request_fates.specs.Kept.{IsOfCounted, FatesTell, watched_request}
 use Rattle.smi_live_accounts.specs.Accounts.{AccountsTell, AccountsView, ArePaired, IsNotedTo, MakesOneStep}
 use Rattle.smi_live_accounts.proofs.Adding.{Adds, step_adds}
 use Rattle.smi_world.specs.Steps.{Run}
@@ -55,10 +55,10 @@ noted_to m m2 a first h e t =
     let size : length m2.world.journal ≡ length m.world.journal + length more.added = ap length more.is ∙ length-append m.world.journal more.added in
     record {
       within = subst (λ i. i ≤ length m2.world.journal) (sym e) (at_most (length m.world.journal) (length m2.world.journal) (length more.added) size);
-      tells = subst (λ (s : Setup). Tells s.domain (take first m2.world.journal) a.fates) (sym h.0) (subst (λ J. Tells m.setup.domain J a.fates) (sym here) t.tells);
+      tells = subst (λ (s : Setup). FatesTell s.domain (take first m2.world.journal) a.fates) (sym h.0) (subst (λ J. FatesTell m.setup.domain J a.fates) (sym here) t.tells);
       count = t.count ∙ ap (λ (s : Setup). length s.domain.objects) (sym h.0);
       known = subst (λ (s : Setup). All (IsOfCounted (length s.domain.objects)) m2.world.journal) (sym h.0) known;
-      paired = subst (λ (s : Setup). ArePaired s.domain a.told (map request_in a.fates.watched)) (sym h.0) t.paired;
+      paired = subst (λ (s : Setup). ArePaired s.domain a.told (map watched_request a.fates.watched)) (sym h.0) t.paired;
       all = t.all ∙ ap (λ J. length (all_starts J)) (sym here);
     }
 

@@ -6,30 +6,30 @@ use Rattle.std.proofs.lemmas.List.Elements.{All-nil}
 use Rattle.sml_domain.specs.Domain.{Domain}
 use Rattle.smi_journal_entries.specs.declared.entry.Entry.{Entry}
 use Rattle.smi_live_once.specs.Tables.{IsPutAt, OnceTold}
-use Rattle.smi_request_fates.specs.Kept.{FatesView, IsCame, IsOfCounted, Tells, WatchedView, request_in}
+use Rattle.smi_request_fates.specs.Kept.{FatesView, IsCame, IsOfCounted, FatesTell, WatchedView, watched_request}
 use Rattle.smi_request_fates.proofs.Keeping.{held_tell, replaced_tell, watched_tell}
 use Rattle.smi_live_accounts.specs.Accounts.{AccountsTell, AccountsView, ArePaired, IsAnswerTo}
 use Rattle.smi_live_accounts.proofs.Pairing.{paired_instead, paired_more}
 
-pub accounts_begin : (d : Domain) (f : FatesView) (told : List OnceTold) → Tells d [] f → length f.counts ≡ length d.objects → f.watched ≡ [] → told ≡ [] → AccountsTell d [] (record { told = told; fates = f; starts = 0 })
+pub accounts_begin : (d : Domain) (f : FatesView) (told : List OnceTold) → FatesTell d [] f → length f.counts ≡ length d.objects → f.watched ≡ [] → told ≡ [] → AccountsTell d [] (record { told = told; fates = f; starts = 0 })
 accounts_begin d f told tells count none empty = record {
   tells = tells;
   count = count;
   known = All-nil (IsOfCounted (length d.objects));
   paired = record {
-    count = ap (λ ws. length (map request_in ws)) none ∙ ap length (sym empty);
+    count = ap (λ ws. length (map watched_request ws)) none ∙ ap length (sym empty);
     each = λ p t a e g. absurd (cc (sym e ∙ ap (λ ts. slice_get ts p) empty));
   };
   all = refl;
 }
 
-map_set : (ws : List WatchedView) (p : ℕ) (w : WatchedView) → map request_in (slice_set ws p w) ≡ slice_set (map request_in ws) p (request_in w)
+map_set : (ws : List WatchedView) (p : ℕ) (w : WatchedView) → map watched_request (slice_set ws p w) ≡ slice_set (map watched_request ws) p (watched_request w)
 map_set [] p w = refl
 map_set (x ∷ ws) zero w = refl
-map_set (x ∷ ws) (suc p) w = ap (λ l. request_in x ∷ l) (map_set ws p w)
+map_set (x ∷ ws) (suc p) w = ap (λ l. watched_request x ∷ l) (map_set ws p w)
 
-same_count : (d : Domain) (told : List OnceTold) (ws : List WatchedView) → ArePaired d told (map request_in ws) → length ws ≡ length told
-same_count d told ws h = sym (length-map ws request_in) ∙ h.count
+same_count : (d : Domain) (told : List OnceTold) (ws : List WatchedView) → ArePaired d told (map watched_request ws) → length ws ≡ length told
+same_count d told ws h = sym (length-map ws watched_request) ∙ h.count
 
 past : (p l n m : ℕ) → p < n → n ≡ m → m ≡ l → p ≡ l → ⊥
 past p l n m a e f g = omega (arith, a, e, f, g)
@@ -38,11 +38,11 @@ short : (p l n m : ℕ) → n ≤ p → n ≡ m → m ≡ l → p < l → ⊥
 short p l n m a e f b = omega (arith, a, b, e, f)
 
 module _ (d : Domain) (J : List Entry) (a : AccountsView) (f : FatesView) (held : f ≡ record a.fates { room = f.room }) (x : OnceTold) (w : WatchedView) (p n : ℕ) (size : n ≡ length f.watched) (told2 : List OnceTold)
-    (h : AccountsTell d J a) (came : IsCame d J w) (answers : IsAnswerTo d (request_in w) x.answer) where
+    (h : AccountsTell d J a) (came : IsCame d J w) (answers : IsAnswerTo d (watched_request w) x.answer) where
   watched_count : length f.watched ≡ length a.told
   watched_count = ap (λ (g : FatesView). length g.watched) held ∙ same_count d a.told a.fates.watched h.paired
 
-  is_held : Tells d J (record a.fates { room = f.room })
+  is_held : FatesTell d J (record a.fates { room = f.room })
   is_held = held_tell d J a.fates f.room h.tells
 
   -- the request of a name that is known is watched in the place of its last one
@@ -54,8 +54,8 @@ module _ (d : Domain) (J : List Entry) (a : AccountsView) (f : FatesView) (held 
         tells = replaced_tell d J (record a.fates { room = f.room }) w p is_held came;
         count = h.count;
         known = h.known;
-        paired = subst (λ ts. ArePaired d ts (map request_in (slice_set a.fates.watched p w))) (sym at.1)
-            (subst (ArePaired d (slice_set a.told p x)) (sym (map_set a.fates.watched p w)) (paired_instead d a.told (map request_in a.fates.watched) p x (request_in w) at.0 h.paired answers));
+        paired = subst (λ ts. ArePaired d ts (map watched_request (slice_set a.fates.watched p w))) (sym at.1)
+            (subst (ArePaired d (slice_set a.told p x)) (sym (map_set a.fates.watched p w)) (paired_instead d a.told (map watched_request a.fates.watched) p x (watched_request w) at.0 h.paired answers));
         all = h.all;
       } in
       subst (λ k. AccountsTell d J (record { told = told2; fates = k; starts = a.starts })) (sym is) all
@@ -69,8 +69,8 @@ module _ (d : Domain) (J : List Entry) (a : AccountsView) (f : FatesView) (held 
         tells = watched_tell d J (record a.fates { room = f.room }) w room is_held came;
         count = h.count;
         known = h.known;
-        paired = subst (λ ts. ArePaired d ts (map request_in (a.fates.watched ++ w ∷ []))) (sym at.1)
-            (subst (ArePaired d (a.told ++ x ∷ [])) (sym (map-append request_in a.fates.watched (w ∷ []))) (paired_more d a.told (map request_in a.fates.watched) x (request_in w) h.paired answers));
+        paired = subst (λ ts. ArePaired d ts (map watched_request (a.fates.watched ++ w ∷ []))) (sym at.1)
+            (subst (ArePaired d (a.told ++ x ∷ [])) (sym (map-append watched_request a.fates.watched (w ∷ []))) (paired_more d a.told (map watched_request a.fates.watched) x (watched_request w) h.paired answers));
         all = h.all;
       } in
       subst (λ k. AccountsTell d J (record { told = told2; fates = k; starts = a.starts })) (sym is) all

@@ -1,5 +1,5 @@
 -- What a request that is made once asked for, and how it was answered.
-use Rattle.std.specs.Prelude.{◌≡◌, ◌≢◌, ℕ, List, MatchOption, Ok, Option, Result, Some}
+use Rattle.std.specs.Prelude.{◌≡◌, ◌≢◌, ℕ, List, MatchOption, None, Ok, Option, Result, Some}
 use Rattle.sml_domain.specs.declared.value.Value.{Value}
 use Rattle.sml_domain.specs.Domain.{Domain}
 use Rattle.sml_domain.specs.Lookups.{object_named}
@@ -10,9 +10,11 @@ use Rattle.smi_world.specs.declared.step.Answer.TheVariants as answer
 use Rattle.smi_world.specs.declared.refusal.StepError.{StepError}
 use Rattle.smi_lines.specs.Answers.{accept_text}
 use Rattle.smi_request_fates.specs.declared.fate.Fate.TheVariants.{Waits}
+use Rattle.smi_request_fates.specs.declared.fate.Came.TheVariants.{Refused}
 use Rattle.smi_request_fates.specs.Fates.{fate_of}
+use Rattle.smi_request_fates.specs.Kept.{WatchedView}
 use Rattle.smi_live_accounts.specs.declared.requested.Requested.{Requested}
-use Rattle.smi_live_accounts.specs.Accounts.{IsSomeRefusal}
+use Rattle.smi_live_accounts.specs.Accounts.{AccountsView, IsSomeRefusal, stands_kept}
 
 -- the answer accepts a request under a number
 abbrev pub IsAccepted : Result Answer StepError → ℕ → Type 0
@@ -40,3 +42,8 @@ pub record AcceptedAs (d : Domain) (J : List Entry) (k : ℕ) (object : Option �
 -- this was told of a request: that it was accepted, or that it was refused
 abbrev pub RequestedAs : Domain → List Entry → Requested → List ℕ → Type 0
 RequestedAs d J q text = MatchOption q.number (IsSomeRefusal text) (AcceptedAs d J q.sender q.object text)
+
+-- a refused request is watched as one of its object, as that stands now; as one of no object if the domain has none
+abbrev pub IsWatchedRefused : AccountsView → Requested → WatchedView → Type 0
+IsWatchedRefused a q w =
+    MatchOption q.object (w.came ≡ Refused None) (λ o. (w.object ≡ o) × (w.came ≡ Refused (stands_kept a o)))

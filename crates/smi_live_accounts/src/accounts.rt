@@ -1,17 +1,19 @@
 //! What a manager keeps of what it did, so that no question about it walks the journal.
-ghost use Rattle.std.specs.Prelude.{◌≡◌, ◌≤◌, ◌<◌, ◌^◌, [], ℕ, IfOk, List, OnErr, OnOk, length, option_map, slice_get, take};
+ghost use Rattle.std.specs.Prelude.{◌≡◌, ◌≤◌, ◌<◌, ◌^◌, [], ℕ, IfNone, IfOk, List, OnErr, OnOk, length, slice_get, take};
 ghost use Rattle.sml_domain.specs.Domain.{Domain as Objects};
 ghost use Rattle.smi_journal_entries.specs.declared.entry.Entry.{Entry as Entries};
 ghost use Rattle.smi_journal_entries.specs.Words.{all_starts, any_start};
-ghost use Rattle.smi_live_once.specs.Tables.{with_told};
-ghost use Rattle.smi_request_fates.specs.Kept.{IsCame, request_in};
-ghost use Rattle.smi_live_accounts.specs.Accounts.{AccountsTell, IsAnswerTo, IsNotedTo};
-ghost use Rattle.smi_live_accounts.specs.Requested.{RequestedAs};
+ghost use Rattle.smi_live_once.specs.Carrying.{past_text};
+ghost use Rattle.smi_live_once.specs.Tables.{with_last_told};
+ghost use Rattle.smi_request_fates.specs.Kept.{IsCame, watched_request};
+ghost use Rattle.smi_live_accounts.specs.Accounts.{AccountsTell, IsAnswerTo, IsNotedTo, stands_kept};
+ghost use Rattle.smi_live_accounts.specs.Requested.{IsWatchedRefused, RequestedAs};
 
+use crate::recalled::{Recalled, watched_at};
 use crate::requested::Requested;
 use smi_core::Core;
 use smi_journal_entries::{Entry, Sender};
-use smi_live_once::OnceTable;
+use smi_live_once::{OnceTable, add_past};
 use smi_request_fates::{Came, Counts, Fate, Fates, Stands, Watched};
 use sml_domain::{Domain, ObjId};
 use std::alloc::{AllocError, Global};
@@ -111,10 +113,10 @@ impl Accounts {
         watched: Watched,
     ) -> Result<(), AllocError>
         ensures told { OnOk result (self.new.told
-            ≡ with_told self.old.told (record { name = name.now; number = number; answer = answer.now })) }
+            ≡ with_last_told self.old.told (record { name = name.now; number = number; answer = answer.now })) }
         ensures same { OnErr result (self.new.told ≡ self.old.told) }
         ensures tells { (d : Objects) (J : List Entries) → AccountsTell d J self.old → IsCame d J watched
-            → IsAnswerTo d (request_in watched) answer.now → AccountsTell d J self.new }
+            → IsAnswerTo d (watched_request watched) answer.now → AccountsTell d J self.new }
     {
         self.fates.hold(1)?;
         let place = self.table.put(alloc, name, number, answer)?;
@@ -126,10 +128,30 @@ impl Accounts {
         Ok(())
     }
 
+    /// Keeps what a log before had of a name: what became of its last request is told again. The cost is the count of
+    /// names. The error is out of memory; then what was told stays.
+    pub fn recall(&mut self, alloc: Global, recalled: &Recalled<'_>) -> Result<(), AllocError>
+        ensures told { OnOk result (self.new.told ≡ with_last_told self.old.told (record {
+          name = recalled.now.name.now;
+          number = recalled.now.number;
+          answer = past_text recalled.now.what.now;
+        })) }
+        ensures same { OnErr result (self.new.told ≡ self.old.told) }
+        ensures tells { (d : Objects) (J : List Entries) → AccountsTell d J self.old → AccountsTell d J self.new }
+    {
+        let mut answer = Vec::new(alloc);
+        let watched = watched_at(recalled.place);
+        match add_past(&mut answer, recalled.what) {
+            Ok(()) => self.put(alloc, recalled.name, recalled.number, &answer, watched),
+            Err(error) => Err(error),
+        }
+    }
+
     /// The request that is to be watched for a name, which asked this and was answered so.
     pub fn watched_of(&self, requested: Requested) -> Watched
-        ensures { (d : Objects) (J : List Entries) (text : List ℕ) → AccountsTell d J self.now
-            → RequestedAs d J requested text → IsCame d J result × IsAnswerTo d (request_in result) text }
+        ensures came { (d : Objects) (J : List Entries) (text : List ℕ) → AccountsTell d J self.now
+            → RequestedAs d J requested text → IsCame d J result × IsAnswerTo d (watched_request result) text }
+        ensures refused { IfNone requested.number (IsWatchedRefused self.now requested result) }
     {
         let sender = Sender::Operator(requested.sender);
         match (requested.object, requested.number) {
@@ -163,8 +185,7 @@ impl Accounts {
 
     /// How an object stands. None if the domain has no such object.
     pub fn stands(&self, o: ObjId) -> Option<Stands>
-        ensures { result ≡ option_map (λ c. record { state = c.state; ended = c.ended })
-            (slice_get self.now.fates.counts o) }
+        ensures { result ≡ stands_kept self.now o }
     {
         match self.fates.counts(o) {
             Some(counts) => Some(counts.stands()),

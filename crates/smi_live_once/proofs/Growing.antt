@@ -1,5 +1,5 @@
--- The numbers of a name grow, and what was told is what the log wrote.
-use Rattle.std.proofs.Common.{◌≡◌, ◌∙◌, sym, ap, refl, subst, ◌<◌, ◌⊎◌, inl, inr, ℕ, Bool, true, false, cond, List, [], ◌∷◌, ◌++◌, append_assoc, append-nil, length, arith, Option, Some, None}
+-- The numbers of a name grow.
+use Rattle.std.proofs.Common.{◌≡◌, ◌∙◌, sym, ap, refl, subst, ◌<◌, ◌⊎◌, inl, inr, ℕ, Bool, true, false, cond, List, [], ◌∷◌, ◌++◌, length, arith, Option, Some, None}
 use Rattle.std.specs.Prelude.{nat_eq, nat_le}
 use Rattle.std.proofs.lemmas.Bool.Decides.{nat_tests}
 use Rattle.std.specs.Cmp.Lexicographic.{same_text}
@@ -7,8 +7,8 @@ use Rattle.sml_text.specs.Lines.{Outputs}
 use Rattle.smi_live_once.specs.declared.table.Verdict.{Verdict}
 use Rattle.smi_live_once.specs.declared.table.Verdict.TheVariants.{New, Again, Old, TooMany}
 use Rattle.smi_live_once.specs.Forms.{IsMarked}
-use Rattle.smi_live_once.specs.Laws.{IsToldBy, LogsGrow, OneTable, ToldByLog}
-use Rattle.smi_live_once.specs.Tables.{NotesTold, OnceTold, same_bytes, told_to, verdict_in, verdict_on, with_told}
+use Rattle.smi_live_once.specs.Laws.{LogsGrow, OneTable}
+use Rattle.smi_live_once.specs.Tables.{NotesTold, OnceTold, same_bytes, told_to, verdict_in, verdict_on, with_last_told}
 use Rattle.smi_live_once.proofs.Reading.{one_mark}
 
 -- ---- whether two texts are one
@@ -34,22 +34,22 @@ cond_not true x y h = absurd (cc h)
 cond_not false x y h = refl
 
 -- to the name of what was put, that
-put_told : (t x : OnceTold) (ts : List OnceTold) (name : List ℕ) → x.name ≡ name → told_to (with_told ts x) name ≡ Some x → (b : Bool) → same_bytes t.name x.name ≡ b → told_to (cond b (x ∷ ts) (t ∷ with_told ts x)) name ≡ Some x
+put_told : (t x : OnceTold) (ts : List OnceTold) (name : List ℕ) → x.name ≡ name → told_to (with_last_told ts x) name ≡ Some x → (b : Bool) → same_bytes t.name x.name ≡ b → told_to (cond b (x ∷ ts) (t ∷ with_last_told ts x)) name ≡ Some x
 put_told t x ts name e ih true p = cond_yes (same_bytes x.name name) (Some x) (told_to ts name) (is_same x.name name e)
 put_told t x ts name e ih false p =
-    cond_not (same_bytes t.name name) (Some t) (told_to (with_told ts x) name) (subst (λ n. same_bytes t.name n ≡ false) e p) ∙ ih
+    cond_not (same_bytes t.name name) (Some t) (told_to (with_last_told ts x) name) (subst (λ n. same_bytes t.name n ≡ false) e p) ∙ ih
 
-pub told_put : (ts : List OnceTold) (x : OnceTold) (name : List ℕ) → x.name ≡ name → told_to (with_told ts x) name ≡ Some x
+pub told_put : (ts : List OnceTold) (x : OnceTold) (name : List ℕ) → x.name ≡ name → told_to (with_last_told ts x) name ≡ Some x
 told_put [] x name e = cond_yes (same_bytes x.name name) (Some x) None (is_same x.name name e)
 told_put (t ∷ ts) x name e = put_told t x ts name e (told_put ts x name e) (same_bytes t.name x.name) refl
 
 -- to any other name, what was told before
-put_other : (t x : OnceTold) (ts : List OnceTold) (name : List ℕ) → same_bytes x.name name ≡ false → told_to (with_told ts x) name ≡ told_to ts name → (b : Bool) → same_bytes t.name x.name ≡ b → told_to (cond b (x ∷ ts) (t ∷ with_told ts x)) name ≡ told_to (t ∷ ts) name
+put_other : (t x : OnceTold) (ts : List OnceTold) (name : List ℕ) → same_bytes x.name name ≡ false → told_to (with_last_told ts x) name ≡ told_to ts name → (b : Bool) → same_bytes t.name x.name ≡ b → told_to (cond b (x ∷ ts) (t ∷ with_last_told ts x)) name ≡ told_to (t ∷ ts) name
 put_other t x ts name e ih true p =
     cond_not (same_bytes x.name name) (Some x) (told_to ts name) e ∙ sym (cond_not (same_bytes t.name name) (Some t) (told_to ts name) (subst (λ n. same_bytes n name ≡ false) (sym (same_is t.name x.name p)) e))
 put_other t x ts name e ih false p = ap (λ r. cond (same_bytes t.name name) (Some t) r) ih
 
-pub told_other : (ts : List OnceTold) (x : OnceTold) (name : List ℕ) → same_bytes x.name name ≡ false → told_to (with_told ts x) name ≡ told_to ts name
+pub told_other : (ts : List OnceTold) (x : OnceTold) (name : List ℕ) → same_bytes x.name name ≡ false → told_to (with_last_told ts x) name ≡ told_to ts name
 told_other [] x name e = cond_not (same_bytes x.name name) (Some x) None e
 told_other (t ∷ ts) x name e = put_other t x ts name e (told_other ts x name e) (same_bytes t.name x.name) refl
 
@@ -71,7 +71,7 @@ marked_greater ts ts2 l out two name t number e line m (inl n) =
 marked_greater ts ts2 l out two name t number e line m (inr n) = absurd (n.0 name number (subst (λ x. IsMarked x name number) (sym line) m))
 
 -- what is told to a name behind a line has no lesser number than before
-put_greater : (ts ts2 : List OnceTold) (x : OnceTold) (name : List ℕ) (t : OnceTold) (number : ℕ) → told_to ts name ≡ Some t → ((u : OnceTold) → told_to ts2 name ≡ Some u → u.number < number) → (b : Bool) → same_bytes x.name name ≡ b → verdict_in ts x.name x.number ≡ New → ts2 ≡ with_told ts x → t.number < number
+put_greater : (ts ts2 : List OnceTold) (x : OnceTold) (name : List ℕ) (t : OnceTold) (number : ℕ) → told_to ts name ≡ Some t → ((u : OnceTold) → told_to ts2 name ≡ Some u → u.number < number) → (b : Bool) → same_bytes x.name name ≡ b → verdict_in ts x.name x.number ≡ New → ts2 ≡ with_last_told ts x → t.number < number
 put_greater ts ts2 x name t number e ih true p v s =
     let is = same_is x.name name p in
     let greater = new_greater t (length ts) x.number (subst (λ r. verdict_on r (length ts) x.number ≡ New) e (subst (λ y. verdict_in ts y x.number ≡ New) is v)) in
@@ -122,60 +122,7 @@ logs_grow ts (l ∷ ls) out ts2 h [] between behind one two name number number2 
 pub one_table : OneTable
 one_table ts line out ts2 ts3 (inl p) (inl q) =
     let same = one_mark line p.0 q.0 p.1 q.1 p.2 q.2 in
-    p.4 ∙ ap (λ n. with_told ts (record { name = n; number = p.1; answer = out })) same.0 ∙ ap (λ k. with_told ts (record { name = q.0; number = k; answer = out })) same.1 ∙ sym q.4
+    p.4 ∙ ap (λ n. with_last_told ts (record { name = n; number = p.1; answer = out })) same.0 ∙ ap (λ k. with_last_told ts (record { name = q.0; number = k; answer = out })) same.1 ∙ sym q.4
 one_table ts line out ts2 ts3 (inl p) (inr q) = absurd (q.0 p.0 p.1 p.2)
 one_table ts line out ts2 ts3 (inr p) (inl q) = absurd (p.0 q.0 q.1 q.2)
 one_table ts line out ts2 ts3 (inr p) (inr q) = p.1 ∙ sym q.1
-
--- ---- what was told is what the log wrote
-
--- it was told before, or a line of the log wrote it
-told_since : (ts : List OnceTold) (lines : List (List ℕ)) (out : List ℕ) (ts2 : List OnceTold) → Outputs NotesTold ts lines out ts2 → (name : List ℕ) (t : OnceTold) → told_to ts2 name ≡ Some t
-    → (told_to ts name ≡ Some t) ⊎ IsToldBy lines out t
-told_since ts [] out ts2 h name t e = inl (subst (λ y. told_to y name ≡ Some t) h.1 e)
-told_since ts (l ∷ ls) out ts2 h name t e = of (told_since h.0 ls h.2 ts2 h.4 name t e)
-  where
-    later : IsToldBy ls h.2 t → IsToldBy (l ∷ ls) out t
-    later b = record {
-      before = l ∷ b.before;
-      line = b.line;
-      behind = b.behind;
-      split = ap (λ x. l ∷ x) b.split;
-      marked = b.marked;
-      start = h.1 ++ b.start;
-      end = b.end;
-      wrote = h.5 ∙ ap (λ x. h.1 ++ x) b.wrote ∙ sym (append_assoc h.1 b.start (t.answer ++ b.end));
-    }
-
-    now : (x : OnceTold) → IsMarked l x.name x.number → x.answer ≡ h.1 → x ≡ t → IsToldBy (l ∷ ls) out t
-    now x m a s = record {
-      before = [];
-      line = l;
-      behind = ls;
-      split = refl;
-      marked = subst (λ (y : OnceTold). IsMarked l y.name y.number) s m;
-      start = [];
-      end = h.2;
-      wrote = h.5 ∙ ap (λ y. y ++ h.2) (sym a ∙ ap (λ (y : OnceTold). y.answer) s);
-    }
-
-    put : (x : OnceTold) (c : Bool) → same_bytes x.name name ≡ c → IsMarked l x.name x.number → x.answer ≡ h.1 → h.0 ≡ with_told ts x → told_to h.0 name ≡ Some t → (told_to ts name ≡ Some t) ⊎ IsToldBy (l ∷ ls) out t
-    put x true p m a s f =
-        let g : ◌≡◌ {A = Option OnceTold} (Some x) (Some t) = sym (told_put ts x name (same_is x.name name p)) ∙ sym (ap (λ y. told_to y name) s) ∙ f in
-        inr (now x m a (cc g))
-    put x false p m a s f = inl (sym (told_other ts x name p) ∙ sym (ap (λ y. told_to y name) s) ∙ f)
-
-    noted : NotesTold ts l h.1 h.0 → told_to h.0 name ≡ Some t → (told_to ts name ≡ Some t) ⊎ IsToldBy (l ∷ ls) out t
-    noted (inl n) f = put (record { name = n.0; number = n.1; answer = h.1 }) (same_bytes n.0 name) refl n.2 refl n.4 f
-    noted (inr n) f = inl (subst (λ y. told_to y name ≡ Some t) n.1 f)
-
-    of : (told_to h.0 name ≡ Some t) ⊎ IsToldBy ls h.2 t → (told_to ts name ≡ Some t) ⊎ IsToldBy (l ∷ ls) out t
-    of (inl f) = noted h.3 f
-    of (inr b) = inr (later b)
-
-pub told_by_log : ToldByLog
-told_by_log lines out ts h name t e = of (told_since [] lines out ts h name t e)
-  where
-    of : (◌≡◌ {A = Option OnceTold} None (Some t)) ⊎ IsToldBy lines out t → IsToldBy lines out t
-    of (inl f) = absurd (cc f)
-    of (inr b) = b

@@ -49,8 +49,8 @@ abbrev pub is_outside_byte : ℕ → Bool
 is_outside_byte c = nat_le 32 c || (c == 9 || c == 13)
 
 -- a line that no line from outside may be: one that begins as the first line of a log does, or one with another byte
-abbrev pub is_reserved : List ℕ → Bool
-is_reserved line = starts_with nat_eq line (codes "! smirun live ") || not (list_all is_outside_byte line)
+abbrev pub is_barred_line : List ℕ → Bool
+is_barred_line line = starts_with nat_eq line (codes "! smirun live ") || not (list_all is_outside_byte line)
 
 -- once NAME NUMBER ANSWER: how the answer is told, whose line feed is its own
 abbrev pub told_text : List ℕ → ℕ → List ℕ → List ℕ

@@ -28,9 +28,9 @@ told_to [] name = None
 told_to (t ∷ ts) name = if same_bytes t.name name then Some t else told_to ts name
 
 -- this is the last that was told to its name
-abbrev pub with_told : List OnceTold → OnceTold → List OnceTold
-with_told [] x = x ∷ []
-with_told (t ∷ ts) x = if same_bytes t.name x.name then x ∷ ts else t ∷ with_told ts x
+abbrev pub with_last_told : List OnceTold → OnceTold → List OnceTold
+with_last_told [] x = x ∷ []
+with_last_told (t ∷ ts) x = if same_bytes t.name x.name then x ∷ ts else t ∷ with_last_told ts x
 
 -- so it is put at a place: in the place of what was told to its name, or after all others
 abbrev pub IsPutAt : List OnceTold → OnceTold → ℕ → List OnceTold → Type 0
@@ -51,5 +51,5 @@ verdict_in ts name number = verdict_on (told_to ts name) (length ts) number
 abbrev pub NotesTold : List OnceTold → List ℕ → List ℕ → List OnceTold → Type 0
 NotesTold ts line out ts2 =
     ((name : List ℕ) × (number : ℕ) × IsMarked line name number × (verdict_in ts name number ≡ New)
-    × (ts2 ≡ with_told ts (record { name = name; number = number; answer = out })))
+    × (ts2 ≡ with_last_told ts (record { name = name; number = number; answer = out })))
     ⊎ (IsUnmarked line × (ts2 ≡ ts))

@@ -2,7 +2,8 @@
 ghost use Rattle.std.specs.Prelude.{◌≡◌, ◌++◌, ◌∷◌, ℕ, List, IfNone, IfSome, OnOk, codes, false, true};
 ghost use Rattle.std.specs.List.{list_all};
 ghost use Rattle.sml_text.specs.Decimal.{decimal_text};
-ghost use Rattle.smi_live_once.specs.Forms.{IsAsked, IsMarked, IsUnmarked, is_once_byte, is_once_name, is_outside_byte, is_reserved, marked_text, told_text};
+ghost use Rattle.smi_live_once.specs.Carrying.{past_text};
+ghost use Rattle.smi_live_once.specs.Forms.{IsAsked, IsMarked, IsUnmarked, is_once_byte, is_once_name, is_outside_byte, is_barred_line, marked_text, told_text};
 
 use crate::blanks::{split_first, split_last};
 use crate::numbers::number_in;
@@ -39,8 +40,8 @@ fn has_name_bytes(name: &[u8]) -> bool
     name.iter().all(|c| is_name_byte(*c))
 }
 
-// Whether bytes are a name.
-fn is_name(name: &[u8]) -> bool
+/// Whether bytes are a name of those who ask. The cost is their count.
+pub fn is_name(name: &[u8]) -> bool
     ensures { result ≡ is_once_name name.now }
 {
     1 <= name.len() && (name.len() <= LONGEST_NAME && has_name_bytes(name))
@@ -138,7 +139,7 @@ fn have_come(line: &[u8]) -> bool
 /// Whether a line is one that no line from outside may be: it begins as the first line of a log does, or holds a byte
 /// below a blank other than a tab and a carriage return. The cost is the length of the line.
 pub fn is_reserved_line(line: &[u8]) -> bool
-    ensures { result ≡ is_reserved line.now }
+    ensures { result ≡ is_barred_line line.now }
 {
     line.starts_with(b"! smirun live ".as_slice()) || !have_come(line)
 }
@@ -176,5 +177,15 @@ pub fn add_answer(
     add_name(text, name, number)?;
     text.extend_from_slice(b" ")?;
     text.extend_from_slice(answer)?;
+    Ok(())
+}
+
+/// Adds to a text what is told of a request that a log before had: what became of it. The error is out of memory.
+pub fn add_past(text: &mut Vec<u8>, what: &[u8]) -> Result<(), AllocError>
+    ensures { OnOk result (text.new.items ≡ text.old.items ++ past_text what.now) }
+{
+    text.extend_from_slice(b"past ")?;
+    text.extend_from_slice(what)?;
+    text.push(b'\n')?;
     Ok(())
 }

@@ -1,7 +1,7 @@
 //! What was told last to each of those who ask for requests that are made once.
 ghost use Rattle.std.specs.Prelude.{slice_get, slice_set, ◌≡◌, ◌<◌, ◌≤◌, ◌++◌, ◌∷◌, [], IfNone, IfOk, IfSome, None, OnErr, OnOk, Some, drop, length, take, true, false};
 ghost use Rattle.std.specs.List.{slice_index_or};
-ghost use Rattle.smi_live_once.specs.Tables.{IsPutAt, OnceTold, same_bytes, told_to, verdict_in, verdict_on, with_told};
+ghost use Rattle.smi_live_once.specs.Tables.{IsPutAt, OnceTold, same_bytes, told_to, verdict_in, verdict_on, with_last_told};
 
 use std::alloc::{AllocError, Global};
 use std::marker::Model;
@@ -101,9 +101,9 @@ fn place_of(told: &[Told], name: &[u8]) -> Option<usize>
     ensures some { IfSome result (λ p. (t : OnceTold) → t ≡ slice_index_or told.now p t
         → told_to told.now name.now ≡ Some t) }
     ensures set { IfSome result (λ p. (x : OnceTold) → x.name ≡ name.now
-        → with_told told.now x ≡ slice_set told.now p x) }
+        → with_last_told told.now x ≡ slice_set told.now p x) }
     ensures none { IfNone result (told_to told.now name.now ≡ None) }
-    ensures add { IfNone result ((x : OnceTold) → x.name ≡ name.now → with_told told.now x ≡ told.now ++ x ∷ []) }
+    ensures add { IfNone result ((x : OnceTold) → x.name ≡ name.now → with_last_told told.now x ≡ told.now ++ x ∷ []) }
 {
     for place in 0..told.len() {
         if told[place].is_to(name) {
@@ -178,7 +178,7 @@ impl OnceTable {
         answer: &[u8],
     ) -> Result<usize, AllocError>
         ensures ok { OnOk result (self.new.told
-            ≡ with_told self.old.told (record { name = name.now; number = number; answer = answer.now })) }
+            ≡ with_last_told self.old.told (record { name = name.now; number = number; answer = answer.now })) }
         ensures at { IfOk result (λ p. IsPutAt self.old.told
             (record { name = name.now; number = number; answer = answer.now }) p self.new.told) }
         ensures err { OnErr result (self.new ≡ self.old) }

@@ -12,7 +12,7 @@ use Rattle.smi_journal_entries.specs.Words.{object_of}
 use Rattle.smi_request_fates.specs.declared.fate.Stands.{Stands}
 use Rattle.smi_request_fates.specs.declared.fate.Fate.{Fate}
 use Rattle.smi_request_fates.specs.declared.fate.Fate.TheVariants.{Waits, Open, Ended, Skipped as WasSkipped, Killed}
-use Rattle.smi_request_fates.specs.Fates.{stands_of, killed_by, ended_by, fate_by, fate_next, fate_from, fate_of, is_last, stood}
+use Rattle.smi_request_fates.specs.Fates.{stands_of, fate_by_kill, ended_by, fate_by, fate_next, fate_from, fate_of, is_last, stood}
 use Rattle.smi_request_fates.specs.Laws.{IsEndOf}
 
 -- what changes a fate that is no last one into a last one says how the object stands
@@ -30,7 +30,7 @@ new_skipped (Ended was) at l g = absurd (cc l)
 new_skipped (WasSkipped was) at l g = absurd (cc l)
 new_skipped (Killed was) at l g = absurd (cc l)
 
-new_killed : (f : Fate) (at : Stands) → is_last f ≡ false → is_last (killed_by at f) ≡ true → stood (killed_by at f) ≡ Some at
+new_killed : (f : Fate) (at : Stands) → is_last f ≡ false → is_last (fate_by_kill at f) ≡ true → stood (fate_by_kill at f) ≡ Some at
 new_killed Waits at l g = refl
 new_killed Open at l g = refl
 new_killed (Ended was) at l g = absurd (cc l)
@@ -70,7 +70,7 @@ same_ended so (Ended at) l = refl
 same_ended so (WasSkipped at) l = refl
 same_ended so (Killed at) l = refl
 
-same_killed : (so : Stands) (f : Fate) → is_last f ≡ true → killed_by so f ≡ f
+same_killed : (so : Stands) (f : Fate) → is_last f ≡ true → fate_by_kill so f ≡ f
 same_killed so Waits l = absurd (cc l)
 same_killed so Open l = absurd (cc l)
 same_killed so (Ended at) l = refl

@@ -8,15 +8,15 @@ use Rattle.smi_journal_entries.specs.declared.entry.Entry.TheVariants.{Start, Po
 use Rattle.smi_journal_entries.specs.Journals.{most_entries}
 use Rattle.smi_journal_entries.specs.Words.{object_of, any_start, start_in, starts_at}
 use Rattle.smi_request_fates.specs.Fates.{ends, ends_at, started_at}
-use Rattle.smi_request_fates.specs.Kept.{FatesView, WatchedView, IsCame, Tells, RoomAt}
+use Rattle.smi_request_fates.specs.Kept.{FatesView, WatchedView, IsCame, FatesTell, RoomAt}
 
-pub watched_tell : (d : Domain) (J : List Entry) (f : FatesView) (w : WatchedView) (room : ℕ) → Tells d J f → IsCame d J w → Tells d J (record f { watched = f.watched ++ w ∷ []; room = room })
+pub watched_tell : (d : Domain) (J : List Entry) (f : FatesView) (w : WatchedView) (room : ℕ) → FatesTell d J f → IsCame d J w → FatesTell d J (record f { watched = f.watched ++ w ∷ []; room = room })
 watched_tell d J f w room h is = record { counts = h.counts; came = All-push (IsCame d J) f.watched w h.came is }
 
-pub replaced_tell : (d : Domain) (J : List Entry) (f : FatesView) (w : WatchedView) (place : ℕ) → Tells d J f → IsCame d J w → Tells d J (record f { watched = slice_set f.watched place w })
+pub replaced_tell : (d : Domain) (J : List Entry) (f : FatesView) (w : WatchedView) (place : ℕ) → FatesTell d J f → IsCame d J w → FatesTell d J (record f { watched = slice_set f.watched place w })
 replaced_tell d J f w place h is = record { counts = h.counts; came = All-set (IsCame d J) f.watched place w is h.came }
 
-pub held_tell : (d : Domain) (J : List Entry) (f : FatesView) (room : ℕ) → Tells d J f → Tells d J (record f { room = room })
+pub held_tell : (d : Domain) (J : List Entry) (f : FatesView) (room : ℕ) → FatesTell d J f → FatesTell d J (record f { room = room })
 held_tell d J f room h = record { counts = h.counts; came = h.came }
 
 one_start : (e : Entry) → length (any_start e) ≤ 1
@@ -57,7 +57,7 @@ ends_few o (e ∷ J) = go (ends o e) (ends_few o J)
 less : (k c l m : ℕ) → k ≡ c → c ≤ l → l < m → k < m
 less k c l m e f g = omega (arith, e, f, g)
 
-pub counts_have_room : (d : Domain) (J : List Entry) (f : FatesView) (o : ℕ) → Tells d J f → length J < most_entries → RoomAt f.counts o
+pub counts_have_room : (d : Domain) (J : List Entry) (f : FatesView) (o : ℕ) → FatesTell d J f → length J < most_entries → RoomAt f.counts o
 counts_have_room d J f o h g c at =
     let t = h.counts o c at in (
       less c.started (started_at o J) (length J) most_entries t.started (starts_few o J) g,

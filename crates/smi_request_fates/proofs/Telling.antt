@@ -16,7 +16,7 @@ use Rattle.smi_request_fates.specs.Laws.{one_if}
 use Rattle.smi_journal_entries.specs.declared.entry.Sender.{Sender}
 use Rattle.smi_request_fates.specs.declared.fate.Came.{Came}
 use Rattle.smi_request_fates.specs.declared.fate.Came.TheVariants as came
-use Rattle.smi_request_fates.specs.Kept.{WatchedView, request_in, FatesView, came_by, counts_by, is_refused, watched_next, CameSo, CountsTell, IsCame, StoodSo, Tells}
+use Rattle.smi_request_fates.specs.Kept.{WatchedView, watched_request, FatesView, came_by, counts_by, answered_by, watched_next, CameSo, CountsTell, IsCame, StoodSo, FatesTell}
 use Rattle.smi_request_fates.proofs.Adding.{one_more_fate}
 
 -- ---- one object
@@ -148,12 +148,14 @@ came_own d J e o s n at (came.Accepted f) g is h =
     ap (λ a. fate_by s n a f e) is ∙ ap (λ x. fate_by s n (stands_of d o (J ++ e ∷ [])) x e) h ∙ sym (fate_if d J e o s n true g)
 came_own d J e o s n at (came.Refused None) g is h = tt
 came_own d J e o s n at (came.Refused (Some a)) g is h = stood_more d J e o a h
+came_own d J e o s n at (came.Past x) g is h = tt
 
 -- after one of another object
 came_other : (d : Domain) (J : List Entry) (e : Entry) (o : ℕ) (s : Sender) (n : ℕ) (k : Came) → (o == object_of e) ≡ false → CameSo d J o s n k → CameSo d (J ++ e ∷ []) o s n k
 came_other d J e o s n (came.Accepted f) g h = h ∙ sym (fate_if d J e o s n false g)
 came_other d J e o s n (came.Refused None) g h = tt
 came_other d J e o s n (came.Refused (Some a)) g h = stood_more d J e o a h
+came_other d J e o s n (came.Past x) g h = tt
 
 came_one : (d : Domain) (J : List Entry) (e : Entry) (at : Stands) (w : WatchedView) → at ≡ stands_of d (object_of e) (J ++ e ∷ []) → IsCame d J w → IsCame d (J ++ e ∷ []) (watched_next (object_of e) at e w)
 came_one d J e at w is h = go (w.object == object_of e) refl
@@ -169,7 +171,7 @@ came_one d J e at w is h = go (w.object == object_of e) refl
 pub tells_more : (d : Domain) (J : List Entry) (e : Entry) (f g : FatesView) (was : Counts) (at : Stands)
     → slice_get f.counts (object_of e) ≡ Some was → g.counts ≡ slice_set f.counts (object_of e) (counts_by was e)
     → at ≡ record { state = (counts_by was e).state; ended = (counts_by was e).ended } → g.watched ≡ map (watched_next (object_of e) at e) f.watched
-    → Tells d J f → Tells d (J ++ e ∷ []) g
+    → FatesTell d J f → FatesTell d (J ++ e ∷ []) g
 tells_more d J e f g was at there counts stands watched h =
     let own = counts_own d J e (object_of e) was (eq-eqb (object_of e) (object_of e) refl) (h.counts (object_of e) was there) in
     let is : at ≡ stands_of d (object_of e) (J ++ e ∷ []) =
@@ -186,18 +188,19 @@ tells_more d J e f g was at there counts stands watched h =
 
 -- ---- the requests that are watched stay
 
-same_refused : (s : Sender) (n : ℕ) (at : Stands) (k : Came) (e : Entry) → is_refused (came_by s n at k e) ≡ is_refused k
-same_refused s n at (came.Accepted f) e = refl
-same_refused s n at (came.Refused x) e = refl
+same_answered : (s : Sender) (n : ℕ) (at : Stands) (k : Came) (e : Entry) → answered_by (came_by s n at k e) ≡ answered_by k
+same_answered s n at (came.Accepted f) e = refl
+same_answered s n at (came.Refused x) e = refl
+same_answered s n at (came.Past x) e = refl
 
-same_request : (o : ℕ) (at : Stands) (e : Entry) (w : WatchedView) → request_in (watched_next o at e w) ≡ request_in w
+same_request : (o : ℕ) (at : Stands) (e : Entry) (w : WatchedView) → watched_request (watched_next o at e w) ≡ watched_request w
 same_request o at e w = go (w.object == o)
   where
-    go : (b : Bool) → request_in (if b then record w { came = came_by w.sender w.number at w.came e } else w) ≡ request_in w
-    go true = ap (λ b. record { object = w.object; sender = w.sender; number = w.number; refused = b }) (same_refused w.sender w.number at w.came e)
+    go : (b : Bool) → watched_request (if b then record w { came = came_by w.sender w.number at w.came e } else w) ≡ watched_request w
+    go true = ap (λ b. record { object = w.object; sender = w.sender; number = w.number; answered = b }) (same_answered w.sender w.number at w.came e)
     go false = refl
 
-pub same_requests : (o : ℕ) (at : Stands) (e : Entry) (ws : List WatchedView) → map request_in (map (watched_next o at e) ws) ≡ map request_in ws
+pub same_requests : (o : ℕ) (at : Stands) (e : Entry) (ws : List WatchedView) → map watched_request (map (watched_next o at e) ws) ≡ map watched_request ws
 same_requests o at e [] = refl
 same_requests o at e (w ∷ ws) =
-    ap (λ r. r ∷ map request_in (map (watched_next o at e) ws)) (same_request o at e w) ∙ ap (λ rs. request_in w ∷ rs) (same_requests o at e ws)
+    ap (λ r. r ∷ map watched_request (map (watched_next o at e) ws)) (same_request o at e w) ∙ ap (λ rs. watched_request w ∷ rs) (same_requests o at e ws)

@@ -1,5 +1,5 @@
 -- What is kept of a journal.
-use Rattle.std.specs.Prelude.{◌≡◌, ◌<◌, ◌+◌, ◌++◌, ◌==◌, ℕ, Bool, true, false, if◌then◌else◌, List, None, Some, All, slice_get}
+use Rattle.std.specs.Prelude.{◌≡◌, ◌<◌, ◌+◌, ◌++◌, ◌==◌, ℕ, Bool, true, false, if◌then◌else◌, List, Option, None, Some, All, slice_get}
 use Rattle.sml_domain.specs.Domain.{Domain}
 use Rattle.smi_journal_entries.specs.declared.entry.ActionEnd.TheVariants.{State, Skipped}
 use Rattle.smi_journal_entries.specs.declared.entry.Entry.{Entry}
@@ -20,21 +20,29 @@ pub record WatchedView : Type 0 where
   pub number : ℕ
   pub came : Came
 
--- a sender's request of a number at an object, and whether it was refused
+-- how a request was answered: it was accepted; it was refused, and its object stood so; or it is one that a log before
+-- had, after which its object stood so
+pub data Answered : Type 0 where
+  WasAccepted : Answered
+  WasRefused : (stood : Option Stands) → Answered
+  IsPast : (stood : Option Stands) → Answered
+
+-- a sender's request of a number at an object, and how it was answered
 pub record Asked : Type 0 where
   pub object : ℕ
   pub sender : Sender
   pub number : ℕ
-  pub refused : Bool
+  pub answered : Answered
 
--- whether a request was refused
-abbrev pub is_refused : Came → Bool
-is_refused (came.Accepted fate) = false
-is_refused (came.Refused stood) = true
+-- how a request was answered of which that became
+abbrev pub answered_by : Came → Answered
+answered_by (came.Accepted fate) = WasAccepted
+answered_by (came.Refused stood) = WasRefused stood
+answered_by (came.Past stood) = IsPast stood
 
 -- the request that is watched
-abbrev pub request_in : WatchedView → Asked
-request_in w = record { object = w.object; sender = w.sender; number = w.number; refused = is_refused w.came }
+abbrev pub watched_request : WatchedView → Asked
+watched_request w = record { object = w.object; sender = w.sender; number = w.number; answered = answered_by w.came }
 
 -- counts of each object, the requests that are watched, and for how many more room is kept
 pub record FatesView : Type 0 where
@@ -71,6 +79,7 @@ counts_by c (NoMember x set) = c
 abbrev pub came_by : Sender → ℕ → Stands → Came → Entry → Came
 came_by s n at (came.Accepted fate) e = came.Accepted (fate_by s n at fate e)
 came_by s n at (came.Refused stood) e = came.Refused stood
+came_by s n at (came.Past stood) e = came.Past stood
 
 -- a request that is watched, after an entry of an object, which then stands so
 abbrev pub watched_next : ℕ → Stands → Entry → WatchedView → WatchedView
@@ -90,17 +99,19 @@ pub record StoodSo (d : Domain) (J : List Entry) (o : ℕ) (at : Stands) : Type 
   pub journal : J ≡ front ++ back
   pub stands : at ≡ stands_of d o front
 
--- the fate of an accepted request is that of the journal; where one was refused, its object stood so
+-- the fate of an accepted request is that of the journal; where one was refused, its object stood so; of one that a log
+-- before had the journal says nothing
 abbrev pub CameSo : Domain → List Entry → ℕ → Sender → ℕ → Came → Type 0
 CameSo d J o s n (came.Accepted fate) = fate ≡ fate_of d o s n J
 CameSo d J o s n (came.Refused None) = Unit {0}
 CameSo d J o s n (came.Refused (Some at)) = StoodSo d J o at
+CameSo d J o s n (came.Past stood) = Unit {0}
 
 -- so it is of a request that is watched
 abbrev pub IsCame : Domain → List Entry → WatchedView → Type 0
 IsCame d J w = CameSo d J w.object w.sender w.number w.came
 
 -- all that is kept is what the journal says
-pub record Tells (d : Domain) (J : List Entry) (f : FatesView) : Type 0 where
+pub record FatesTell (d : Domain) (J : List Entry) (f : FatesView) : Type 0 where
   pub counts : (o : ℕ) (c : Counts) → slice_get f.counts o ≡ Some c → CountsTell d J o c
   pub came : All (IsCame d J) f.watched

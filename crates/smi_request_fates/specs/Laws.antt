@@ -11,9 +11,9 @@ use Rattle.smi_journal_entries.specs.Requests.{same_sender}
 use Rattle.smi_journal_entries.specs.declared.letter.Letter.{Letter}
 use Rattle.smi_meaning.specs.Legal.{IsLegal}
 use Rattle.smi_journal_entries.specs.Journals.{most_entries}
-use Rattle.smi_request_fates.specs.Kept.{FatesView, WatchedView, IsCame, Tells, RoomAt}
+use Rattle.smi_request_fates.specs.Kept.{FatesView, WatchedView, IsCame, FatesTell, RoomAt}
 use Rattle.smi_request_fates.specs.declared.fate.Fate.TheVariants.{Waits, Open}
-use Rattle.smi_request_fates.specs.Fates.{ends, ends_at, started_at, started_of, stands_of, fate_next, fate_of, is_last, stood}
+use Rattle.smi_request_fates.specs.Fates.{ends, ends_at, started_at, started_of_sender, stands_of, fate_next, fate_of, is_last, stood}
 
 -- one for a yes
 abbrev pub one_if : Bool → ℕ
@@ -63,27 +63,27 @@ StartsOnce = (format : Format) (d : Domain) (front mid back : List Entry) (o n a
 -- a request at a living object, with a number that none of its sender had there yet, waits
 abbrev pub UnstartedWait : Type 0
 UnstartedWait = (format : Format) (d : Domain) (J : List Entry) (o : ℕ) (s : Sender) (n : ℕ) → IsLegal format d J →
-    is_killed o J ≡ false → started_of s o J ≤ n → fate_of d o s n J ≡ Waits
+    is_killed o J ≡ false → started_of_sender s o J ≤ n → fate_of d o s n J ≡ Waits
 
 -- ---- what is kept
 
 -- one more request that is watched, with what became of it, changes nothing of what is told
 abbrev pub WatchedTell : Type 0
-WatchedTell = (d : Domain) (J : List Entry) (f : FatesView) (w : WatchedView) (room : ℕ) → Tells d J f → IsCame d J w →
-    Tells d J (record f { watched = f.watched ++ w ∷ []; room = room })
+WatchedTell = (d : Domain) (J : List Entry) (f : FatesView) (w : WatchedView) (room : ℕ) → FatesTell d J f → IsCame d J w →
+    FatesTell d J (record f { watched = f.watched ++ w ∷ []; room = room })
 
 -- nor does one in place of another
 abbrev pub ReplacedTell : Type 0
-ReplacedTell = (d : Domain) (J : List Entry) (f : FatesView) (w : WatchedView) (place : ℕ) → Tells d J f →
-    IsCame d J w → Tells d J (record f { watched = slice_set f.watched place w })
+ReplacedTell = (d : Domain) (J : List Entry) (f : FatesView) (w : WatchedView) (place : ℕ) → FatesTell d J f →
+    IsCame d J w → FatesTell d J (record f { watched = slice_set f.watched place w })
 
 -- nor does more room
 abbrev pub HeldTell : Type 0
-HeldTell = (d : Domain) (J : List Entry) (f : FatesView) (room : ℕ) → Tells d J f → Tells d J (record f { room = room })
+HeldTell = (d : Domain) (J : List Entry) (f : FatesView) (room : ℕ) → FatesTell d J f → FatesTell d J (record f { room = room })
 
 -- counts have room for one more entry while the journal has
 abbrev pub CountsHaveRoom : Type 0
-CountsHaveRoom = (d : Domain) (J : List Entry) (f : FatesView) (o : ℕ) → Tells d J f → length J < most_entries →
+CountsHaveRoom = (d : Domain) (J : List Entry) (f : FatesView) (o : ℕ) → FatesTell d J f → length J < most_entries →
     RoomAt f.counts o
 
 -- ---- what is open

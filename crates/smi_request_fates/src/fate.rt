@@ -1,6 +1,6 @@
 //! What became of a request.
 ghost use Rattle.std.specs.Prelude.{◌≡◌};
-ghost use Rattle.smi_request_fates.specs.Fates.{ended_by, killed_by};
+ghost use Rattle.smi_request_fates.specs.Fates.{ended_by, fate_by_kill};
 
 use sml_domain::StateId;
 
@@ -34,6 +34,8 @@ pub enum Came {
     Accepted(Fate),
     /// It was refused, when its object stood so; nothing where the domain has no such object.
     Refused(Option<Stands>),
+    /// A log before had it, and its object stood so then; nothing where the domain has no such object.
+    Past(Option<Stands>),
 }
 
 impl Fate {
@@ -49,7 +51,7 @@ impl Fate {
 
     // The fate after a kill, where the object stands so.
     pub(crate) fn killed(self, at: Stands) -> Fate
-        ensures { result ≡ killed_by at self }
+        ensures { result ≡ fate_by_kill at self }
     {
         match self {
             Fate::Waits | Fate::Open => Fate::Killed(at),

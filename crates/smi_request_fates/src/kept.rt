@@ -6,7 +6,7 @@ ghost use Rattle.smi_journal_entries.specs.Journals.{most_entries};
 ghost use Rattle.smi_journal_entries.specs.Words.{object_of};
 ghost use Rattle.sml_domain.specs.Domain.{Domain as Objects};
 ghost use Rattle.smi_request_fates.specs.Fates.{fate_of};
-ghost use Rattle.smi_request_fates.specs.Kept.{IsOfCounted, RoomAt, Tells, request_in};
+ghost use Rattle.smi_request_fates.specs.Kept.{IsOfCounted, RoomAt, FatesTell, watched_request};
 
 use crate::counts::Counts;
 use crate::fate::Fate;
@@ -64,7 +64,7 @@ fn count_of(entries: &[Entry]) -> usize
 impl Fates {
     /// Those of a domain that is not begun, and no request is watched. The error is out of memory.
     pub fn new(alloc: Global, domain: &Domain) -> Result<Fates, AllocError>
-        ensures tells { IfOk result (λ f. Tells domain.now [] f) }
+        ensures tells { IfOk result (λ f. FatesTell domain.now [] f) }
         ensures count { IfOk result (λ f. length f.counts ≡ length domain.now.objects) }
         ensures none { IfOk result (λ f. f.watched ≡ []) }
     {
@@ -89,9 +89,9 @@ impl Fates {
     pub fn add(&mut self, entry: &Entry)
         requires known { object_of entry.now < length self.old.counts }
         requires room { RoomAt self.old.counts (object_of entry.now) }
-        ensures tells { (d : Objects) (J : List Entries) → Tells d J self.old → Tells d (J ++ entry.now ∷ []) self.new }
+        ensures tells { (d : Objects) (J : List Entries) → FatesTell d J self.old → FatesTell d (J ++ entry.now ∷ []) self.new }
         ensures count { length self.new.counts ≡ length self.old.counts }
-        ensures requests { map request_in self.new.watched ≡ map request_in self.old.watched }
+        ensures requests { map watched_request self.new.watched ≡ map watched_request self.old.watched }
         ensures room_stays { self.new.room ≡ self.old.room }
     {
         let object = object_in(entry);
@@ -103,11 +103,11 @@ impl Fates {
     /// Takes the entries of a journal from a place on, of which it has those before. The cost is that of each.
     pub fn add_from(&mut self, domain: &Domain, entries: &[Entry], first: usize)
         requires known { All (IsOfCounted (length self.old.counts)) entries.now }
-        requires told { Tells domain.now (take first entries.now) self.old }
+        requires told { FatesTell domain.now (take first entries.now) self.old }
         requires within { first ≤ length entries.now }
-        ensures tells { Tells domain.now entries.now self.new }
+        ensures tells { FatesTell domain.now entries.now self.new }
         ensures count { length self.new.counts ≡ length self.old.counts }
-        ensures requests { map request_in self.new.watched ≡ map request_in self.old.watched }
+        ensures requests { map watched_request self.new.watched ≡ map watched_request self.old.watched }
         ensures room_stays { self.new.room ≡ self.old.room }
     {
         let _domain = domain;

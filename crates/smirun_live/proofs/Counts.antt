@@ -39,7 +39,7 @@ lines_of_one_more line n = flat_map_more line [] (range_with_len 0 n) n ∙ ap (
 
 -- the line of what stands at a place
 pub once_is : (d : Domain) (counts : List Counts) (told : List OnceTold) (watched : List WatchedView) (p : ℕ) (t : OnceTold) (w : WatchedView) (now : Option Stands) → slice_get told p ≡ Some t → slice_get watched p ≡ Some w → now ≡ stands_now counts w.object
-    → codes "once" ++ (spaced t.name ++ (spaced (decimal_text t.number) ++ came_text d w.object now t.answer w.came)) ≡ once_line d counts (slice_get told p) (slice_get watched p)
+    → codes "once" ++ (spaced t.name ++ (spaced (decimal_text t.number) ++ came_text d w now t.answer w.came)) ≡ once_line d counts (slice_get told p) (slice_get watched p)
 once_is d counts told watched p t w now e f g =
-    ap (λ n. codes "once" ++ (spaced t.name ++ (spaced (decimal_text t.number) ++ came_text d w.object n t.answer w.came))) g
+    ap (λ n. codes "once" ++ (spaced t.name ++ (spaced (decimal_text t.number) ++ came_text d w n t.answer w.came))) g
     ∙ sym (ap (λ x. once_line d counts x (slice_get watched p)) e ∙ ap (once_line d counts (Some t)) f)

@@ -5,7 +5,7 @@ use Rattle.smi_world.specs.World.{Setup, opening}
 use Rattle.smi_core.specs.Machines.{CoreView}
 use Rattle.smi_live.specs.Logs.{LogOutputs}
 use Rattle.smi_live_once.specs.Making.{Keeper}
-use Rattle.smirun_live.specs.Reading.{HasNoFeed}
+use Rattle.smirun_live.specs.Reading.{HasNoFeed, IsOfWholeLines}
 
 -- the first line of a log, of which this many bytes are whole lines, is this one; without a whole line it begins so
 pub record BeginsAs (first log : List ℕ) (whole : ℕ) : Type 0 where
@@ -21,6 +21,7 @@ pub record ContinuesAfter (m : Setup) (first log : List ℕ) (k : Keeper CoreVie
   pub whole : List ℕ
   pub torn : List ℕ
   pub parts : log ≡ whole ++ torn
+  pub ended : IsOfWholeLines whole
   pub last : HasNoFeed torn
   pub begins : BeginsAs first log (length whole)
   pub out : List ℕ

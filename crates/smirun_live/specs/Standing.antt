@@ -1,15 +1,18 @@
 -- The lines of how all stands that tell what a manager keeps of what it did.
-use Rattle.std.specs.Prelude.{ℕ, zero, suc, List, [], ◌++◌, Option, Some, None, codes, length, flat_map, option_map, slice_get}
+use Rattle.std.specs.Prelude.{ℕ, zero, suc, List, [], ◌++◌, Option, Some, None, codes, drop, length, flat_map, option_map, slice_get}
 use Rattle.std.specs.List.{range_with_len}
 use Rattle.sml_text.specs.Decimal.{decimal_text}
 use Rattle.sml_domain.specs.Domain.{Domain}
 use Rattle.smi_journal_entries.specs.declared.entry.Entry.{Entry}
+use Rattle.smi_journal_entries.specs.declared.entry.Sender.{Sender}
+use Rattle.smi_journal_entries.specs.declared.entry.Sender.TheVariants.{Object, Operator}
 use Rattle.smi_journal.specs.CallText.{object_name_text, spaced, state_name_text}
+use Rattle.smi_journal.specs.EntryText.{session_text}
 use Rattle.smi_live_accounts.specs.Accounts.{AccountsView}
 use Rattle.smi_live_once.specs.Tables.{OnceTold}
 use Rattle.smi_request_fates.specs.declared.counts.Counts.{Counts}
 use Rattle.smi_request_fates.specs.declared.fate.Came.{Came}
-use Rattle.smi_request_fates.specs.declared.fate.Came.TheVariants.{Accepted, Refused}
+use Rattle.smi_request_fates.specs.declared.fate.Came.TheVariants.{Accepted, Past, Refused}
 use Rattle.smi_request_fates.specs.declared.fate.Fate.{Fate}
 use Rattle.smi_request_fates.specs.declared.fate.Fate.TheVariants.{Waits, Open, Ended, Skipped, Killed}
 use Rattle.smi_request_fates.specs.declared.fate.Stands.{Stands}
@@ -36,18 +39,29 @@ stood_text d o None = codes " - - 0"
 stood_text d o (Some at) =
     spaced (object_name_text d o) ++ (spaced (state_name_text d at.state) ++ spaced (decimal_text at.ended))
 
--- what became of an accepted request, whose object stands so now
-abbrev pub fate_text : Domain → ℕ → Option Stands → Fate → List ℕ
-fate_text d o now Waits = stood_text d o now ++ codes " waits\n"
-fate_text d o now Open = stood_text d o now ++ codes " open\n"
-fate_text d o now (Ended at) = stood_text d o (Some at) ++ codes " ended\n"
-fate_text d o now (Skipped at) = stood_text d o (Some at) ++ codes " skipped\n"
-fate_text d o now (Killed at) = stood_text d o (Some at) ++ codes " killed\n"
+-- the session of a request, with its number there; those of an object's are not told
+abbrev pub asker_text : Sender → ℕ → List ℕ
+asker_text (Operator k) n = spaced (session_text k) ++ spaced (decimal_text n)
+asker_text (Object x) n = []
 
--- what became of a request; of a refused one what was told of it
-abbrev pub came_text : Domain → ℕ → Option Stands → List ℕ → Came → List ℕ
-came_text d o now answer (Accepted fate) = fate_text d o now fate
-came_text d o now answer (Refused at) = stood_text d o at ++ spaced answer
+-- a request is not over, as this word says: it is known by its session and its number
+abbrev pub under_way_text : WatchedView → List ℕ → List ℕ
+under_way_text w word = word ++ (asker_text w.sender w.number ++ codes "\n")
+
+-- what became of an accepted request, whose object stands so now
+abbrev pub fate_text : Domain → WatchedView → Option Stands → Fate → List ℕ
+fate_text d w now Waits = stood_text d w.object now ++ under_way_text w (codes " waits")
+fate_text d w now Open = stood_text d w.object now ++ under_way_text w (codes " open")
+fate_text d w now (Ended at) = stood_text d w.object (Some at) ++ codes " ended\n"
+fate_text d w now (Skipped at) = stood_text d w.object (Some at) ++ codes " skipped\n"
+fate_text d w now (Killed at) = stood_text d w.object (Some at) ++ codes " killed\n"
+
+-- what became of a request; of a refused one what was told of it, and of one that a log before had what stands after the
+-- word `past`
+abbrev pub came_text : Domain → WatchedView → Option Stands → List ℕ → Came → List ℕ
+came_text d w now answer (Accepted fate) = fate_text d w now fate
+came_text d w now answer (Refused at) = stood_text d w.object at ++ spaced answer
+came_text d w now answer (Past at) = stood_text d w.object at ++ drop 4 answer
 
 -- how an object stands now
 abbrev pub stands_now : List Counts → ℕ → Option Stands
@@ -59,7 +73,7 @@ once_line d counts None w = []
 once_line d counts (Some t) None = []
 once_line d counts (Some t) (Some w) =
     codes "once" ++ (spaced t.name ++ (spaced (decimal_text t.number)
-    ++ came_text d w.object (stands_now counts w.object) t.answer w.came))
+    ++ came_text d w (stands_now counts w.object) t.answer w.came))
 
 -- those of all names, in the order in which they came
 abbrev pub all_once_lines : Domain → AccountsView → List ℕ

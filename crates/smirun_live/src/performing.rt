@@ -1,7 +1,7 @@
 //! The lines of a log, which are made again.
 ghost use Rattle.std.specs.Prelude.{◌≡◌, ◌<◌, ◌++◌, ◌∷◌, Err, IfNone, IfSome, List, OnOk, true, ℕ};
 ghost use Rattle.smi_core.specs.Output.{LineWrites};
-ghost use Rattle.smi_live_once.specs.Forms.{is_reserved};
+ghost use Rattle.smi_live_once.specs.Forms.{is_barred_line};
 ghost use Rattle.smi_live_once.specs.Making.{KeeperWrites};
 ghost use Rattle.smi_live.specs.Logs.{LogOutputs};
 ghost use Rattle.smi_live.specs.Managing.{keeper_of};
@@ -29,7 +29,7 @@ fn split_line(text: &[u8]) -> Option<(&[u8], &[u8])>
 
 // Whether a line may not come from outside, or has a byte that no line has.
 fn has_other_byte(line: &[u8]) -> bool
-    ensures { is_reserved line.now ≡ true → result ≡ true }
+    ensures { is_barred_line line.now ≡ true → result ≡ true }
 {
     is_reserved_line(line) || !line.is_ascii()
 }
@@ -44,7 +44,7 @@ fn perform_line<'a>(
 ) -> Result<(), Fault<'a>>
     ensures made { OnOk result (KeeperWrites LineWrites (keeper_of manager.old) line.now made.new.text.items
         (keeper_of manager.new)) }
-    ensures reserved { is_reserved line.now ≡ true → 1 < number → result ≡ Err (Fault.BadLine path.entry number) }
+    ensures reserved { is_barred_line line.now ≡ true → 1 < number → result ≡ Err (Fault.BadLine path.entry number) }
     ensures setup { manager.new.core.setup ≡ manager.old.core.setup }
 {
     if number > 1 && has_other_byte(line) {

@@ -1,11 +1,12 @@
 //! The lines of how all stands that tell what a manager keeps of what it did. (docs/FORMATS.md, "A live manager".)
-ghost use Rattle.std.specs.Prelude.{◌<◌, length, slice_get};
+ghost use Rattle.std.specs.Prelude.{◌≡◌, ◌<◌, drop, length, slice_get};
 ghost use Rattle.smi_journal.specs.CallText.{spaced, state_name_text};
 ghost use Rattle.sml_writer.specs.Tells.{Tells};
 ghost use Rattle.smirun_live.specs.Standing as text;
 
-use show_names::{tell_number, tell_object};
+use show_names::{tell_number, tell_object, tell_session};
 use smi_core::Core;
+use smi_journal_entries::Sender;
 use smi_live_accounts::Accounts;
 use smi_request_fates::{Came, Counts, Fate, Stands, Watched};
 use sml_domain::{Domain, ObjId, StateId};
@@ -69,24 +70,47 @@ fn tell_stood<W: Sink>(out: &mut Out<'_, W>, domain: &Domain, o: ObjId, at: Opti
     }
 }
 
+// The session of a request, with its number there; those of an object's are not told.
+fn tell_asker<W: Sink>(out: &mut Out<'_, W>, sender: Sender, number: u64)
+    ensures { Tells W.contents W.has_refused out.old out.new (text.asker_text sender number) }
+{
+    match sender {
+        Sender::Operator(session) => {
+            tell_session(out, session);
+            tell_number(out, number);
+        }
+        Sender::Object(_) => {}
+    }
+}
+
+// A request is not over, as this word says.
+fn tell_under_way<W: Sink>(out: &mut Out<'_, W>, watched: &Watched, word: &[u8])
+    ensures { Tells W.contents W.has_refused out.old out.new (text.under_way_text watched.now word.now) }
+{
+    out.say(word);
+    tell_asker(out, watched.sender, watched.number);
+    out.say(b"\n");
+}
+
 // What became of an accepted request, whose object stands so now.
 fn tell_fate<W: Sink>(
     out: &mut Out<'_, W>,
     domain: &Domain,
-    o: ObjId,
+    watched: &Watched,
     now: Option<Stands>,
     fate: Fate,
 )
-    ensures { Tells W.contents W.has_refused out.old out.new (text.fate_text domain.now o now fate) }
+    ensures { Tells W.contents W.has_refused out.old out.new (text.fate_text domain.now watched.now now fate) }
 {
+    let o = watched.object;
     match fate {
         Fate::Waits => {
             tell_stood(out, domain, o, now);
-            out.say(b" waits\n");
+            tell_under_way(out, watched, b" waits");
         }
         Fate::Open => {
             tell_stood(out, domain, o, now);
-            out.say(b" open\n");
+            tell_under_way(out, watched, b" open");
         }
         Fate::Ended(at) => {
             tell_stood(out, domain, o, Some(at));
@@ -103,7 +127,19 @@ fn tell_fate<W: Sink>(
     }
 }
 
-// What became of a request, whose object stands so now; of a refused one what was told of it.
+// What stands after the word `past`.
+fn after_past(answer: &[u8]) -> &[u8]
+    ensures { result.now ≡ drop 4 answer.now }
+{
+    if answer.len() >= 4 {
+        answer.split_at(4).1
+    } else {
+        &[]
+    }
+}
+
+// What became of a request, whose object stands so now; of a refused one what was told of it, and of one that a log
+// before had what became of it there.
 fn tell_came<W: Sink>(
     out: &mut Out<'_, W>,
     domain: &Domain,
@@ -112,14 +148,18 @@ fn tell_came<W: Sink>(
     answer: &[u8],
 )
     ensures { Tells W.contents W.has_refused out.old out.new
-        (text.came_text domain.now watched.now.object now answer.now watched.now.came) }
+        (text.came_text domain.now watched.now now answer.now watched.now.came) }
 {
     match watched.came {
-        Came::Accepted(fate) => tell_fate(out, domain, watched.object, now, fate),
+        Came::Accepted(fate) => tell_fate(out, domain, watched, now, fate),
         Came::Refused(at) => {
             tell_stood(out, domain, watched.object, at);
             out.say(b" ");
             out.say(answer);
+        }
+        Came::Past(at) => {
+            tell_stood(out, domain, watched.object, at);
+            out.say(after_past(answer));
         }
     }
 }

@@ -21,6 +21,8 @@ mod one_by_one;
 #[cfg(test)]
 mod openings;
 #[cfg(test)]
+mod recalled;
+#[cfg(test)]
 mod reports;
 #[cfg(test)]
 mod runs;

@@ -4,7 +4,7 @@ use Rattle.std.proofs.lemmas.List.Elements.{All-get_or}
 use Rattle.smi_journal_entries.specs.Journals.{most_entries}
 use Rattle.smi_journal_entries.specs.declared.entry.Entry.{Entry}
 use Rattle.smi_journal_entries.specs.Words.{object_of}
-use Rattle.smi_request_fates.specs.Kept.{IsOfCounted, Tells, request_in}
+use Rattle.smi_request_fates.specs.Kept.{IsOfCounted, FatesTell, watched_request}
 use Rattle.smi_request_fates.proofs.Keeping.{counts_have_room}
 use Rattle.smi_request_fates.proofs.kept.Fates.add_from.Goals as goal
 
@@ -50,7 +50,7 @@ loop-place-preserved c =
     let e = c.index-entries-place.result in
     let here = below i c.count_of-place-end.result (length J) c.loop-place-test.true c.count_of-place-end.ensures.is in
     let more : take (i + 1) J ≡ take i J ++ e ∷ [] = take_more J i e here ∙ ap (λ x. take i J ++ x ∷ []) (sym c.index-entries-place.is) in (
-      subst (λ (l : List Entry). Tells d l c.add.new.self) (sym more) (c.add.ensures.tells d (take i J) c.loop-place.invariant.0),
+      subst (λ (l : List Entry). FatesTell d l c.add.new.self) (sym more) (c.add.ensures.tells d (take i J) c.loop-place.invariant.0),
       c.add.ensures.count ∙ c.loop-place.invariant.1,
       c.add.ensures.requests ∙ c.loop-place.invariant.2,
       c.add.ensures.room_stays ∙ c.loop-place.invariant.3,
@@ -61,4 +61,4 @@ returns-clause-tells c =
     let J = c.args.entries.now in
     let i = c.loop-place.place in
     let all : take i J ≡ J = take_all i J (reached i c.count_of-place-end.result (length J) c.loop-place-test.false c.count_of-place-end.ensures.is) in
-    subst (λ (l : List Entry). Tells c.args.domain.now l c.loop-place.self) all c.loop-place.invariant.0
+    subst (λ (l : List Entry). FatesTell c.args.domain.now l c.loop-place.self) all c.loop-place.invariant.0
