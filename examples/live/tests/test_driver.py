@@ -72,6 +72,8 @@ class AtGateway(unittest.TestCase):
     def serve(self, *greeting: str) -> None:
         threading.Thread(target=self.driver.serve, args=[self.gateway.contact], daemon=True, name="driver").start()
         self.assertEqual(self.gateway.take(*greeting), f"{SECRET} driver HV1 HV2*")
+        # What is asked before the driver goes on there is asked again, in whatever order.
+        until(lambda: self.driver.secret)
 
     def tearDown(self) -> None:
         self.driver.leave()

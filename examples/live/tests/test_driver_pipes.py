@@ -79,6 +79,7 @@ class OverPipes(Limited):
         """In the drivers' session; again where it was refused, or skipped, and not while it is accepted. (That of HV2
         would come after one of HV1, which was asked for earlier.)"""
         self.told.write("state HV1 ON\n")
+        until(lambda: self.trial.shown)
         self.trial.report("HV1")
         for _ in range(3):
             self.assertEqual(self.given.readline(), "request @7 HV1 REPORT\n")
