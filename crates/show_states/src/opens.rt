@@ -6,28 +6,21 @@ ghost use Rattle.show_states.specs.StandingText.{AreOpenLines, standing_open_lin
 
 use crate::lines::tell_open;
 use crate::stands::Standing;
-use explain_runs::tell_awaited;
-use smi_audit::Past;
-use sml_domain::{Domain, ObjId};
+use sml_domain::ObjId;
 use sml_text::Sink;
 use sml_writer::Out;
 use std::alloc::{AllocError, Global};
 
 // For what the open action of an object waits: its device, or the objects that are busy for it.
-fn waits_of(
-    alloc: Global,
-    domain: &Domain,
-    past: Option<&Past>,
-    o: ObjId,
-) -> Result<Vec<u8>, AllocError>
-    requires { o < length domain.now.objects }
+fn waits_of<S: Standing>(alloc: Global, standing: &S, o: ObjId) -> Result<Vec<u8>, AllocError>
+    requires { o < length (S.of_domain standing.now).objects }
 {
     let mut waits = Vec::new(alloc);
     let mut out = Out::new(&mut waits);
-    if domain.associated(o) {
+    if standing.domain().associated(o) {
         out.say(b" waits device");
-    } else if let Some(past) = past {
-        tell_awaited(&mut out, past, b" waits", o);
+    } else {
+        standing.tell_awaited(&mut out, o)?;
     }
     if out.failed {
         Err(AllocError)
@@ -40,7 +33,6 @@ fn waits_of(
 pub(crate) fn tell_open_at<S: Standing, W: Sink>(
     alloc: Global,
     standing: &S,
-    past: Option<&Past>,
     o: ObjId,
     out: &mut Out<'_, W>,
 ) -> Result<(), AllocError>
@@ -51,7 +43,7 @@ pub(crate) fn tell_open_at<S: Standing, W: Sink>(
     let domain = standing.domain();
     match standing.opened(o) {
         Some(letter) => {
-            let waits = waits_of(alloc, domain, past, o)?;
+            let waits = waits_of(alloc, standing, o)?;
             tell_open(out, domain, o, letter, waits.as_slice());
             Ok(())
         }
@@ -59,11 +51,10 @@ pub(crate) fn tell_open_at<S: Standing, W: Sink>(
     }
 }
 
-// What is open at all objects. For what actions wait that no device performs is told by a past, if there is one.
+// What is open at all objects.
 pub(crate) fn tell_opens<S: Standing, W: Sink>(
     alloc: Global,
     standing: &S,
-    past: Option<&Past>,
     out: &mut Out<'_, W>,
 ) -> Result<(), AllocError>
     ensures { OnOk result ((lines : List ℕ) × AreOpenLines (S.of_domain standing.now) (S.behind standing.now)
@@ -72,7 +63,7 @@ pub(crate) fn tell_opens<S: Standing, W: Sink>(
 {
     let objects = standing.domain().objects();
     for o in 0..objects {
-        tell_open_at(alloc, standing, past, ObjId::new(o), out)?;
+        tell_open_at(alloc, standing, ObjId::new(o), out)?;
     }
     Ok(())
 }

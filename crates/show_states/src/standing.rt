@@ -18,17 +18,6 @@ use sml_writer::Out;
 use std::alloc::{AllocError, Global};
 use std::sync::Arc;
 
-// Whether an action is open that no device performs: what it waits for is read off the journal.
-fn has_open(domain: &Domain, history: &History) -> bool {
-    for o in 0..domain.objects() {
-        let o = ObjId::new(o);
-        if history.opened(o).is_some() && !domain.associated(o) {
-            return true;
-        }
-    }
-    false
-}
-
 // The members of all sets that have others than the declared ones.
 fn tell_all_members<S: Standing, W: Sink>(out: &mut Out<'_, W>, standing: &S, declared: &Domain) {
     for (place, group) in declared.groups().iter().enumerate() {
@@ -36,18 +25,24 @@ fn tell_all_members<S: Standing, W: Sink>(out: &mut Out<'_, W>, standing: &S, de
     }
 }
 
-// All lines, with what the entries left behind where an action is open that asks other objects.
-fn tell_all<W: Sink>(
+/// Writes how all stands behind the steps of a core: a line for each state, each parameter, each open action with
+/// what it waits for, each mailbox that is not empty, and each set that has other members than the declared ones.
+/// (docs/FORMATS.md, "How all stands".)
+///
+/// The history is that of the core's steps. The declared domain is that of the file: the same as the core's, unless the
+/// domain begins otherwise than it is declared. No journal is walked: the time is that of the lines, and for each open
+/// action that no device performs that of `Core::waits_for`; memory is taken for one line. The error is out of memory;
+/// then a part is written.
+pub fn tell_standing<W: Sink>(
     alloc: Global,
-    core: &Core,
     declared: &Domain,
+    core: &Core,
     history: &History,
-    past: Option<&Past>,
     out: &mut Out<'_, W>,
 ) -> Result<(), AllocError> {
     tell_states(out, core);
     tell_params(out, core);
-    tell_opens(alloc, core, past, out)?;
+    tell_opens(alloc, core, out)?;
     let domain = core.domain();
     for o in 0..domain.objects() {
         let o = ObjId::new(o);
@@ -55,35 +50,6 @@ fn tell_all<W: Sink>(
     }
     tell_all_members(out, core, declared);
     Ok(())
-}
-
-/// Writes how all stands behind the steps of a core: a line for each state, each parameter, each open action with
-/// what it waits for, each mailbox that is not empty, and each set that has other members than the declared ones.
-/// (docs/FORMATS.md, "How all stands".)
-///
-/// The domain is that of the core, and the history that of its steps. The declared domain is that of the file: the same
-/// one, unless the domain begins otherwise than it is declared. Where an action is open that no device performs, the
-/// time and the memory are those of writing the journal and judging it; else the time is that of the lines, and memory
-/// is taken for one line. The error is out of memory; then a part is written.
-pub fn tell_standing<W: Sink>(
-    alloc: Global,
-    domain: &Arc<Domain>,
-    declared: &Domain,
-    core: &Core,
-    history: &History,
-    out: &mut Out<'_, W>,
-) -> Result<(), AllocError> {
-    if !has_open(domain, history) {
-        return tell_all(alloc, core, declared, history, None, out);
-    }
-    let mut text = Vec::new(alloc);
-    if write_journal(core.domain(), core.journal(), &mut text).is_err() {
-        return Err(AllocError);
-    }
-    match Past::of_text(alloc, domain, text.as_slice()) {
-        Some(past) => tell_all(alloc, core, declared, history, Some(&past), out),
-        None => Err(AllocError),
-    }
 }
 
 // Writes how all stood behind the entries of a past. The error is out of memory; then a part is written.
@@ -100,7 +66,7 @@ fn tell_past<W: Sink>(
     let more = other_lines(alloc, past, declared)?;
     tell_states(out, past);
     tell_params(out, past);
-    tell_opens(alloc, past, Some(past), out)?;
+    tell_opens(alloc, past, out)?;
     out.say(more.as_slice());
     Ok(())
 }
@@ -125,7 +91,7 @@ pub fn rest_text(
     let mut text = Vec::new(alloc);
     let mut out = Out::new(&mut text);
     tell_params(&mut out, &past);
-    tell_opens(alloc, &past, Some(&past), &mut out)?;
+    tell_opens(alloc, &past, &mut out)?;
     tell_all_members(&mut out, &past, domain);
     if out.failed {
         Err(AllocError)

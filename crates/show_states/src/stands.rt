@@ -7,10 +7,13 @@ ghost use Rattle.smi_journal_entries.specs.declared.entry.Entry as entries;
 ghost use Rattle.smi_journal_entries.specs.declared.journal.Format as formats;
 ghost use Rattle.smi_meaning.specs.Params.{ParamsAfter};
 
+use show_names::tell_object;
 use smi_audit::Past;
 use smi_core::Core;
 use smi_journal::Letter;
 use sml_domain::{Domain, ObjId, SetId, StateId, Value};
+use sml_writer::Out;
+use std::alloc::AllocError;
 
 /// What knows how all objects of a domain stand behind a journal: a core behind its steps, and a judge behind the
 /// entries that it took. Each look-up takes a constant time.
@@ -43,6 +46,22 @@ pub trait Standing {
     /// The members of a set, in order.
     fn members(&self, set: SetId) -> &[ObjId]
         ensures { result.now ≡ members_after (of_domain self.now) set (behind self.now) };
+
+    /// Writes ` waits` and the objects for which the open action of an object waits, each once, in the order of its
+    /// names; nothing where it waits for none. The cost is that of the objects that it names, by that of the objects.
+    /// The error is out of memory.
+    fn tell_awaited(&self, out: &mut Out<'_, Vec<u8>>, o: ObjId) -> Result<(), AllocError>
+        requires { o < length (of_domain self.now).objects };
+}
+
+// Writes ` waits` and objects, if there are any.
+fn tell_waits(out: &mut Out<'_, Vec<u8>>, domain: &Domain, objects: &[ObjId]) {
+    if !objects.is_empty() {
+        out.say(b" waits");
+    }
+    for object in objects {
+        tell_object(out, domain, *object);
+    }
 }
 
 impl Standing for Core {
@@ -73,6 +92,12 @@ impl Standing for Core {
     fn members(&self, set: SetId) -> &[ObjId] {
         Core::members(self, set)
     }
+
+    fn tell_awaited(&self, out: &mut Out<'_, Vec<u8>>, o: ObjId) -> Result<(), AllocError> {
+        let objects = self.waits_for(o)?;
+        tell_waits(out, Core::domain(self), &objects);
+        Ok(())
+    }
 }
 
 impl Standing for Past {
@@ -100,5 +125,10 @@ impl Standing for Past {
 
     fn members(&self, set: SetId) -> &[ObjId] {
         self.books().sets().of(self.books().domain(), set)
+    }
+
+    fn tell_awaited(&self, out: &mut Out<'_, Vec<u8>>, o: ObjId) -> Result<(), AllocError> {
+        explain_runs::tell_awaited(out, self, b" waits", o);
+        Ok(())
     }
 }

@@ -1,13 +1,12 @@
 -- What becomes of a task that is handed to the board.
 use Rattle.std.proofs.Common.{◌≡◌, ◌≤◌, ℕ, Bool, true, false, cond, List, [], ◌∷◌, ◌++◌, ◌-◌, length, length-append, Option, Some, None, map, IfSome, Ok, Err, refl, sym, ap, ◌∙◌, subst, arith}
-use Rattle.std.specs.Prelude.{slice_set, is_some, MatchBool, option_map}
-use Rattle.std.proofs.lemmas.Bool.{true≢false}
+use Rattle.std.specs.Prelude.{slice_set, MatchBool, option_map}
 use Rattle.sml_domain.specs.Domain.{Domain}
 use Rattle.sml_domain.specs.Program.{Subject}
 use Rattle.smi_journal_entries.specs.declared.entry.ActionEnd.TheVariants.{State}
 use Rattle.smi_journal_entries.specs.declared.entry.Entry.{Entry}
 use Rattle.smi_journal_entries.specs.declared.entry.Entry.TheVariants as entry
-use Rattle.smi_journal_entries.specs.Words.{is_killed, state_of, waits_at, change_entry}
+use Rattle.smi_journal_entries.specs.Words.{state_of, waits_at, change_entry}
 use Rattle.smi_meaning.specs.EntryLaws.{are_clear, reading_of}
 use Rattle.smi_meaning.specs.Meaning.{DidRead, DidSend, state_left}
 use Rattle.smi_board.specs.Reading.{states_now}
@@ -20,15 +19,11 @@ use Rattle.smi_interp.specs.Task.{TaskView, IsNextContact, LeftAsks, LeftNames, 
 use Rattle.smi_mail_plain.specs.Boxes.{PlainView, taken_at, sent_at}
 use Rattle.smi_mail_plain.specs.Mails.{is_sender}
 use Rattle.smi_board.specs.Boards.{BoardView}
-use Rattle.smi_board.specs.Contacts.{Replies, RepliesTaskOf, TaskSees, TaskWaits, IsContactError}
+use Rattle.smi_board.specs.Contacts.{Replies, RepliesTaskOf, TaskSees, TaskWaits}
 use Rattle.smi_board.specs.Posting.{Lists}
-use Rattle.smi_board.specs.Turns.{IsOut}
 use Rattle.smi_board.specs.declared.contacts.Reply.{Reply}
 use Rattle.smi_board.specs.declared.contacts.Reply.TheVariants as reply
-use Rattle.smi_board.specs.declared.errors.ContactError.{ContactError}
-use Rattle.smi_board.specs.declared.errors.ContactError.TheVariants as error
 use Rattle.smi_board.proofs.Sent.{sendable_at}
-use Rattle.smi_board.proofs.Ties.{open_is_alive}
 use Rattle.smi_world.specs.declared.step.Answer.{Answer}
 use Rattle.smi_world.specs.declared.step.Answer.TheVariants.{Entries}
 use Rattle.smi_world.specs.declared.refusal.StepError.TheVariants.{Memory}
@@ -99,12 +94,6 @@ pub reply_goes : (b : BoardView PlainView) (t : TaskView) (rest : Tasks) (b2 : B
 reply_goes b t rest b2 r told h l asks next domain most replies = after_reply b t rest b2 t.pending r refl told h l asks next domain most replies
 
 -- ---- if memory runs out
-
--- the object of a task that is out is not killed
-pub not_dead : (b : BoardView PlainView) (t : TaskView) (rest : Tasks) (e : ContactError) → BoardIsTold b → TaskIsTaken b t rest → e ≡ error.Dead → IsContactError (is_killed t.turn.object b.journal) (IsOut b.domain b.journal b.params b.kept t.turn) e → ⊥
-not_dead b t rest e told h is refused =
-    let killed = subst (IsContactError (is_killed t.turn.object b.journal) (IsOut b.domain b.journal b.params b.kept t.turn)) is refused in
-    true≢false (sym killed ∙ ap is_some (open_is_alive b.domain b.journal t.turn.object told.tied.legal (ap is_some (taken_out b t rest h).0.turn.opened)))
 
 -- a board that is as it was, except for the room of its mail
 pub record IsAsBefore (b b2 : BoardView PlainView) : Type 0 where

@@ -13,6 +13,7 @@ use Rattle.smi_meaning.specs.Meaning.{Move, DidSet, Outcome, Means}
 use Rattle.smi_meaning.specs.Environment.{Env}
 use Rattle.smi_meaning.specs.Params.{ParamsAfter, env_of}
 use Rattle.smi_meaning.specs.Shown.{items_of, shown_moves}
+use Rattle.smi_meaning.specs.Steps.{Leads}
 use Rattle.smi_meaning.proofs.Showing.{shown-append}
 use Rattle.smi_interp.specs.Turn.{TurnView}
 use Rattle.smi_interp.specs.Task.{TaskView, HasLeft, IsNextContact, LeftNames, MayMake, body, env_before, env_now, shown}
@@ -46,6 +47,11 @@ pub record IsWhole (d : Domain) (J : List Entry) (o : ℕ) (moves : List Move) (
   pub env : Env
   pub means : Means d action.run.program (env_of action.own action.run) moves env r
 
+-- what runs at an object, and what some moves of it lead to
+pub record RunsLeft (d : Domain) (J : List Entry) (o : ℕ) (moves : List Move) (left : Program) (env : Env) : Type 0 where
+  pub action : Runs d J o
+  pub leads : Leads d action.run.program (env_of action.own action.run) moves left env
+
 -- what a task knows, at its own domain and object
 record Knows (J : List Entry) (own : List Value) (t : TaskView) : Type 0 where
   params : ParamsAfter Two t.domain t.turn.object J own
@@ -62,6 +68,9 @@ may_here J own t left moves k has may = record { action = knows_runs J own t lef
 
 whole_here : (J : List Entry) (own : List Value) (t : TaskView) (left : Program) (r : Outcome) → Knows J own t → HasLeft t left → Means t.domain (body t) (env_before t) t.turn.moves (env_now t) r → IsWhole t.domain J t.turn.object t.turn.moves r
 whole_here J own t left r k has means = record { action = knows_runs J own t left k has; env = env_now t; means = means }
+
+left_here : (J : List Entry) (own : List Value) (t : TaskView) (left : Program) → Knows J own t → HasLeft t left → RunsLeft t.domain J t.turn.object t.turn.moves left (env_now t)
+left_here J own t left k has = record { action = knows_runs J own t left k has; leads = has }
 
 -- from the task's domain and object to others that are the same
 moved_to : (P : Domain → ℕ → Type 0) (d : Domain) (o : ℕ) (t : TaskView) → t.domain ≡ d → t.turn.object ≡ o → P t.domain t.turn.object → P d o
@@ -86,6 +95,9 @@ module _ (b : BoardView PlainView) (o : ℕ) (t : TaskView) (told : BoardIsTold 
 
   pub may_go : (left : Program) (moves : List Move) → HasLeft t left → MayMake t moves → MayGo b.domain b.journal o moves
   may_go left moves has may = moved_to (λ d x. MayGo d b.journal x moves) b.domain o t is.domain is.object (may_here b.journal own t left moves knows has may)
+
+  pub runs_left : (left : Program) → HasLeft t left → RunsLeft b.domain b.journal o t.turn.moves left (env_now t)
+  runs_left left has = moved_to (λ d x. RunsLeft d b.journal x t.turn.moves left (env_now t)) b.domain o t is.domain is.object (left_here b.journal own t left knows has)
 
   pub is_whole : (left : Program) (r : Outcome) → HasLeft t left → Means t.domain (body t) (env_before t) t.turn.moves (env_now t) r → IsWhole b.domain b.journal o t.turn.moves r
   is_whole left r has means = moved_to (λ d x. IsWhole d b.journal x t.turn.moves r) b.domain o t is.domain is.object (whole_here b.journal own t left r knows has means)

@@ -1,3 +1,4 @@
+pub mod Awaiting
 pub mod Feeds
 pub mod Output
 pub mod FaultText

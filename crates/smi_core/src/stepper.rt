@@ -11,6 +11,7 @@ ghost use Rattle.sml_domain.specs.Lookups.{object_named};
 ghost use Rattle.smi_world.specs.declared.step.Step.TheVariants as step;
 ghost use Rattle.smi_world.specs.Steps.{StepsTo};
 ghost use Rattle.smi_world.specs.World.{FrontOk, opening, waiting};
+ghost use Rattle.smi_core.specs.Awaiting.{WaitsForAt};
 ghost use Rattle.smi_core.specs.Machines.{AreLimits};
 ghost use Rattle.smi_core.specs.Stepping.{IsCalled, RestsAt};
 
@@ -21,7 +22,7 @@ pub use smi_mail_plain::MAX_CAPACITY;
 use smi_mail_plain::PlainMail;
 use smi_world::{Answer, Step, StepError};
 use sml_domain::{Domain, ObjId, SetId, StateId, Value, laws_of_domains};
-use std::alloc::Global;
+use std::alloc::{AllocError, Global};
 use std::marker::Model;
 use std::sync::Arc;
 
@@ -200,6 +201,19 @@ impl Core {
         ensures { result ≡ says.killed_at o self.now.world.journal }
     {
         self.machine.board.dead_at(o)
+    }
+
+    /// The objects for which the open action of an object waits, each once, in the order of the names of its next `if`
+    /// or `wait`: those that are not clear. None where a device performs it, where no action is open, or where something
+    /// other than a `set` comes first. No journal is walked.
+    ///
+    /// The cost is the count of the `if`s under way and of these `set`s, and that of the objects that the names stand
+    /// for, by that of the objects. The error is out of memory.
+    pub fn waits_for(&self, o: ObjId) -> Result<Vec<ObjId>, AllocError>
+        requires { o < length self.now.setup.domain.objects }
+        ensures { IfOk result (λ objects. WaitsForAt self.now.setup self.now.world o objects.items) }
+    {
+        self.machine.waits_for(o)
     }
 
     /// Whether it is known that neither the start nor the go of an object would change anything now. It makes nothing

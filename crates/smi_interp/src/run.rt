@@ -7,6 +7,7 @@ ghost use Rattle.smi_interp.specs.Expanded.{all_by_names, objects_by_names, post
 ghost use Rattle.smi_interp.specs.Turn.{HasAVerdictEach, move_of, readings_of, sending_of};
 ghost use Rattle.smi_interp.specs.Cursor.{left_in};
 
+use crate::ahead::names_from;
 use crate::contact::{Contact, ContactNames, Wanted};
 use crate::cursor::{Place, branch_by, contact_at, make_room, next_of, settle};
 use crate::expanding::add_objects;
@@ -49,8 +50,9 @@ impl Run {
     ghost use Rattle.smi_interp.specs.declared.contact.Contact.TheVariants as contact;
     ghost use Rattle.smi_interp.specs.Expanded.{objects_by_names, posts_in};
     ghost use Rattle.smi_interp.specs.Turn.{sending_of, sight_of};
-    ghost use Rattle.smi_interp.specs.Cursor.{ContactHasRoom, ContactWaits};
-    ghost use Rattle.smi_interp.specs.Task.{IsNextContact, LeftNames, WantsChange, WantsStates, WantsVerdicts, task_begun, shown, task_with_change, with_move, with_states, with_verdicts};
+    ghost use Rattle.smi_interp.specs.Ahead.{AreReadNext};
+    ghost use Rattle.smi_interp.specs.Cursor.{ContactHasRoom, ContactWaits, left_of};
+    ghost use Rattle.smi_interp.specs.Task.{HasLeft, IsNextContact, LeftNames, WantsChange, WantsStates, WantsVerdicts, task_begun, shown, task_with_change, with_move, with_states, with_verdicts};
     ghost use Rattle.smi_interp.specs.Run.{IsBlank, RunIsSound, contact_here, here, task_of};
 
     /// Returns a task that is not begun, of an object with these parameters. Its letter holds the arguments until it
@@ -160,6 +162,32 @@ impl Run {
         self.later.push_reserved(next);
         self.at = branch;
         self.has_read = false;
+    }
+
+    // The place from which the action continues; `later` gets the places after the `if`s that are under way then. The
+    // cost is their count, and that of the last condition if its readings have still to pick.
+    fn stands(&self, later: &mut Vec<Place>) -> Result<Place, AllocError>
+        requires sound { RunIsSound self.now }
+        requires empty { later.old.items ≡ [] }
+        ensures { IfOk result (λ at. HasLeft (task_of self.now)
+            (left_of (arc_value self.now.domain) at later.new.items)) }
+    {
+        later.extend_from_slice(&self.later)?;
+        if self.has_read {
+            later.push(next_of(&self.domain, self.at))?;
+            return Ok(branch_by(&self.domain, self.at, &self.turn.moves));
+        }
+        Ok(self.at)
+    }
+
+    /// The names of the next `if` or `wait`, where `set`s alone come before it; else no names.
+    pub fn reads_next(&self, alloc: Global) -> Result<ContactNames, AllocError>
+        requires { RunIsSound self.now }
+        ensures { IfOk result (AreReadNext (task_of self.now)) }
+    {
+        let mut later = Vec::new(alloc);
+        let at = self.stands(&mut later)?;
+        names_from(alloc, &self.domain, at, &mut later)
     }
 
     fn go_on(&mut self) -> Result<Contact, AllocError>

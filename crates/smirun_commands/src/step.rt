@@ -415,14 +415,7 @@ fn standing_text<N: Recording>(
 ) -> Result<Vec<u8>, AllocError> {
     let mut text = Vec::new(heap);
     let mut out = Out::new(&mut text);
-    tell_standing(
-        heap,
-        notes.domain(),
-        notes.domain(),
-        core,
-        notes.history(),
-        &mut out,
-    )?;
+    tell_standing(heap, notes.domain(), core, notes.history(), &mut out)?;
     if out.failed {
         Err(AllocError)
     } else {

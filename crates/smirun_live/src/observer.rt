@@ -78,14 +78,7 @@ impl<'a> LiveNotes<'a> {
         text: &mut Vec<u8>,
     ) -> Result<(), AllocError> {
         let mut out = Out::new(text);
-        tell_standing(
-            self.alloc,
-            &self.domain,
-            &self.domain,
-            core,
-            &self.history,
-            &mut out,
-        )?;
+        tell_standing(self.alloc, &self.domain, core, &self.history, &mut out)?;
         tell_accounts(&mut out, core, accounts);
         if out.failed { Err(AllocError) } else { Ok(()) }
     }

@@ -11,6 +11,8 @@ mod alone;
 #[cfg(test)]
 mod at_last;
 #[cfg(test)]
+mod awaits;
+#[cfg(test)]
 mod broken;
 #[cfg(test)]
 mod broken_files;

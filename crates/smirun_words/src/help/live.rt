@@ -61,8 +61,7 @@ their order: `accept`, `start`, `set`, `post`, `empty`, `insert`, `remove`, `wai
 `refused`; `smirun step --help` has them all. By turns the manager makes one step of its own, if one can be made,
 and takes one line, if one has come; what a turn writes goes out in one write, before the next turn. It waits for a
 line only when nothing else is left to do. So a `kill` waits for the lines before it, and one step for each of them,
-and one more. A question waits as a line does; where an action that no device performs is open, its answer takes a
-walk over all that was done, some two seconds for a million entries, and nothing else is done meanwhile.
+and one more. A question waits as a line does; its answer takes no time that grows with what was done before.
 
 A driver must read what the manager writes at all times, in the background of a script: one that writes and does
 not read fills both pipes, and then it and the manager wait for one another for ever. It waits for the `start`
