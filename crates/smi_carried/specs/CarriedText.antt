@@ -15,7 +15,8 @@ carried_object_text keyword d o = keyword ++ spaced (object_name_text d o)
 -- the line of a count of an object, unless it is 0
 abbrev pub carried_count_line : List ℕ → Domain → ℕ → ℕ → List ℕ
 carried_count_line keyword d o zero = []
-carried_count_line keyword d o (suc n) = carried_object_text keyword d o ++ (spaced (decimal_text (suc n)) ++ codes "\n")
+carried_count_line keyword d o (suc n) =
+    carried_object_text keyword d o ++ (spaced (decimal_text (suc n)) ++ codes "\n")
 
 -- the lines of how often an object started and ended
 abbrev pub carried_counts_lines : Domain → ℕ → CarriedCounts → List ℕ

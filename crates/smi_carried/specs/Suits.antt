@@ -1,5 +1,5 @@
--- What may go along into a log of a domain: counts of all its objects, and the last requests of at most as many names as a
--- manager knows, none of them twice.
+-- What may go along into a log of a domain: counts of all its objects, and the last requests of at most as many names
+-- as a manager knows, none of them twice.
 use Rattle.std.specs.Prelude.{◌≡◌, ◌≤◌, ◌&&◌, ◌||◌, ℕ, Bool, true, List, [], ◌∷◌, None, Option, Some, codes, drop, length, nat_eq, nat_le, not}
 use Rattle.std.specs.Char.{is_ascii_lowercase, is_ascii_uppercase}
 use Rattle.std.specs.List.{list_all, list_any, starts_with}

@@ -23,8 +23,8 @@ fn are_letters(word: &[u8]) -> bool
     word.iter().all(|c| is_what_letter(*c))
 }
 
-// Whether two texts are one.
-fn is_same(text: &[u8], word: &[u8]) -> bool
+/// Whether two texts are one.
+pub(crate) fn is_same(text: &[u8], word: &[u8]) -> bool
     ensures { result ≡ same_bytes text.now word.now }
 {
     text == word
@@ -37,8 +37,8 @@ fn is_refusal(what: &[u8]) -> bool
     what.starts_with(b"refused ".as_slice()) && (what.len() >= 9 && are_letters(what.split_at(8).1))
 }
 
-// Whether it may have become of a request.
-fn is_what(what: &[u8]) -> bool
+/// Whether it may have become of a request.
+pub(crate) fn is_what(what: &[u8]) -> bool
     ensures { result ≡ spec.is_what what.now }
 {
     is_same(what, b"ended")
@@ -83,8 +83,8 @@ fn is_there(name: &[u8], names: &[CarriedOnce]) -> bool
     names.iter().any(|once| is_once_of(name, once))
 }
 
-// Whether none of these is that of a name.
-fn has_none(name: &[u8], names: &[CarriedOnce]) -> bool
+/// Whether none of these is that of a name.
+pub(crate) fn has_none(name: &[u8], names: &[CarriedOnce]) -> bool
     ensures { result ≡ spec.has_none name.now names.now }
 {
     !is_there(name, names)

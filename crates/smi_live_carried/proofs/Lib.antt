@@ -1,0 +1,4 @@
+mod Ends
+mod Over
+mod Recalling
+mod Taking
