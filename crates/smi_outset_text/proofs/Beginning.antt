@@ -5,7 +5,7 @@ use Rattle.std.proofs.lemmas.List.{length-append, map-append}
 use Rattle.std.proofs.lemmas.List.Concat.{flat_map-append}
 use Rattle.std.proofs.lemmas.List.FromFn.{length-map-range_with_len}
 use Rattle.sml_domain.specs.Domain.{Domain}
-use Rattle.smi_outset_text.specs.Lines.{BeginsWithLines, IsBadFor, IsFirstBad, MayStand, MembersOf, OutsetLine, ParamOf, StateOf}
+use Rattle.smi_outset_text.specs.Lines.{BeginsWithLines, IsBadFor, IsFirstBadLine, MayStand, MembersOf, OutsetLine, ParamOf, StateOf}
 use Rattle.smi_outset_text.specs.Reading.{FaultIsIn}
 use Rattle.smi_outset_text.specs.declared.fault.OutsetFault.{OutsetFault}
 use Rattle.smi_outset_text.specs.declared.fault.OutsetFault.TheVariants.{BadLine, Memory}
@@ -72,7 +72,7 @@ module _ (d : Domain) where
 
   -- the first bad line of the lines that follow good ones, and of those that stand before others
   bad_after : (first others : List OutsetLine) (text mid : List ℕ) (count : ℕ) → BeginsWithLines d first text mid
-      → IsFirstBad d others mid count → IsFirstBad d (first ++ others) text (length first + count)
+      → IsFirstBadLine d others mid count → IsFirstBadLine d (first ++ others) text (length first + count)
   bad_after first others text mid count h b = record {
     before = first ++ b.before;
     line = b.line;
@@ -84,7 +84,7 @@ module _ (d : Domain) where
     bad = b.bad;
   }
 
-  bad_before : (first others : List OutsetLine) (text : List ℕ) (count : ℕ) → IsFirstBad d first text count → IsFirstBad d (first ++ others) text count
+  bad_before : (first others : List OutsetLine) (text : List ℕ) (count : ℕ) → IsFirstBadLine d first text count → IsFirstBadLine d (first ++ others) text count
   bad_before first others text count b = record {
     before = b.before;
     line = b.line;
@@ -97,9 +97,9 @@ module _ (d : Domain) where
   }
 
   pub fault_after : (lines : ℕ) (first others : List OutsetLine) (text mid : List ℕ) (count : ℕ) → lines ≡ length first
-      → BeginsWithLines d first text mid → IsFirstBad d others mid count → IsFirstBad d (first ++ others) text (lines + count)
+      → BeginsWithLines d first text mid → IsFirstBadLine d others mid count → IsFirstBadLine d (first ++ others) text (lines + count)
   fault_after lines first others text mid count e h b =
-      subst (IsFirstBad d (first ++ others) text) (ap (λ k. k + count) (sym e)) (bad_after first others text mid count h b)
+      subst (IsFirstBadLine d (first ++ others) text) (ap (λ k. k + count) (sym e)) (bad_after first others text mid count h b)
 
   fault_before : (first others : List OutsetLine) (text : List ℕ) (fault : OutsetFault) → FaultIsIn d first text fault → FaultIsIn d (first ++ others) text fault
   fault_before first others text (BadLine count) b = bad_before first others text count b
@@ -107,7 +107,7 @@ module _ (d : Domain) where
 
   -- what is bad in the line of one number
   pub bad_at : (f : ℕ → OutsetLine) (o n : ℕ) (text rest : List ℕ) → o < n → BeginsWithLines d (map f (range_with_len 0 o)) text rest
-      → IsBadFor d (f o) rest → IsFirstBad d (map f (range_with_len 0 n)) text o
+      → IsBadFor d (f o) rest → IsFirstBadLine d (map f (range_with_len 0 n)) text o
   bad_at f o n text rest lt h b = record {
     before = map f (range_with_len 0 o);
     line = f o;
@@ -146,7 +146,7 @@ module _ (d : Domain) where
       omega (arith, some, more, e)
 
   pub counts_fit : (first others : List OutsetLine) (text mid : List ℕ) (count : ℕ) → BeginsWithLines d first text mid
-      → IsFirstBad d others mid count → length first + count ≤ length text
+      → IsFirstBadLine d others mid count → length first + count ≤ length text
   counts_fit first others text mid count h b =
       let one = lines_fit first text mid h in
       let two = lines_fit b.before mid b.rest b.good in

@@ -7,7 +7,7 @@ use Rattle.std.specs.Cmp.Lexicographic.{pointwise, same_text}
 use Rattle.std.specs.Borrow.{Bor}
 use Rattle.sml_text.specs.Bytes.{no_line_feed}
 use Rattle.sml_text.specs.Tokens.{Each, Over}
-use Rattle.smi_outset_text.specs.Reading.{Follows, Precedes}
+use Rattle.smi_outset_text.specs.Reading.{FollowsFront, Precedes}
 
 abbrev rest_of : List ℕ → List ℕ
 rest_of [] = []
@@ -28,7 +28,7 @@ is_same x y h = same_text x y (sym h)
 pub stripped : (text front : List ℕ) (r : Option (Bor (List ℕ)))
     → MatchOption r (pointwise nat_eq (take (length front) text) front ≡ false)
     (λ x. (pointwise nat_eq (take (length front) text) front ≡ true) × (x.now ≡ drop (length front) text) × (length x.now + length front ≡ length text))
-    → Follows text front (option_map (λ more. more.now) r)
+    → FollowsFront text front (option_map (λ more. more.now) r)
 stripped text front None h = λ more e. not_same (take (length front) text) front h (ap (take (length front)) e ∙ take-append_seam front more)
 stripped text front (Some x) h =
     sym (take-append-drop (length front) text) ∙ ap (λ l. l ++ drop (length front) text) (is_same (take (length front) text) front h.0)
@@ -49,11 +49,11 @@ stripped_end text end (Some x) h =
     ∙ ap (λ l. l ++ end) (sym h.1)
 
 -- what follows two texts
-pub follows_both : (text a mid b : List ℕ) (r : Option (List ℕ)) → text ≡ a ++ mid → Follows mid b r → Follows text (a ++ b) r
+pub follows_both : (text a mid b : List ℕ) (r : Option (List ℕ)) → text ≡ a ++ mid → FollowsFront mid b r → FollowsFront text (a ++ b) r
 follows_both text a mid b (Some more) h g = h ∙ ap (λ l. a ++ l) g ∙ sym (append_assoc a b more)
 follows_both text a mid b None h g = λ more e. g more (append_cancel_left a mid (b ++ more) (sym h ∙ e ∙ append_assoc a b more))
 
-pub follows_none : (text a b : List ℕ) → Follows text a None → Follows text (a ++ b) None
+pub follows_none : (text a b : List ℕ) → FollowsFront text a None → FollowsFront text (a ++ b) None
 follows_none text a b h = λ more e. h (b ++ more) (e ∙ append_assoc a b more)
 
 -- words of bytes that pass, with others behind them, are one

@@ -20,7 +20,7 @@ use Rattle.sml_tree.specs.Word.{is_name_byte}
 use Rattle.sml_outset.specs.Outset.{Outset, Stand}
 use Rattle.sml_outset.specs.Suits.{MembersSuit, ParamSuits, ParamsSuit, StandSuits, Suits}
 use Rattle.smi_outset_text.specs.OutsetText.{keyed_object, member_word, numbered, objects_text, outset_members_front, outset_members_line, outset_param_front, outset_param_line, outset_param_lines, outset_state_line, outset_text, stand_param_lines, stand_state_line}
-use Rattle.smi_outset_text.specs.Lines.{BeginsWithLines, IsBadFor, IsFirstBad, MayStand, MembersOf, OutsetLine, ParamOf, StateOf, members_lines, object_lines, outset_lines, param_lines, param_lines_of, state_lines}
+use Rattle.smi_outset_text.specs.Lines.{BeginsWithLines, IsBadFor, IsFirstBadLine, MayStand, MembersOf, OutsetLine, ParamOf, StateOf, members_lines, lines_of_objects, outset_lines, param_lines, param_lines_of, state_lines}
 use Rattle.smi_outset_text.specs.Reading.{IsHeldOutset, IsHeldParam, IsHeldStand, IsOwnState, state_of_stand}
 use Rattle.smi_outset_text.proofs.Beginning.{begins_both}
 use Rattle.smi_outset_text.proofs.Fronts.{one_line_front}
@@ -198,7 +198,7 @@ module _ (d : Domain) (sound : IsSound d) (names : HasNames d) where
       let more = one_line l h.0 g.0 h.1 g.1 h.2 g.2 (sym h.3 ∙ g.3) in
       none_bad ls others line h.1 mid rest h.4 (subst (λ t. BeginsWithLines d ls t mid) (sym more) g.4) bad
 
-  pub good_is_not_bad : (lines : List OutsetLine) (text rest : List ℕ) (count : ℕ) → BeginsWithLines d lines text rest → IsFirstBad d lines text count → ⊥
+  pub good_is_not_bad : (lines : List OutsetLine) (text rest : List ℕ) (count : ℕ) → BeginsWithLines d lines text rest → IsFirstBadLine d lines text count → ⊥
   good_is_not_bad lines text rest count h b =
       none_bad b.before b.others b.line text b.rest rest (subst (λ ls. BeginsWithLines d ls text rest) b.split h) b.good b.bad
 
@@ -247,7 +247,7 @@ module _ (d : Domain) (sound : IsSound d) (names : HasNames d) where
       let members = numbered (outset_members_line d) 0 x.members in
       let text = numbered (stand_state_line d) 0 x.stands ++ (params ++ (members ++ more)) in
       subst (λ l. BeginsWithLines d (outset_lines d) l more) (sym (outset_parts x more))
-      (begins_both d (object_lines d) (members_lines d) text (members ++ more) more
+      (begins_both d (lines_of_objects d) (members_lines d) text (members ++ more) more
       (begins_both d (state_lines d) (param_lines d) text (params ++ (members ++ more)) (members ++ more)
       (numbered_begins OwnStand d (stand_state_line d) StateOf (λ k s h. record { state = s.state; is = h.0.state; held = h.1.state; says = refl }) 0 (length d.objects) x.stands (params ++ (members ++ more)) (sym suits.objects) (own_stands x suits held))
       (numbered_begins_flat OwnStand d (stand_param_lines d) (param_lines_of d) own_params_begin 0 (length d.objects) x.stands (members ++ more) (sym suits.objects) (own_stands x suits held)))

@@ -6,13 +6,13 @@ use Rattle.smi_journal.specs.HasText.{HasNames}
 use Rattle.sml_outset.specs.Outset.{Outset}
 use Rattle.sml_outset.specs.Suits.{Suits}
 use Rattle.smi_outset_text.specs.OutsetText.{outset_text}
-use Rattle.smi_outset_text.specs.Lines.{IsFirstBad, outset_lines}
+use Rattle.smi_outset_text.specs.Lines.{IsFirstBadLine, outset_lines}
 use Rattle.smi_outset_text.specs.Reading.{IsHeldOutset}
 
 -- no line is bad of an outset that suits the domain
 abbrev pub NoneIsBad : Type 0
 NoneIsBad = (d : Domain) (x : Outset) (more : List ℕ) (count : ℕ) → IsSound d → HasNames d → Suits d x →
-    IsHeldOutset x → IsFirstBad d (outset_lines d) (outset_text d x ++ more) count → ⊥
+    IsHeldOutset x → IsFirstBadLine d (outset_lines d) (outset_text d x ++ more) count → ⊥
 
 -- outsets that suit the domain and stand in front of one text are one, and so is what follows them
 abbrev pub OneOutset : Type 0

@@ -30,12 +30,12 @@ abbrev pub members_lines : Domain → List OutsetLine
 members_lines d = map MembersOf (range_with_len 0 (length d.groups))
 
 -- the lines of all objects: the state of each, and then their parameters
-abbrev pub object_lines : Domain → List OutsetLine
-object_lines d = state_lines d ++ param_lines d
+abbrev pub lines_of_objects : Domain → List OutsetLine
+lines_of_objects d = state_lines d ++ param_lines d
 
 -- the lines of an outset
 abbrev pub outset_lines : Domain → List OutsetLine
-outset_lines d = object_lines d ++ members_lines d
+outset_lines d = lines_of_objects d ++ members_lines d
 
 -- the text is that of a state that the object may be in
 pub record IsStateLine (d : Domain) (o : ℕ) (text : List ℕ) : Type 0 where
@@ -77,7 +77,7 @@ abbrev pub IsBadFor : Domain → OutsetLine → List ℕ → Type 0
 IsBadFor d line text = (one more : List ℕ) → MayStand d line one → text ≢ one ++ more
 
 -- of the lines that a text has to begin with, the first that is not there has this many before it
-pub record IsFirstBad (d : Domain) (lines : List OutsetLine) (text : List ℕ) (count : ℕ) : Type 0 where
+pub record IsFirstBadLine (d : Domain) (lines : List OutsetLine) (text : List ℕ) (count : ℕ) : Type 0 where
   pub before : List OutsetLine
   pub line : OutsetLine
   pub others : List OutsetLine

@@ -13,12 +13,12 @@ use Rattle.sml_outset.specs.Suits.{MembersSuit, ParamSuits}
 use Rattle.smi_outset_text.specs.declared.fault.OutsetFault.{OutsetFault}
 use Rattle.smi_outset_text.specs.declared.fault.OutsetFault.TheVariants.{BadLine, Memory}
 use Rattle.smi_outset_text.specs.OutsetText.{member_word, outset_members_line, outset_param_line, outset_state_line}
-use Rattle.smi_outset_text.specs.Lines.{IsFirstBad, OutsetLine}
+use Rattle.smi_outset_text.specs.Lines.{IsFirstBadLine, OutsetLine}
 
 -- what follows a text that stands in front of another, or that it does not stand there
-abbrev pub Follows : List ℕ → List ℕ → Option (List ℕ) → Type 0
-Follows text front (Some more) = text ≡ front ++ more
-Follows text front None = (more : List ℕ) → text ≢ front ++ more
+abbrev pub FollowsFront : List ℕ → List ℕ → Option (List ℕ) → Type 0
+FollowsFront text front (Some more) = text ≡ front ++ more
+FollowsFront text front None = (more : List ℕ) → text ≢ front ++ more
 
 -- what stands before a text that ends another, or that it does not stand there
 abbrev pub Precedes : List ℕ → List ℕ → Option (List ℕ) → Type 0
@@ -79,11 +79,11 @@ ReadsParam d o p text None = NoParamIsRead d o p text
 
 -- what a fault says of a text that has to begin with these lines; `Memory` says nothing
 abbrev pub FaultIsIn : Domain → List OutsetLine → List ℕ → OutsetFault → Type 0
-FaultIsIn d lines text (BadLine count) = IsFirstBad d lines text count
+FaultIsIn d lines text (BadLine count) = IsFirstBadLine d lines text count
 FaultIsIn d lines text Memory = Unit {0}
 
 -- each object has a state, which is its own
-pub record AreStatesOf (d : Domain) (states : List ℕ) : Type 0 where
+pub record AreOwnStates (d : Domain) (states : List ℕ) : Type 0 where
   pub count : length states ≡ length d.objects
   pub each : (o s : ℕ) → o < length states → IsOwnState d o (get_or states o s)
 

@@ -4,7 +4,7 @@ ghost use Rattle.smi_journal.specs.HasText.{HasNames};
 ghost use Rattle.sml_outset.specs.Suits.{AllMembersSuit};
 ghost use Rattle.smi_outset_text.specs.OutsetText.{numbered, outset_members_front, outset_members_line};
 ghost use Rattle.smi_outset_text.specs.Lines.{BeginsWithLines, members_lines};
-ghost use Rattle.smi_outset_text.specs.Reading.{EndsWord, FaultIsIn, Follows, MemberFollows, MemberIsFound, ReadsMembers, ReadsWords};
+ghost use Rattle.smi_outset_text.specs.Reading.{EndsWord, FaultIsIn, FollowsFront, MemberFollows, MemberIsFound, ReadsMembers, ReadsWords};
 
 use crate::fault::OutsetFault;
 use crate::part::Part;
@@ -83,7 +83,7 @@ fn members_in<'a>(
 
 // What follows the line of the members of a set up to the first.
 fn behind_set<'a>(text: &'a [u8], domain: &Domain, set: SetId) -> Option<&'a [u8]>
-    ensures { Follows text.now (outset_members_front domain.now set) (option_map (λ more. more.now) result) }
+    ensures { FollowsFront text.now (outset_members_front domain.now set) (option_map (λ more. more.now) result) }
 {
     match behind(text, b"! member") {
         Some(more) => behind_word(more, set_name(domain, set)),

@@ -4,7 +4,7 @@ ghost use Rattle.sml_domain.specs.Lookups.{class_params_at};
 ghost use Rattle.sml_outset.specs.Suits.{ParamsSuit, StandsSuit};
 ghost use Rattle.smi_outset_text.specs.OutsetText.{numbered, outset_param_front, outset_param_lines, stand_param_lines};
 ghost use Rattle.smi_outset_text.specs.Lines.{BeginsWithLines, param_lines, param_lines_of};
-ghost use Rattle.smi_outset_text.specs.Reading.{AreStatesOf, FaultIsIn, Follows, IsHeldParam, IsHeldStand, ReadsParam, state_of_stand};
+ghost use Rattle.smi_outset_text.specs.Reading.{AreOwnStates, FaultIsIn, FollowsFront, IsHeldParam, IsHeldStand, ReadsParam, state_of_stand};
 
 use crate::fault::OutsetFault;
 use crate::part::{Part, after_lines, length_of};
@@ -17,7 +17,7 @@ use std::alloc::{AllocError, Global};
 // What follows the line of a parameter up to its value.
 #[tactic(auto, using(crate::proofs::Fronts::follows_both, crate::proofs::Fronts::follows_none))]
 fn behind_equals<'a>(text: &'a [u8], domain: &Domain, o: ObjId, param: &Param) -> Option<&'a [u8]>
-    ensures { Follows text.now (outset_param_front domain.now o param.now) (option_map (λ more. more.now) result) }
+    ensures { FollowsFront text.now (outset_param_front domain.now o param.now) (option_map (λ more. more.now) result) }
 {
     match behind_object(text, b"! param", domain, o) {
         Some(more) => behind_last(more, Some(param.name), b"="),
@@ -99,7 +99,7 @@ pub(crate) fn read_stands<'a>(
     domain: &Domain,
     states: &[StateId],
 ) -> Result<Part<'a, Vec<Stand>>, OutsetFault>
-    requires { AreStatesOf domain.now states.now }
+    requires { AreOwnStates domain.now states.now }
     ensures states { IfOk result (λ x. map state_of_stand x.found.items ≡ states.now) }
     ensures suit { IfOk result (λ x. StandsSuit domain.now x.found.items) }
     ensures held { IfOk result (λ x. All IsHeldStand x.found.items) }

@@ -6,14 +6,14 @@ ghost use Rattle.sml_text.specs.Tokens.{Each};
 ghost use Rattle.sml_domain.specs.Sound.{name_of_group};
 ghost use Rattle.smi_journal.specs.CallText.{name_or_nothing, spaced};
 ghost use Rattle.smi_outset_text.specs.OutsetText.{keyed_object};
-ghost use Rattle.smi_outset_text.specs.Reading.{Follows, Precedes};
+ghost use Rattle.smi_outset_text.specs.Reading.{FollowsFront, Precedes};
 
 use sml_domain::{Domain, ObjId, SetId};
 use sml_tree::Name;
 
 /// What follows a text that stands in front of another.
 pub(crate) fn behind<'a>(text: &'a [u8], front: &[u8]) -> Option<&'a [u8]>
-    ensures { Follows text.now front.now (option_map (λ more. more.now) result) }
+    ensures { FollowsFront text.now front.now (option_map (λ more. more.now) result) }
 {
     text.strip_prefix(front)
 }
@@ -34,7 +34,7 @@ pub(crate) fn set_name(domain: &Domain, set: SetId) -> Option<Name>
 
 // What follows a name, which may be none.
 fn behind_name<'a>(text: &'a [u8], name: Option<Name>) -> Option<&'a [u8]>
-    ensures { Follows text.now (name_or_nothing name) (option_map (λ more. more.now) result) }
+    ensures { FollowsFront text.now (name_or_nothing name) (option_map (λ more. more.now) result) }
 {
     match name {
         Some(name) => behind(text, name.as_bytes()),
@@ -45,7 +45,7 @@ fn behind_name<'a>(text: &'a [u8], name: Option<Name>) -> Option<&'a [u8]>
 /// What follows a name with a blank before it.
 #[tactic(auto, using(crate::proofs::Fronts::follows_both, crate::proofs::Fronts::follows_none))]
 pub(crate) fn behind_word<'a>(text: &'a [u8], name: Option<Name>) -> Option<&'a [u8]>
-    ensures { Follows text.now (spaced (name_or_nothing name)) (option_map (λ more. more.now) result) }
+    ensures { FollowsFront text.now (spaced (name_or_nothing name)) (option_map (λ more. more.now) result) }
 {
     match behind(text, b" ") {
         Some(more) => behind_name(more, name),
@@ -61,7 +61,7 @@ pub(crate) fn behind_object<'a>(
     domain: &Domain,
     o: ObjId,
 ) -> Option<&'a [u8]>
-    ensures { Follows text.now (keyed_object keyword.now domain.now o)
+    ensures { FollowsFront text.now (keyed_object keyword.now domain.now o)
         (option_map (λ more. more.now) result) }
 {
     match behind(text, keyword) {
@@ -73,7 +73,7 @@ pub(crate) fn behind_object<'a>(
 /// What follows a name with a blank before it, and an end of it.
 #[tactic(auto, using(crate::proofs::Fronts::follows_both, crate::proofs::Fronts::follows_none))]
 pub(crate) fn behind_last<'a>(text: &'a [u8], name: Option<Name>, end: &[u8]) -> Option<&'a [u8]>
-    ensures { Follows text.now (spaced (name_or_nothing name) ++ end.now) (option_map (λ more. more.now) result) }
+    ensures { FollowsFront text.now (spaced (name_or_nothing name) ++ end.now) (option_map (λ more. more.now) result) }
 {
     match behind_word(text, name) {
         Some(more) => behind(more, end),

@@ -2,7 +2,7 @@
 ghost use Rattle.std.specs.Prelude.{◌≡◌, ◌++◌, All, IfErr, IfOk, length};
 ghost use Rattle.sml_outset.specs.Suits.{StandsSuit, Suits};
 ghost use Rattle.smi_outset_text.specs.OutsetText.{objects_text, outset_text};
-ghost use Rattle.smi_outset_text.specs.Lines.{BeginsWithLines, object_lines, outset_lines};
+ghost use Rattle.smi_outset_text.specs.Lines.{BeginsWithLines, lines_of_objects, outset_lines};
 ghost use Rattle.smi_outset_text.specs.Reading.{FaultIsIn, IsHeldOutset, IsHeldStand};
 
 use crate::fault::OutsetFault;
@@ -24,9 +24,9 @@ fn read_objects<'a>(
     ensures suit { IfOk result (λ x. StandsSuit domain.now x.found.items) }
     ensures held { IfOk result (λ x. All IsHeldStand x.found.items) }
     ensures whole { IfOk result (λ x. text.now ≡ objects_text domain.now x.found.items ++ x.rest.now) }
-    ensures count { IfOk result (λ x. x.lines ≡ length (object_lines domain.now)) }
-    ensures lines { IfOk result (λ x. BeginsWithLines domain.now (object_lines domain.now) text.now x.rest.now) }
-    ensures fault { IfErr result (FaultIsIn domain.now (object_lines domain.now) text.now) }
+    ensures count { IfOk result (λ x. x.lines ≡ length (lines_of_objects domain.now)) }
+    ensures lines { IfOk result (λ x. BeginsWithLines domain.now (lines_of_objects domain.now) text.now x.rest.now) }
+    ensures fault { IfErr result (FaultIsIn domain.now (lines_of_objects domain.now) text.now) }
 {
     // The length of a text has 64 bits, and so has the count of its lines.
     let _bytes = length_of(text);

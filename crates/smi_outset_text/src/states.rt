@@ -2,7 +2,7 @@
 ghost use Rattle.std.specs.Prelude.{◌≡◌, ◌<◌, ◌++◌, IfErr, IfOk, length, option_map};
 ghost use Rattle.smi_outset_text.specs.OutsetText.{numbered, outset_state_line};
 ghost use Rattle.smi_outset_text.specs.Lines.{BeginsWithLines, state_lines};
-ghost use Rattle.smi_outset_text.specs.Reading.{AreStatesOf, FaultIsIn, Follows, OwnFollows, ReadsState, StateIsFound};
+ghost use Rattle.smi_outset_text.specs.Reading.{AreOwnStates, FaultIsIn, FollowsFront, OwnFollows, ReadsState, StateIsFound};
 
 use crate::fault::OutsetFault;
 use crate::part::Part;
@@ -13,7 +13,7 @@ use std::alloc::Global;
 // What follows the line of a state of an object.
 #[tactic(auto, using(crate::proofs::Fronts::follows_both, crate::proofs::Fronts::follows_none))]
 fn behind_state<'a>(text: &'a [u8], domain: &Domain, o: ObjId, s: StateId) -> Option<&'a [u8]>
-    ensures { Follows text.now (outset_state_line domain.now o s) (option_map (λ more. more.now) result) }
+    ensures { FollowsFront text.now (outset_state_line domain.now o s) (option_map (λ more. more.now) result) }
 {
     match behind_object(text, b"! state", domain, o) {
         Some(more) => behind_last(more, domain.state_name(s), b"\n"),
@@ -67,7 +67,7 @@ pub(crate) fn read_states<'a>(
     text: &'a [u8],
     domain: &Domain,
 ) -> Result<Part<'a, Vec<StateId>>, OutsetFault>
-    ensures states { IfOk result (λ x. AreStatesOf domain.now x.found.items) }
+    ensures states { IfOk result (λ x. AreOwnStates domain.now x.found.items) }
     ensures whole { IfOk result (λ x. text.now
         ≡ numbered (outset_state_line domain.now) 0 x.found.items ++ x.rest.now) }
     ensures count { IfOk result (λ x. x.lines ≡ length (state_lines domain.now)) }

@@ -4,7 +4,7 @@ use Rattle.sml_outset.specs.Outset.{Stand}
 use Rattle.sml_outset.specs.Suits.{ParamsSuit, StandSuits}
 use Rattle.sml_domain.specs.Lookups.{class_params_at}
 use Rattle.smi_outset_text.specs.OutsetText.{outset_param_lines, stand_param_lines}
-use Rattle.smi_outset_text.specs.Lines.{BeginsWithLines, IsFirstBad, param_lines_of}
+use Rattle.smi_outset_text.specs.Lines.{BeginsWithLines, IsFirstBadLine, param_lines_of}
 use Rattle.smi_outset_text.specs.Reading.{FaultIsIn, IsHeldStand, IsOwnState, state_of_stand}
 use Rattle.smi_outset_text.proofs.Beginning.{begins_both, begins_flat_more, counts_fit, fault_at, flat_count, lines_fit}
 use Rattle.smi_outset_text.proofs.Numbered.{all_push, count_push, each_push, map_push, numbered_read}
@@ -15,7 +15,7 @@ after_lines-requires c = λ count e.
     let d = c.args.domain.now in
     let own = param_lines_of d c.new.result in
     let before = flat_map (param_lines_of d) (range_with_len 0 c.loop-o.o) in
-    let bad : IsFirstBad d own c.loop-o.rest.now count = rw e at c.in-Err.ensures.fault in
+    let bad : IsFirstBadLine d own c.loop-o.rest.now count = rw e at c.in-Err.ensures.fault in
     let fit = counts_fit d before own c.args.text.now c.loop-o.rest.now count c.loop-o.invariant.lines bad in
     omega (arith, fit, c.loop-o.invariant.count, c.length_of-bytes.ensures.is, c.length_of-bytes.ensures.few)
 

@@ -1,5 +1,5 @@
 use Rattle.std.proofs.Common.{◌≡◌, ◌∙◌, ◌++◌, ap, append_assoc, arith, length-append, sym}
-use Rattle.smi_outset_text.specs.Lines.{IsFirstBad, param_lines, state_lines}
+use Rattle.smi_outset_text.specs.Lines.{IsFirstBadLine, param_lines, state_lines}
 use Rattle.smi_outset_text.specs.OutsetText.{numbered, outset_state_line, stand_param_lines, stand_state_line}
 use Rattle.smi_outset_text.specs.Reading.{state_of_stand}
 use Rattle.smi_outset_text.proofs.Numbered.{numbered_map}
@@ -18,7 +18,7 @@ overflow_add-result c =
 pub after_lines-requires : goal.after_lines-requires
 after_lines-requires c = λ count e.
     let d = c.args.domain.now in
-    let bad : IsFirstBad d (param_lines d) c.in-Ok.states.rest.now count = rw e at c.in-Err-read_stands.ensures.fault in
+    let bad : IsFirstBadLine d (param_lines d) c.in-Ok.states.rest.now count = rw e at c.in-Err-read_stands.ensures.fault in
     let fit = counts_fit d (state_lines d) (param_lines d) c.args.text.now c.in-Ok.states.rest.now count c.in-Ok.ensures.lines bad in
     omega (arith, fit, c.in-Ok.ensures.count, c.length_of-bytes.ensures.is, c.length_of-bytes.ensures.few)
 

@@ -1,0 +1,10 @@
+mod SumDigits
+mod Heads
+mod KillLines
+mod LineCounts
+mod Wholes
+mod Lined
+mod CarriedLines
+mod Alike
+mod Fronts
+mod Going

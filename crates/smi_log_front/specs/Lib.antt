@@ -1,0 +1,7 @@
+pub mod Sums
+pub mod Front
+pub mod FrontText
+pub mod Suits
+pub mod Reading
+pub mod Faults
+pub mod Laws
