@@ -166,9 +166,31 @@ class Measured(GateTimes):
         self.assertEqual(self.tell("gate-times", "--stale")[1][0], told)
 
 
+class Added(GateTimes):
+    def test_a_run_is_added_to_what_one_that_was_stopped_has_left(self) -> None:
+        tool = self.load("gate-times")
+        row = tool.Row(1.25, 0.5, 2.0, "2026-01-02", 0.5, "0123456789abcdef")
+        middle = row._replace(files="-")
+        more = tool.Row(0.25, 1.5, 0.0, "2026-01-02", 0.25, row.files)
+        self.assertEqual(tool.added({"low": row, "middle": middle}, {"low": more}), {
+            "low": tool.Row(1.5, 2.0, 2.0, "2026-01-02", 0.25, row.files), "middle": middle,
+        })
+
+    def test_rows_of_another_day_or_of_other_files_are_replaced(self) -> None:
+        tool = self.load("gate-times")
+        row = tool.Row(1.25, 0.5, 2.0, "2026-01-02", 0.5, "0123456789abcdef")
+        others = [("day", "2026-01-01"), ("files", "-"), ("files", "fedcba9876543210")]
+        for name, value in others:
+            before = row._replace(**{name: value})
+            self.assertEqual(tool.added({"low": before}, {"low": row}), {"low": row}, value)
+        bare = row._replace(files="-")
+        self.assertEqual(tool.added({"low": bare}, {"low": bare}), {"low": bare})
+
+
 class Words(GateTimes):
     def test_options_that_do_not_go_together(self) -> None:
-        for words in (["--page", "--stale"], ["--anew"], ["--only-print", "--rest"], ["low"]):
+        lone = ["--anew"], ["low"], ["--add"]
+        for words in (*lone, ["--page", "--stale"], ["--only-print", "--rest"], ["--page", "--add"]):
             self.assertEqual(self.tell("gate-times", *words)[0], 2, words)
 
 
