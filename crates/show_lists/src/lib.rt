@@ -3,4 +3,4 @@
 
 mod listing;
 
-pub use listing::tell_list;
+pub use listing::{tell_begun_list, tell_list};

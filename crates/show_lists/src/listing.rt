@@ -27,6 +27,42 @@ pub fn tell_list<W: Sink>(out: &mut Out<'_, W>, domain: &Domain) {
     tell_groups(out, domain);
 }
 
+/// Writes what a domain declares, as [`tell_list`] does, and how it begins in a log that follows another: the sets have
+/// the members that they begin with, and last comes a line for each object that begins in another state.
+///
+/// ```text
+/// begins OBJECT STATE
+/// ```
+///
+/// No memory is taken; the time grows with the length of what is written.
+pub fn tell_begun_list<W: Sink>(out: &mut Out<'_, W>, declared: &Domain, begun: &Domain) {
+    tell_classes(out, declared);
+    tell_objects(out, declared);
+    tell_groups(out, begun);
+    tell_beginnings(out, declared, begun);
+}
+
+// How each object begins, where that is not as declared.
+fn tell_beginnings<W: Sink>(out: &mut Out<'_, W>, declared: &Domain, begun: &Domain) {
+    for number in 0..declared.objects() {
+        tell_beginning(out, declared, begun, ObjId::new(number));
+    }
+}
+
+// How an object begins, where that is not as declared.
+fn tell_beginning<W: Sink>(out: &mut Out<'_, W>, declared: &Domain, begun: &Domain, o: ObjId) {
+    if !declared.has(o) || !begun.has(o) {
+        return;
+    }
+    let state = begun.initial(o);
+    if state.get() != declared.initial(o).get() {
+        out.say(b"begins");
+        tell_object(out, declared, o);
+        tell_known(out, begun.state_name(state));
+        out.say(b"\n");
+    }
+}
+
 // All classes.
 fn tell_classes<W: Sink>(out: &mut Out<'_, W>, domain: &Domain) {
     for class in domain.classes() {

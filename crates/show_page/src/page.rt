@@ -21,7 +21,7 @@ pub struct Page<'a> {
     pub ruling: &'a [u8],
     /// What stands against an illegal line, in lines of which the first is its text. Empty for a legal journal.
     pub reason: &'a [u8],
-    /// What the domain declares, as `tell_list` of `show_lists` writes it.
+    /// What the domain declares, and how it begins, as `tell_begun_list` of `show_lists` writes it.
     pub list: &'a [u8],
     /// The text of the journal.
     pub journal: &'a [u8],

@@ -19,7 +19,12 @@ for (const line of linesOf('list')) {
   }
   if (w[0] == 'object') {
     numbers.set(w[1], objects.length);
-    objects.push({name: w[1], kind: classes.get(w[2]), of: w[2], depth: 0, sends: new Set()});
+    const kind = classes.get(w[2]);
+    objects.push({name: w[1], kind, of: w[2], begins: kind.initial, depth: 0, sends: new Set()});
+  }
+  if (w[0] == 'begins') {
+    const o = objects[numbers.get(w[1])];
+    o.begins = o.kind.states.get(w[2]);
   }
   if (w[0] == 'set') sets.set(w[1], w.slice(2).map(o => numbers.get(o)));
 }
@@ -61,7 +66,7 @@ function change(cells, n) {
 const size = objects.length * (CELLS + objects.length), kept = [];
 let stride = 4096, cells = new Int32Array(size);
 while (entries.length / stride * size > 2e7) stride *= 2;
-objects.forEach((o, i) => cells[i * CELLS] = o.kind.initial);
+objects.forEach((o, i) => cells[i * CELLS] = o.begins);
 for (let n = 0; n <= entries.length; n++) {
   if (n) change(cells, n);
   if (n % stride == 0) kept.push(cells.slice());

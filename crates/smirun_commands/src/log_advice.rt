@@ -35,6 +35,32 @@ pub(crate) fn explain_refused_log<W: Sink>(out: &mut Out<'_, W>, path: &str, ref
             out.number(starts);
             out.say(b"` or more");
         }
+        LogRefusal::BadOutset(number) => {
+            about(
+                out,
+                path,
+                "how a log begins that follows another is written whole, and is not edited; line ",
+            );
+            out.number(number);
+            out.say(b" is none that stands there");
+        }
+        LogRefusal::Restless => about(
+            out,
+            path,
+            "it rests once no action is open, and no request waits at an object that was not killed; `live --resume` \
+             goes on",
+        ),
+        LogRefusal::Torn(_) => about(
+            out,
+            path,
+            "a log of which a line was cut off is made whole by `live --resume`, and one without a line is begun by it",
+        ),
+        LogRefusal::IsLink => about(
+            out,
+            path,
+            "the log that follows takes the place of a path, and the old one a name beside it, so the path of the file \
+             itself is given",
+        ),
         LogRefusal::NoFile => about(
             out,
             path,

@@ -15,6 +15,15 @@ pub enum LogRefusal {
     Capacity(u64),
     /// It has this many starts, which is more than the manager may make.
     Starts(u64),
+    /// It follows another log, and this line is the first that no front of a log of its domain has there. Lines count
+    /// from 1.
+    BadOutset(u64),
+    /// An action is open, or a request waits at an object that was not killed, so that no log can follow.
+    Restless,
+    /// Its last line, which has this number, lacks its line feed, or it has no line. Lines count from 1.
+    Torn(u64),
+    /// Its path is a symbolic link.
+    IsLink,
     /// It is no regular file, or one of the standard streams.
     NoFile,
     /// Another manager writes it.
@@ -38,6 +47,10 @@ impl fmt::Display for LogRefusal {
             LogRefusal::OfAnother => f.write_str("is of another domain"),
             LogRefusal::Capacity(capacity) => write!(f, "has capacity {capacity}"),
             LogRefusal::Starts(starts) => write!(f, "has {starts} starts"),
+            LogRefusal::BadOutset(number) => write!(f, "bad outset {number}"),
+            LogRefusal::Restless => f.write_str("does not rest"),
+            LogRefusal::Torn(number) => write!(f, "bad line {number}"),
+            LogRefusal::IsLink => f.write_str("is a link"),
             LogRefusal::NoFile => f.write_str("is no file"),
             LogRefusal::InUse => f.write_str("is in use"),
             LogRefusal::Full => f.write_str("full"),

@@ -4,7 +4,7 @@ use crate::advice::Advice;
 use crate::audit::{explain_judgement, judge_text, load_journal};
 use crate::fault::Fault;
 use crate::loading::load_domain;
-use show_lists::tell_list;
+use show_lists::tell_begun_list;
 use show_page::{Page, tell_page};
 use smi_audit::Judgement;
 use sml_domain::Domain;
@@ -43,19 +43,28 @@ pub fn run_page<'a, R: Files + AllocGlobal, I: Read, W: Write>(
         Ok(bytes) => bytes,
         Err(fault) => return Err(fault),
     };
-    let shown = page_of_bytes(rt.alloc(), &domain, options, bytes.as_slice(), output);
+    let shown = page_of_bytes(
+        rt.alloc(),
+        &domain,
+        &domain,
+        options,
+        bytes.as_slice(),
+        output,
+    );
     drop(domain);
     drop(bytes);
     shown
 }
 
-/// Judges the bytes of a journal by a domain, and writes the page of that run to its end.
+/// Judges the bytes of a journal by a domain, and writes the page of that run to its end, which calls classes as the
+/// declared domain does, that of the file.
 ///
 /// The cost is that of judging and of the page, which has the bytes. The error is the fault of the journal, by its
 /// path, `Output` or `Memory`.
 pub fn page_of_bytes<'a, W: Write>(
     heap: Global,
     domain: &Arc<Domain>,
+    declared: &Domain,
     options: &PageOptions<'a>,
     bytes: &[u8],
     output: &mut W,
@@ -64,7 +73,7 @@ pub fn page_of_bytes<'a, W: Write>(
         Ok(judgement) => judgement,
         Err(fault) => return Err(fault),
     };
-    let Ok(texts) = texts_of(heap, domain, bytes, judgement) else {
+    let Ok(texts) = texts_of(heap, domain, declared, bytes, judgement) else {
         return Err(Fault::Memory);
     };
     let page = Page {
@@ -90,6 +99,7 @@ struct Texts {
 fn texts_of(
     heap: Global,
     domain: &Arc<Domain>,
+    declared: &Domain,
     bytes: &[u8],
     judgement: Judgement,
 ) -> Result<Texts, AllocError> {
@@ -101,7 +111,7 @@ fn texts_of(
     }
     let mut list = Vec::new(heap);
     let mut out = Out::new(&mut list);
-    tell_list(&mut out, domain);
+    tell_begun_list(&mut out, declared, domain);
     if out.failed {
         return Err(AllocError);
     }

@@ -1,10 +1,14 @@
 //! The command `live`.
 ghost use Rattle.std.specs.Prelude.{◌≡◌, Err, IfSome};
-ghost use Rattle.smi_world.specs.World.{opening};
+ghost use Rattle.std.specs.Arc.{arc_value};
+ghost use Rattle.sml_load.specs.Texts.{IsDomainOfText};
+ghost use Rattle.smi_log_front.specs.declared.first_line.LogVersion.TheVariants.{One};
 ghost use Rattle.smirun_commands.specs.Paths.{IsReadAs};
+ghost use Rattle.smirun_live.specs.FirstLine.{IsHeadOf};
 
 use crate::arriving::Arriving;
-use crate::continuing::{LogText, manager_after};
+use crate::beginning::LogText;
+use crate::continuing::manager_after;
 use crate::host::LiveHost;
 use crate::in_turn::InTurn;
 use crate::inbox::{Inbox, read_all};
@@ -193,8 +197,8 @@ fn begin_log<'a, R: LiveHost, W: Write>(
     output: &mut W,
     advice: &mut Advice,
 ) -> Result<Begun<'a>, Fault<'a>>
-    requires opening { prepared.core.world ≡ opening prepared.core.setup }
-    requires starts { prepared.core.setup.max_starts ≡ options.now.max_starts }
+    requires domain { IsDomainOfText prepared.text.items (arc_value prepared.domain) }
+    requires first { IsHeadOf prepared.text.items One prepared.options.capacity prepared.first.items }
 {
     let mut told = Vec::new(rt.alloc());
     match open_wanted(rt, options, prepared, &mut told, advice) {
@@ -229,11 +233,11 @@ fn open_wanted<'a, R: LiveHost>(
     told: &mut Vec<u8>,
     advice: &mut Advice,
 ) -> Result<(Manager<LiveNotes<'a>>, Option<OpenLog>), Fault<'a>>
-    requires opening { prepared.core.world ≡ opening prepared.core.setup }
-    requires starts { prepared.core.setup.max_starts ≡ options.now.max_starts }
+    requires domain { IsDomainOfText prepared.text.items (arc_value prepared.domain) }
+    requires first { IsHeadOf prepared.text.items One prepared.options.capacity prepared.first.items }
 {
     let Some(path) = options.log else {
-        return match manager_after(rt.alloc(), prepared, LogText::none(options.max_starts)) {
+        return match manager_after(rt.alloc(), &prepared, LogText::none()) {
             Ok(manager) => Ok((manager, None)),
             Err(fault) => Err(fault),
         };
@@ -242,7 +246,6 @@ fn open_wanted<'a, R: LiveHost>(
         path,
         resume: options.resume,
         sync: options.sync,
-        max_starts: options.max_starts,
     };
     match open_log(rt, &wanted, prepared, told, advice) {
         Ok(Opened { manager, log }) => Ok((manager, Some(log))),

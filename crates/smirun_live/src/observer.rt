@@ -5,10 +5,12 @@ use crate::standing::tell_accounts;
 use crate::warnings::Warnings;
 use explain_lines::{History, LineKind, SourceLine, explain_bad_line, explain_refused};
 use show_states::tell_standing;
+use smi_carried::CarriedCounts;
 use smi_core::{Answer, Core, Lookout, Step, StepError, Taken};
 use smi_journal::Entry;
 use smi_live::{Observer, Unkept};
 use smi_live_accounts::Accounts;
+use smi_live_carried::OverLogs;
 use sml_domain::{Domain, ObjId};
 use sml_writer::Out;
 use std::alloc::{AllocError, Global};
@@ -20,7 +22,10 @@ use std::sync::Arc;
 #[derive(Drop)]
 pub struct LiveNotes<'a> {
     alloc: Global,
+    // The domain as its file declares it.
     domain: Arc<Domain>,
+    // What the logs before counted of each object; nothing where there are none.
+    before: Vec<CarriedCounts>,
     // The path of the domain, and that of the log.
     file: &'a str,
     log: &'a str,
@@ -38,8 +43,8 @@ pub struct LiveNotes<'a> {
 }
 
 impl<'a> LiveNotes<'a> {
-    /// Nothing was done yet. The domain has the path `file`, and lines are told as those of `log`. The error is out of
-    /// memory.
+    /// Nothing was done yet, in this log or in one before. The domain, as declared, has the path `file`, and lines are
+    /// told as those of `log`. The error is out of memory.
     pub fn new(
         alloc: Global,
         domain: Arc<Domain>,
@@ -52,6 +57,7 @@ impl<'a> LiveNotes<'a> {
         Ok(LiveNotes {
             alloc,
             domain,
+            before: Vec::new(alloc),
             file,
             log,
             history,
@@ -62,6 +68,17 @@ impl<'a> LiveNotes<'a> {
             why: Vec::new(alloc),
             has_lost_remark: false,
         })
+    }
+
+    /// The same, after logs with these counts of the objects, in order.
+    pub(crate) fn after_logs(mut self, before: Vec<CarriedCounts>) -> LiveNotes<'a> {
+        self.before = before;
+        self
+    }
+
+    /// What the logs before counted of each object, in order; nothing where there are none.
+    pub fn before(&self) -> &[CarriedCounts] {
+        &self.before
     }
 
     /// Whether an action is open at an object.
@@ -79,7 +96,7 @@ impl<'a> LiveNotes<'a> {
     ) -> Result<(), AllocError> {
         let mut out = Out::new(text);
         tell_standing(self.alloc, &self.domain, core, &self.history, &mut out)?;
-        tell_accounts(&mut out, core, accounts);
+        tell_accounts(&mut out, core, &OverLogs::new(accounts, self.before()));
         if out.failed { Err(AllocError) } else { Ok(()) }
     }
 }

@@ -52,18 +52,21 @@ impl OpenLog {
 // The streams of the program: none of them can be a log.
 const STREAMS: [&str; 3] = ["/dev/stdin", "/dev/stdout", "/dev/stderr"];
 
-/// Opens the file of a log, to read it and to write after it, and locks it. It is made only if nothing is resumed. It
-/// has to be a regular file, and none of the program's streams.
-pub(crate) fn open_locked<'a, R: LiveHost>(
+/// Opens the file of a log, to read it and to write after it, and locks it; where that is wanted, it is made if there is
+/// none. It has to be a regular file, and none of the program's streams, and after it is locked it still has to have the
+/// path: who began another log meanwhile may have given the path to that one.
+///
+/// The faults are `Unreadable` where there is no file, `JournalUnwritten`, and `Log` with `NoFile`, `InUse` or `Moved`.
+pub fn open_locked<'a, R: LiveHost>(
     rt: &R,
-    wanted: &WantedLog<'a>,
+    path: &'a str,
+    is_made: bool,
 ) -> Result<File, Fault<'a>> {
-    let path = wanted.path;
     let mut how = OpenOptions::new();
-    how.read(true).append(true).create(!wanted.resume);
+    how.read(true).append(true).create(is_made);
     let file = match how.open(rt, path) {
         Ok(file) => file,
-        Err(error) if wanted.resume => return Err(Fault::of_input(path, &error)),
+        Err(error) if !is_made => return Err(Fault::of_input(path, &error)),
         Err(error) => return Err(unwritten(path, error)),
     };
     match is_log_file(rt, &file) {
@@ -72,14 +75,23 @@ pub(crate) fn open_locked<'a, R: LiveHost>(
         Err(error) => return Err(unwritten(path, error)),
     }
     match file.try_lock() {
-        Ok(()) => Ok(file),
+        Ok(()) => still_of_path(rt, path, file),
         Err(TryLockError::WouldBlock) => Err(Fault::Log(path, LogRefusal::InUse)),
         Err(TryLockError::Error(error)) => Err(unwritten(path, error)),
     }
 }
 
+// A file that was locked, if it still has the path.
+fn still_of_path<'a, R: LiveHost>(rt: &R, path: &'a str, file: File) -> Result<File, Fault<'a>> {
+    match file.metadata() {
+        Ok(known) if is_file_of(rt, &known, path) => Ok(file),
+        Ok(_) => Err(Fault::Log(path, LogRefusal::Moved)),
+        Err(error) => Err(unwritten(path, error)),
+    }
+}
+
 /// The fault of a log that cannot be written.
-pub(crate) fn unwritten(path: &str, error: io::Error) -> Fault<'_> {
+pub fn unwritten(path: &str, error: io::Error) -> Fault<'_> {
     Fault::JournalUnwritten(path, Some(error))
 }
 

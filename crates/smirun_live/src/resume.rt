@@ -1,8 +1,11 @@
 //! How the log that a manager is given is opened, and what is told where it is resumed.
-ghost use Rattle.std.specs.Prelude.{◌≡◌};
-ghost use Rattle.smi_world.specs.World.{opening};
+ghost use Rattle.std.specs.Arc.{arc_value};
+ghost use Rattle.sml_load.specs.Texts.{IsDomainOfText};
+ghost use Rattle.smi_log_front.specs.declared.first_line.LogVersion.TheVariants.{One};
+ghost use Rattle.smirun_live.specs.FirstLine.{IsHeadOf};
 
-use crate::continuing::{LogText, manager_after};
+use crate::beginning::LogText;
+use crate::continuing::manager_after;
 use crate::host::LiveHost;
 use crate::log_lines::{lines_in, whole_lines};
 use crate::observer::LiveNotes;
@@ -35,10 +38,10 @@ pub(crate) fn open_log<'a, R: LiveHost>(
     told: &mut Vec<u8>,
     advice: &mut Advice,
 ) -> Result<Opened<'a>, Fault<'a>>
-    requires opening { prepared.core.world ≡ opening prepared.core.setup }
-    requires starts { wanted.now.max_starts ≡ prepared.core.setup.max_starts }
+    requires domain { IsDomainOfText prepared.text.items (arc_value prepared.domain) }
+    requires first { IsHeadOf prepared.text.items One prepared.options.capacity prepared.first.items }
 {
-    let opened = match open_locked(rt, wanted) {
+    let opened = match open_locked(rt, wanted.path, !wanted.resume) {
         Ok(file) if wanted.resume => resume(rt.alloc(), wanted, file, prepared, told, advice),
         Ok(file) => begin_log(rt.alloc(), wanted, file, prepared),
         Err(fault) => Err(fault),
@@ -73,8 +76,8 @@ fn begin_log<'a>(
     file: File,
     prepared: Prepared<'a>,
 ) -> Result<Opened<'a>, Fault<'a>>
-    requires opening { prepared.core.world ≡ opening prepared.core.setup }
-    requires starts { wanted.now.max_starts ≡ prepared.core.setup.max_starts }
+    requires domain { IsDomainOfText prepared.text.items (arc_value prepared.domain) }
+    requires first { IsHeadOf prepared.text.items One prepared.options.capacity prepared.first.items }
 {
     let log = match begin_new(wanted, &prepared.first, file) {
         Ok(log) => log,
@@ -83,9 +86,8 @@ fn begin_log<'a>(
     let text = LogText {
         path: wanted.path,
         text: &[],
-        max_starts: wanted.max_starts,
     };
-    match manager_after(alloc, prepared, text) {
+    match manager_after(alloc, &prepared, text) {
         Ok(manager) => Ok(Opened { manager, log }),
         Err(fault) => Err(fault),
     }
@@ -100,8 +102,8 @@ fn resume<'a>(
     told: &mut Vec<u8>,
     advice: &mut Advice,
 ) -> Result<Opened<'a>, Fault<'a>>
-    requires opening { prepared.core.world ≡ opening prepared.core.setup }
-    requires starts { wanted.now.max_starts ≡ prepared.core.setup.max_starts }
+    requires domain { IsDomainOfText prepared.text.items (arc_value prepared.domain) }
+    requires first { IsHeadOf prepared.text.items One prepared.options.capacity prepared.first.items }
 {
     match read_log(alloc, wanted.path, &mut file) {
         Ok(text) => {
@@ -125,25 +127,21 @@ fn resume_text<'a>(
     prepared: Prepared<'a>,
     told: &mut Vec<u8>,
 ) -> Result<Opened<'a>, Fault<'a>>
-    requires opening { prepared.core.world ≡ opening prepared.core.setup }
-    requires starts { wanted.now.max_starts ≡ prepared.core.setup.max_starts }
+    requires domain { IsDomainOfText prepared.text.items (arc_value prepared.domain) }
+    requires first { IsHeadOf prepared.text.items One prepared.options.capacity prepared.first.items }
 {
-    let Ok(first) = Vec::from_slice(alloc, &prepared.first) else {
-        return Err(Fault::Memory);
-    };
     let log = LogText {
         path: wanted.path,
         text,
-        max_starts: wanted.max_starts,
     };
-    let manager = match manager_after(alloc, prepared, log) {
+    let manager = match manager_after(alloc, &prepared, log) {
         Ok(manager) => manager,
         Err(fault) => return Err(fault),
     };
     if tell_again(&manager, told).is_err() {
         return Err(Fault::Memory);
     }
-    match whole_log(wanted, &first, file, text) {
+    match whole_log(wanted, &prepared.first, file, text) {
         Ok(log) => Ok(Opened { manager, log }),
         Err(fault) => Err(fault),
     }
@@ -176,8 +174,8 @@ fn cut_off(file: &File, length: usize, size: usize) -> io::Result<()> {
     }
 }
 
-// The bytes of a log.
-fn read_log<'a>(alloc: Global, path: &'a str, file: &mut File) -> Result<Vec<u8>, Fault<'a>> {
+/// The bytes of a log. The faults are `Unreadable`, `TooLong` and out of memory.
+pub fn read_log<'a>(alloc: Global, path: &'a str, file: &mut File) -> Result<Vec<u8>, Fault<'a>> {
     let mut text = Vec::new(alloc);
     // One byte more, so that a log which is too long is seen to be so.
     match file

@@ -7,7 +7,7 @@ ghost use Rattle.smirun_live.specs.Standing as text;
 use show_names::{tell_number, tell_object, tell_session};
 use smi_core::Core;
 use smi_journal_entries::Sender;
-use smi_live_accounts::Accounts;
+use smi_live_carried::OverLogs;
 use smi_request_fates::{Came, Counts, Fate, Stands, Watched};
 use sml_domain::{Domain, ObjId, StateId};
 use sml_text::Sink;
@@ -36,7 +36,7 @@ fn tell_counts_of<W: Sink>(out: &mut Out<'_, W>, domain: &Domain, o: ObjId, coun
 }
 
 // How often each object started and ended.
-fn tell_counts<W: Sink>(out: &mut Out<'_, W>, domain: &Domain, accounts: &Accounts)
+fn tell_counts<W: Sink>(out: &mut Out<'_, W>, domain: &Domain, accounts: &OverLogs<'_>)
     ensures { Tells W.contents W.has_refused out.old out.new
         (text.all_counts_lines domain.now accounts.now.fates.counts) }
 {
@@ -165,7 +165,7 @@ fn tell_came<W: Sink>(
 }
 
 // The last request of the name at a place.
-fn tell_once<W: Sink>(out: &mut Out<'_, W>, domain: &Domain, accounts: &Accounts, place: usize)
+fn tell_once<W: Sink>(out: &mut Out<'_, W>, domain: &Domain, accounts: &OverLogs<'_>, place: usize)
     requires { place < length accounts.now.told }
     ensures { Tells W.contents W.has_refused out.old out.new (text.once_line domain.now accounts.now.fates.counts
         (slice_get accounts.now.told place) (slice_get accounts.now.fates.watched place)) }
@@ -181,7 +181,7 @@ fn tell_once<W: Sink>(out: &mut Out<'_, W>, domain: &Domain, accounts: &Accounts
 }
 
 // The last request of each name.
-fn tell_each_once<W: Sink>(out: &mut Out<'_, W>, domain: &Domain, accounts: &Accounts)
+fn tell_each_once<W: Sink>(out: &mut Out<'_, W>, domain: &Domain, accounts: &OverLogs<'_>)
     ensures { Tells W.contents W.has_refused out.old out.new (text.all_once_lines domain.now accounts.now) }
 {
     for place in 0..accounts.told().names() {
@@ -190,8 +190,9 @@ fn tell_each_once<W: Sink>(out: &mut Out<'_, W>, domain: &Domain, accounts: &Acc
 }
 
 /// Writes how often each object started and ended, what became of the last request of each of those who ask for
-/// requests that are made once, and last how many entries the journal has. The cost is that of the lines.
-pub(crate) fn tell_accounts<W: Sink>(out: &mut Out<'_, W>, core: &Core, accounts: &Accounts)
+/// requests that are made once, by all logs; and last how many entries the journal of this one has. The cost is that of
+/// the lines.
+pub(crate) fn tell_accounts<W: Sink>(out: &mut Out<'_, W>, core: &Core, accounts: &OverLogs<'_>)
     ensures { Tells W.contents W.has_refused out.old out.new
         (text.accounts_text core.now.setup.domain core.now.world.journal accounts.now) }
 {

@@ -8,6 +8,4 @@ pub(crate) struct WantedLog<'a> {
     pub(crate) resume: bool,
     /// Whether what is kept is put on the disk.
     pub(crate) sync: bool,
-    /// How many starts it may have at most.
-    pub(crate) max_starts: usize,
 }

@@ -20,7 +20,7 @@ pub(crate) fn tell_page<'a, W: Write>(
         Ok(bytes) => bytes,
         Err(fault) => return Err(fault),
     };
-    match page_of_bytes(alloc, &run.domain, options, &bytes, output) {
+    match page_of_bytes(alloc, &run.domain, &run.declared, options, &bytes, output) {
         Ok(()) => Ok(DONE),
         Err(fault) => Err(fault),
     }

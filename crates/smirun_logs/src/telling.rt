@@ -18,12 +18,13 @@ use std::io::Write;
 use std::sync::Arc;
 
 /// Judges the entries of a run by its domain, writes how all stood after them, and returns `DONE`; or if they are not
-/// legal, what `states` says of their journal.
+/// legal, what `states` says of their journal. The declared domain is that of the file.
 ///
 /// The cost is that of judging and of the text. The error is `Output` or `Memory`.
 pub fn states_of_entries<'a, W: Write>(
     alloc: Global,
     domain: &Arc<Domain>,
+    declared: &Domain,
     path: &'a str,
     entries: &[Entry],
     output: &mut W,
@@ -33,7 +34,7 @@ pub fn states_of_entries<'a, W: Write>(
     ensures range { IfOk result (λ status. status ≤ 4) }
 {
     match past_of_entries(alloc, domain, entries, &mut Unlooked) {
-        Some(past) => tell_stood(alloc, domain, &past, entries, output),
+        Some(past) => tell_stood(alloc, domain, declared, &past, entries, output),
         None => tell_of_text(alloc, domain, path, entries, output),
     }
 }
@@ -42,6 +43,7 @@ pub fn states_of_entries<'a, W: Write>(
 fn tell_stood<'a, W: Write>(
     alloc: Global,
     domain: &Arc<Domain>,
+    declared: &Domain,
     past: &Past,
     entries: &[Entry],
     output: &mut W,
@@ -50,7 +52,7 @@ fn tell_stood<'a, W: Write>(
     ensures told { IfOk result (λ status. (status ≡ 0) × WritesStanding (arc_value domain.now)
         (journal_text Two (arc_value domain.now) entries.now) (W.contents output.old) (W.contents output.new)) }
 {
-    let Ok(text) = past_text(alloc, past, domain) else {
+    let Ok(text) = past_text(alloc, past, declared) else {
         return Err(Fault::Memory);
     };
     match tell_text(text.as_slice(), output) {
@@ -120,10 +122,17 @@ pub(crate) fn tell_states<'a, W: Write>(
         Err(fault) => return Err(fault),
     };
     if options.with.is_none() {
-        return states_of_entries(alloc, &run.domain, options.journal, front, output);
+        return states_of_entries(
+            alloc,
+            &run.domain,
+            &run.declared,
+            options.journal,
+            front,
+            output,
+        );
     }
     match entries_up_to(options.journal, entries, options.with) {
-        Ok(others) => tell_changes(alloc, &run.domain, options.journal, front, others, output),
+        Ok(others) => tell_changes(alloc, run, options.journal, front, others, output),
         Err(fault) => Err(fault),
     }
 }
@@ -131,7 +140,7 @@ pub(crate) fn tell_states<'a, W: Write>(
 // Writes what differs between how all stood after entries of a run and after others of its entries.
 fn tell_changes<'a, W: Write>(
     alloc: Global,
-    domain: &Arc<Domain>,
+    run: &Continued<'a>,
     path: &'a str,
     entries: &[Entry],
     others: &[Entry],
@@ -139,13 +148,14 @@ fn tell_changes<'a, W: Write>(
 ) -> Result<u8, Fault<'a>>
     ensures { IfOk result (λ status. status ≤ 4) }
 {
+    let domain = &run.domain;
     let Some(before) = past_of_entries(alloc, domain, entries, &mut Unlooked) else {
         return tell_of_text(alloc, domain, path, entries, output);
     };
     let Some(after) = past_of_entries(alloc, domain, others, &mut Unlooked) else {
         return tell_of_text(alloc, domain, path, others, output);
     };
-    let Ok(text) = change_text(alloc, &before, &after, domain) else {
+    let Ok(text) = change_text(alloc, &before, &after, &run.declared) else {
         return Err(Fault::Memory);
     };
     match tell_text(text.as_slice(), output) {
