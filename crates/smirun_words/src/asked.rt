@@ -15,6 +15,7 @@ use smirun_commands::{
 };
 use smirun_live::{LiveHost, LiveOptions, run_live, run_live_as_lines_come};
 use smirun_logs::{LogCommand, run_over_log};
+use smirun_next::{NextOptions, run_next};
 use smirun_run::{CheckOptions, Host, RunOptions, run_check_lines, run_run};
 use std::alloc::Global;
 use std::io;
@@ -53,6 +54,8 @@ pub enum AskedCommand<'a> {
     Run(RunOptions<'a>),
     /// To run a manager on a domain, which other programs talk to.
     Live(LiveOptions<'a>),
+    /// To begin the log that follows that of a manager.
+    Next(NextOptions<'a>),
     /// To print the canonical text of a domain file, or to compare the file with it.
     Print(PrintOptions<'a>),
     /// To list what the domain file of this path declares, or to say why it is refused, if that is asked for.
@@ -87,6 +90,7 @@ impl AskedCommand<'_> {
             AskedCommand::Lint(options) => options.explain,
             AskedCommand::Run(options) => options.explain,
             AskedCommand::Live(options) => options.explain,
+            AskedCommand::Next(options) => options.explain,
             AskedCommand::Audit(options) => options.explain,
             AskedCommand::Print(options) => options.explain,
             AskedCommand::Graph(options) => options.explain,
@@ -148,6 +152,7 @@ fn perform_advised<R: Host + LiveHost, I: Read, W: Write, E: Write>(
         AskedCommand::Step { options, .. } => step(rt, options, input, output, errors, advice),
         AskedCommand::Run(options) => run(rt, options, input, output, errors, advice),
         AskedCommand::Live(options) => live(rt, options, input, output, errors, advice),
+        AskedCommand::Next(options) => next(rt, options, input, output, errors, advice),
         AskedCommand::Audit(options) => audit(rt, options, input, output, errors, advice),
         AskedCommand::OfLog(command) => of_log(rt, command, input, output, errors, advice),
         AskedCommand::Completions(file) => completions(rt.alloc(), *file, output, errors),
@@ -320,6 +325,21 @@ fn live<R: Host + LiveHost, I: Read, W: Write, E: Write>(
 {
     let outcome = run_live(rt, options, input, output, errors, advice);
     ended(&outcome, errors)
+}
+
+// Begins the log that follows that of a manager.
+fn next<R: Host + LiveHost, I: Read, W: Write, E: Write>(
+    rt: &R,
+    options: &NextOptions<'_>,
+    input: &mut I,
+    output: &mut W,
+    errors: &mut E,
+    advice: &mut Advice,
+) -> u8
+    ensures { result ≤ 4 }
+{
+    let outcome = run_next(rt, options, input, output, errors, advice);
+    status_of(&outcome, errors)
 }
 
 // Tells how all stood behind a line of a journal.

@@ -14,6 +14,7 @@ use smirun_commands::{
 };
 use smirun_live::LiveOptions;
 use smirun_logs::LogCommand;
+use smirun_next::NextOptions;
 use smirun_run::{CheckOptions, RunNumbers, RunOptions};
 use std::alloc::{AllocError, Global};
 
@@ -112,6 +113,7 @@ fn written<'a>(asked: &AskedCommand<'a>) -> Option<&'a str> {
         AskedCommand::Step { options, .. } => options.journal,
         AskedCommand::Run(options) => options.journal,
         AskedCommand::Live(options) => options.log,
+        AskedCommand::Next(options) => Some(options.log),
         _ => None,
     }
 }
@@ -145,6 +147,7 @@ fn inputs(asked: &AskedCommand<'_>) -> usize {
         AskedCommand::Step { options, .. } => inputs_in(&[options.file, options.schedule]),
         AskedCommand::Run(options) => inputs_in(&[options.file, options.script]),
         AskedCommand::Live(_) => 1,
+        AskedCommand::Next(options) => inputs_in(&[options.file]),
         AskedCommand::Completions(_) => 0,
         AskedCommand::Audit(options) => inputs_in(&[options.file, options.journal]),
         AskedCommand::OfLog(command) => log_inputs(command),
@@ -188,6 +191,7 @@ fn asked_of<'a>(
         "step" => Ok(schedule_to_run(command, terminals)),
         "run" => Ok(script_to_run(command, terminals)),
         "live" => Ok(manager_to_run(command, terminals)),
+        "next" => Ok(log_to_follow(command, terminals)),
         "audit" => Ok(journal_to_judge(command, terminals)),
         "completions" => Ok(file_to_complete(command)),
         _ => Ok(None),
@@ -379,6 +383,15 @@ fn manager_to_run<'a>(live: &ArgMatches<'a>, terminals: Terminals) -> Option<Ask
         capacity: live.get_one::<usize>("capacity")?,
         max_starts: live.get_one::<usize>("max-starts")?,
         explain: explains(live, terminals),
+    }))
+}
+
+fn log_to_follow<'a>(next: &ArgMatches<'a>, terminals: Terminals) -> Option<AskedCommand<'a>> {
+    Some(AskedCommand::Next(NextOptions {
+        file: next.get_str("FILE")?,
+        log: next.get_str("LOG")?,
+        capacity: next.get_one::<usize>("capacity"),
+        explain: explains(next, terminals),
     }))
 }
 

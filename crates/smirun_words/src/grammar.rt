@@ -56,6 +56,11 @@ use crate::help::live::LIVE_FILE;
 use crate::help::live::LIVE_MORE;
 use crate::help::live::RESUME;
 use crate::help::live::SYNC;
+use crate::help::next::FOLLOWED_LOG;
+use crate::help::next::NEXT;
+use crate::help::next::NEXT_CAPACITY;
+use crate::help::next::NEXT_EXAMPLES;
+use crate::help::next::NEXT_MORE;
 use crate::help::page::PAGE;
 use crate::help::page::PAGE_EXAMPLES;
 use crate::help::page::PAGE_MORE;
@@ -125,6 +130,7 @@ pub(crate) fn smirun_command<'a>(
     let command = with_subcommand(command, step_command(maker));
     let command = with_subcommand(command, run_command(maker));
     let command = with_subcommand(command, live_command(maker));
+    let command = with_subcommand(command, next_command(maker));
     let command = with_subcommand(command, audit_command(maker));
     with_subcommand(command, completions_command(maker))
 }
@@ -304,6 +310,15 @@ fn live_command<'a>(maker: Maker) -> Result<Command<'a>, AllocError> {
     with_argument(command, no_explain(maker))
 }
 
+fn next_command<'a>(maker: Maker) -> Result<Command<'a>, AllocError> {
+    let command = Ok(maker.command("next", NEXT, NEXT_EXAMPLES, NEXT_MORE));
+    let command = with_argument(command, Ok(file(maker)));
+    let command = with_argument(command, Ok(maker.required("LOG", FOLLOWED_LOG)));
+    let command = with_argument(command, Ok(next_capacity(maker)));
+    let command = with_argument(command, Ok(explain(maker, WHY_TEXTS)));
+    with_argument(command, no_explain(maker))
+}
+
 fn audit_command<'a>(maker: Maker) -> Result<Command<'a>, AllocError> {
     let command = Ok(maker.command("audit", AUDIT, AUDIT_EXAMPLES, AUDIT_MORE));
     let command = with_argument(command, Ok(file(maker)));
@@ -402,6 +417,11 @@ fn capacity<'a>(maker: Maker) -> Arg<'a> {
     maker
         .number("capacity", "C", MAX_CAPACITY as i64, CAPACITY)
         .default_value("16")
+}
+
+// (without one it is that of the log before)
+fn next_capacity<'a>(maker: Maker) -> Arg<'a> {
+    maker.number("capacity", "C", MAX_CAPACITY as i64, NEXT_CAPACITY)
 }
 
 fn max_starts<'a>(maker: Maker) -> Arg<'a> {

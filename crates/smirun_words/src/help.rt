@@ -8,6 +8,7 @@ pub mod graph;
 pub mod lint;
 pub mod list;
 pub mod live;
+pub mod next;
 pub mod page;
 pub mod print;
 pub mod run;
@@ -24,8 +25,7 @@ pub struct ArgumentHelp {
 }
 
 pub const EXAMPLES: &str = "\
-Runs state manager domains. `smirun --help` has all, and `smirun COMMAND -h` what a command does. For example
-  smirun check --explain detector.sml; smirun run detector.sml switch_on.script --journal run.journal";
+`smirun --help` has all, and `smirun COMMAND -h` what a command does. To begin: smirun check --explain detector.sml";
 
 pub const ABOUT: &str = "\
 Runs state manager domains.

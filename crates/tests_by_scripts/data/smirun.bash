@@ -46,6 +46,10 @@ _smirun() {
             options="--log --resume --sync --in-turn --capacity --max-starts --explain --no-explain --help"
             numbers="--capacity --max-starts"
             ;;
+        next)
+            options="--capacity --explain --no-explain --help"
+            numbers="--capacity"
+            ;;
         audit)
             options="--log --explain --no-explain --json --help"
             ;;
@@ -54,11 +58,11 @@ _smirun() {
             names="bash zsh fish man"
             ;;
         help)
-            names="check lint print list graph page states cover step run live audit completions help"
+            names="check lint print list graph page states cover step run live next audit completions help"
             ;;
         "")
             options="--help --version"
-            names="check lint print list graph page states cover step run live audit completions help"
+            names="check lint print list graph page states cover step run live next audit completions help"
             ;;
     esac
     case " $numbers " in

@@ -87,8 +87,9 @@ may send it again. NAME is its own for ever, 1 to 64 upper-case letters, digits 
 that grows. If K is greater than the last of NAME, the request is made, and after what it writes comes
 `once NAME K ANSWER` with its `accept ..` or `refused ..` line. If K is the last, the same `once` line comes
 again, and nothing else is done. If K is less, it is `once NAME K refused Old`; of more than 64 names it is
-`once NAME K refused TooManyNames`. So it is also after a crash and `--resume`. In the log stands the request
-with the comment `! once NAME K`; from outside a line that ends so is refused.
+`once NAME K refused TooManyNames`. So it is also after a crash and `--resume`. If the last K was had in a log
+before (`smirun next`), it is `once NAME K past WHAT`. In the log stands the request with the comment
+`! once NAME K`; from outside a line that ends so is refused.
 
 How all stands is what `step --states` writes, and then `started OBJECT N` and `ended OBJECT N`, how often each
 object began and ended an action, `once NAME K OBJECT STATE VERSION WHAT`, what became of the last request of
@@ -108,6 +109,7 @@ A log has 16777216 bytes at most. Standard error has `PATH nine tenths full` whe
 65536 bytes are left for answers, faults and kills and for the manager's own steps: there a request and any line
 that would be `refused BadLine` are `refused Limit` (`once NAME K refused Limit`, and K may be used again), a line
 without a token is not kept, and of all these the log has nothing. When it is full, the manager ends.
+A log that ended where all rests gets a successor by `smirun next`, and that is resumed as this one would be.
 
 What the log has survives any end of the manager. A crash of the machine, or a power cut, may lose the last lines
 that the system had not put on the disk, though they were told: with `--sync` they are on the disk before they are
@@ -137,16 +139,16 @@ question that was dropped, and `N bytes not told` for all else.
 When the lines end, the manager makes the steps that are left, and ends. Standard error has then the lines `open ..`
 and `waiting ..` of what is not done. Devices that are at work stay so.
 
-What else ends it is told on standard error: the faults of FILE (`smirun step --help` has them);
-`PATH is no file`, where it is no regular file, or is standard input, output or error; `PATH is in use`;
-`PATH is not empty` without `--resume`; with it `PATH unreadable`, `PATH too long`, `PATH is of another domain`,
-where the first line names another one, `PATH has capacity C`, which is another one, `PATH has N starts`, more than
-`--max-starts`, and `PATH bad line N`, where no manager would have written that line: a `start` or a `go` that
-cannot be made there, no step but `refused BadLine`, a byte that no manager writes, a second first line, or a mark
-`! once NAME K` that no manager wrote; then the lines before it are a log that can be resumed, and nothing was
-changed. `PATH full`, `PATH was moved`, `PATH was written by another`;
-`- unreadable`; `output fault`, also where PATH cannot be made or written (then a second line has PATH and why);
-and `memory`. What the log has by then was told, but for the lines of its last turn.
+What else ends it is told on standard error: the faults of FILE (`smirun step --help` has them); `PATH is no file`,
+where it is no regular file, or is standard input, output or error; `PATH is in use`; `PATH is not empty` without
+`--resume`; with it `PATH unreadable`, `PATH too long`, `PATH is of another domain`, where the first line names
+another one, `PATH has capacity C`, which is another one, `PATH bad outset N`, where a log that follows another
+does not begin as one does, `PATH has N starts`, more than `--max-starts`, and `PATH bad line N`, where no manager
+would have written that line: a `start` or a `go` that cannot be made there, no step but `refused BadLine`, a byte
+that no manager writes, a second first line, or a mark `! once NAME K` that no manager wrote; then the lines before
+it are a log that can be resumed, and nothing was changed. `PATH full`, `PATH was moved`,
+`PATH was written by another`; `- unreadable`; `output fault`, also where PATH cannot be made or written (then a
+second line has PATH and why); and `memory`. What the log has by then was told, but for the lines of its last turn.
 
 Exit status: 0 the lines ended and all was done that could be; 1 an input was refused, or a file could not be read,
 or the output or the log not be written; 2 a wrong command line; 3 not enough memory.";

@@ -1,0 +1,3 @@
+pub mod Kills
+pub mod NextFront
+pub mod NextLogs
