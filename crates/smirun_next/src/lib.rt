@@ -3,6 +3,7 @@
 #![tactic(auto)]
 
 mod command;
+mod counts_before;
 mod handing;
 mod kills;
 mod next_front;

@@ -7,10 +7,12 @@ ghost use Rattle.smi_log_front.specs.FrontText.{front_text};
 ghost use Rattle.smirun_commands.specs.Printed.{IsPrintOf};
 ghost use Rattle.smirun_live.specs.Reading.{IsOfWholeLines};
 ghost use Rattle.smirun_next.specs.NextFront.{HasNoNext, IsNextFront};
-ghost use Rattle.smirun_next.specs.NextLogs.{FollowsKeeper, IsNextLog, MakesNext, next_capacity};
+ghost use Rattle.smirun_next.specs.NextLogs.{AreCountsBefore, FollowsKeeper, IsNextLog, KeeperHasNoNext, MakesNext, next_capacity};
 
+use crate::counts_before::counts_before;
 use crate::next_front::{NextNames, front_after};
 use crate::restless::restless_lines;
+use smi_carried::CarriedCounts;
 use smi_core::Core;
 use smi_live::Manager;
 use smi_live_carried::OverLogs;
@@ -132,6 +134,10 @@ pub fn next_of_texts<'a>(
     if !is_whole(log) {
         return Err(Fault::Log(path, LogRefusal::Torn(last_line(log))));
     }
+    let before = match counts_before(alloc, path, &made.declared, log) {
+        Ok(before) => before,
+        Err(fault) => return Err(fault),
+    };
     match canonical_of(alloc, file, text) {
         Ok(canonical) => {
             let names = NextNames {
@@ -139,32 +145,38 @@ pub fn next_of_texts<'a>(
                 capacity: capacity_of(capacity, made.capacity),
                 log,
             };
-            next_of_made(alloc, made, &names)
+            next_of_made(alloc, made, &before, &names)
         }
         Err(fault) => Err(fault),
     }
 }
 
-// The text of the log that follows that of a manager, if all rests.
+// The text of the log that follows that of a manager, which came after logs with these counts. None if there is none.
 fn text_of_manager<'a>(
     alloc: Global,
     declared: &Domain,
     manager: &Manager<LiveNotes<'a>>,
+    before: &[CarriedCounts],
     names: &NextNames<'_>,
 ) -> Result<Option<Vec<u8>>, AllocError>
-    ensures { IfOk result (λ r. IfSome r (λ next. FollowsKeeper declared.now (keeper_of manager.now)
+    requires { AreCountsBefore declared.now names.now.log.now before.now }
+    ensures some { IfOk result (λ r. IfSome r (λ next. FollowsKeeper declared.now (keeper_of manager.now)
         names.now.canonical.now names.now.capacity names.now.log.now next.items)) }
+    ensures none { IfOk result (λ r. IfNone r (KeeperHasNoNext declared.now (keeper_of manager.now)
+        names.now.canonical.now names.now.capacity names.now.log.now)) }
 {
-    let over = OverLogs::new(manager.accounts(), manager.observer().before());
+    let over = OverLogs::new(manager.accounts(), before);
     text_after(alloc, declared, manager.core(), &over, names)
 }
 
-// The log that follows one whose lines were made again.
+// The log that follows one whose lines were made again, and which came after logs with these counts.
 fn next_of_made<'a>(
     alloc: Global,
     made: Continued<'a>,
+    before: &[CarriedCounts],
     names: &NextNames<'_>,
 ) -> Result<NextLog, Fault<'a>>
+    requires { AreCountsBefore (arc_value made.declared) names.now.log.now before.now }
     ensures { IfOk result (MakesNext (arc_value made.entry.declared) (keeper_of made.entry.manager)
         names.now.canonical.now names.now.capacity names.now.log.now) }
 {
@@ -173,7 +185,7 @@ fn next_of_made<'a>(
         declared,
         ..
     } = made;
-    match text_of_manager(alloc, &declared, &manager, names) {
+    match text_of_manager(alloc, &declared, &manager, before, names) {
         Ok(Some(text)) => Ok(NextLog::Begins(text)),
         Ok(None) => match restless_lines(alloc, &mut manager) {
             Ok(lines) => Ok(NextLog::Restless(lines)),
