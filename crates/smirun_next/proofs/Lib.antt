@@ -1,2 +1,3 @@
 mod Ranges
+mod Nexts
 mod Wholes

@@ -2,9 +2,9 @@
 ghost use Rattle.std.specs.Prelude.{IfOk};
 ghost use Rattle.smirun_next.specs.NextLogs.{AreCountsBefore};
 
-use smi_carried::CarriedCounts;
+use smi_carried::{Carried, CarriedCounts};
 use smi_log_begin::log_version;
-use smi_log_front::{FrontFault, LogVersion, read_front};
+use smi_log_front::{Front, FrontFault, LogVersion, read_front};
 use smirun_commands::{Fault, LogRefusal};
 use sml_domain::Domain;
 use std::alloc::Global;
@@ -24,7 +24,11 @@ pub(crate) fn counts_before<'a>(
     match log_version(log) {
         LogVersion::One => Ok(Vec::new(alloc)),
         LogVersion::Two => match read_front(alloc, declared, log) {
-            Ok(read) => Ok(read.0.carried.counts),
+            Ok((front, _)) => {
+                let Front { carried, .. } = front;
+                let Carried { counts, .. } = carried;
+                Ok(counts)
+            }
             Err(FrontFault::BadLine(number)) => {
                 Err(Fault::Log(path, LogRefusal::BadOutset(number as u64)))
             }

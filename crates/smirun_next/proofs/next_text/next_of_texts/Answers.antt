@@ -21,5 +21,5 @@ returns-in-Ok-canonical_of c =
       continues = c.in-Ok.ensures.log;
       whole = c.is_whole.ensures c.if-not-is_whole.false;
       makes = subst (λ n. MakesNext d k canonical n log next) room
-          (subst (λ t. MakesNext d k t c.capacity_of.result log next) c.deref.ensures.value makes);
+          (subst (λ t. MakesNext d k t c.capacity_of.result log next) c.deref-in-Ok-canonical_of.ensures.value makes);
     })
