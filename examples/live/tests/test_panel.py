@@ -144,7 +144,6 @@ class Connections(unittest.TestCase):
             self.assertEqual([*manager.ask(REQUEST)], ["sent", "accepted"])
             self.assertEqual(plays[1].heard, plays[0].heard[1:])
 
-
     def test_numbers_go_on_from_the_last_one_of_the_session(self) -> None:
         """Where that is ahead of the clock. In another session they begin with the clock: there it may be too far."""
         ahead = time.time_ns() // 1000 + 7_200_000_000
