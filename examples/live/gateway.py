@@ -37,7 +37,8 @@ What a client is told, one line each, with two bytes in front:
 
 At first a client is told by lines `-` how all stands, what open actions have `set`, and the `start` of what each
 device has in hand; `# told` is the end of that. So what follows fits to it, and a driver that was started anew knows
-what it has to do.
+what it has to do. Before `# told`, right after its session, stands `# last K` where the last K of the session is ahead
+of the gateway's clock.
 
 A driver's first line is `SECRET driver OBJECT..`, of names of devices, or beginnings of names and `*`. It is told at
 first how all stands, then `# driver OBJECT..` with all that it drives, and of the manager's lines those that begin with
@@ -57,11 +58,13 @@ SECRET` that its user alone can read, whoever says such a secret is that operato
 operators have taken is kept in --holders. With --log the gateway writes, in front of a client's line, when it came and
 of whom (see times.py).
 
-K is a number in decimal, without a zero in front: the greater of the client's last K + 1 and its clock in microseconds
-since 1970, so that numbers grow on where a session is lent again. One that is more than an hour ahead of the gateway's
-clock is answered `= refused BadLine`: all those of the session's later clients would be old. The answer is `= once S3 K
-accept ..` or `= once S3 K refused ..`; the line `accept ..` that the manager writes where it makes the request is told
-to all by `-`, to this client too. After a line `once` nothing of its client is handed on until it has its answer.
+K is a number in decimal, without a zero in front: the greater of the last K + 1 and the client's clock in microseconds
+since 1970, so that numbers grow on where a session is lent again. The last K is at first that of the line `# last K`,
+if there was one: a client before had a clock that was fast, or the machine's was set back. One that is more than an
+hour ahead of the gateway's clock, and more than 1,000 after the session's last, is answered `= refused BadLine`: with a
+clock for K all requests of the session's later clients would be old. The answer is `= once S3 K accept ..` or `= once
+S3 K refused ..`; the line `accept ..` that the manager writes where it makes the request is told to all by `-`, to this
+client too. After a line `once` nothing of its client is handed on until it has its answer.
 
 Without the two bytes, `=` and `-` are what the manager wrote, in its order. Where it was killed and started again, `!
 restarted` and how all stands come by `-`, and `= ! unanswered ..` is an answer: the line may have been made or not. But

@@ -23,6 +23,8 @@ RETRY_SECONDS, PAUSE_SECONDS = 86400.0, 0.5
 # An action that has been open for this long is asked about; between two questions lie this many times the seconds that
 # the answer took, and this many seconds at least.
 OPEN_SECONDS, QUESTIONS_APART, QUESTION_SECONDS = 2.0, 10.0, 2.0
+# The last number of the session, where the clock has not come there yet.
+LAST = re.compile(r"last (0|[1-9][0-9]{0,19})")
 
 
 def said_of(answer: str, is_again: bool) -> str:
@@ -100,12 +102,17 @@ class Manager:
             first = told.readline().rstrip("\n")
             if not first.startswith("# session "):
                 raise OSError(first.removeprefix("# ") or "the gateway says nothing")
+            second = told.readline()
+            if not second.endswith("\n"):
+                raise OSError("the connection is cut")
         except OSError:
             link.close()
             raise
         link.settimeout(None)
         with self.asking:
             self.ask_again(link, (secret, first))
+            # It may be the last number of the session: nobody asks before that is known.
+            self.hear(second[:1], second[2:-1])
         return told
 
     def ask_again(self, link: socket.socket, at: tuple[str, str]) -> None:
@@ -114,6 +121,8 @@ class Manager:
             again = [asked for asked in self.asked if at == self.at and asked.may_be_asked_again()]
             self.give_up(lambda asked: asked not in again)
             self.view.begin(at[1])
+            if at != self.at:
+                self.number = 0  # it was that of another session
             self.question.asked_at, self.link, self.at = None, link, at
             self.changed.notify_all()
         for asked in again:
@@ -163,6 +172,8 @@ class Manager:
                 self.view.take_waits(lines)
             else:
                 self.view.hear(mark, line, time.time())
+            if mark == "#" and (found := LAST.fullmatch(line)):
+                self.number = max(self.number, int(found[1]))
             if mark == "=" and self.asked:
                 asked = self.asked.popleft()
                 asked.said.put(said := said_of(line, asked.is_again))

@@ -8,7 +8,7 @@ import socket
 import sys
 import time
 
-from client_lines import ANSWERS, TAKE, for_manager, object_of, request_of
+from client_lines import ANSWERS, TAKE, Numbers, for_manager, object_of, request_of
 from clients import LEAVING_SECONDS, NOT_TOLD, Asked, Client, Standings
 from dispatch import UNANSWERED, Dispatch
 from domain import Domain, Standing, tells_standing
@@ -73,6 +73,7 @@ class Gateway:
         self.standings = Standings(next(iter(self.domain.objects)), self.manager.to)
         self.dispatch = Dispatch(self.manager.to, self.domain.devices, self.standing.in_hand, settings.log is not None)
         self.clients: list[Client] = []
+        self.numbers = Numbers()
         self.leaving_since: float | None = None
         # What the manager complains of that is not over after a while: who comes later is told it too.
         self.complaints: dict[bytes, None] = {}
@@ -270,6 +271,8 @@ class Gateway:
             return
         client.who = name or f"@{client.session}"
         client.tell(b"#", b"session @%d" % client.session + (b" " + name.encode() if name else b""))
+        if (last := self.numbers.of(client.session)) >= time.time_ns() // 1000:
+            client.tell(b"#", b"last %d" % last)
         for text in self.standing.lines():
             client.tell(b"-", text.encode())
         client.tell(b"#", b"told")
@@ -325,7 +328,8 @@ class Gateway:
             self.take(client, found[1].decode().lower(), found[2].decode().upper())
             return
         plain, request = request_of(line)
-        made = for_manager(plain, client.session or 0, time.time_ns() // 1000)
+        session = client.session or 0
+        made = for_manager(plain, session, time.time_ns() // 1000, self.numbers.of(session))
         if made is None or is_time(made):
             client.refuse("refused BadLine")
             return
@@ -335,6 +339,7 @@ class Gateway:
         elif not self.dispatch.is_open(asked):
             client.refuse("refused NotOpen")
         elif has_answer(made):
+            self.numbers.take(made)
             client.asked.append(asked)
             self.dispatch.hand_on(asked)
         else:
@@ -377,6 +382,7 @@ class Gateway:
             self.log.has_begun = self.manager.has_told = True
             text = line.decode("latin1")
             self.standing.take(text)
+            self.numbers.take(line)
             self.timeouts.take(text, time.monotonic())
             if line in (b"! restarted", b"! begun anew"):
                 self.await_standing()

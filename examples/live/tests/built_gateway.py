@@ -13,7 +13,9 @@ sys.path.insert(0, LIVE)
 DOMAIN = f"{LIVE}/../detector.sml"
 LIMIT = 120
 
+from domain import Domain  # noqa: E402
 from lines import read_contact  # noqa: E402
+from panel_client import Manager  # noqa: E402
 
 
 def stands_still(*_: object) -> None:
@@ -238,6 +240,19 @@ class AtGateway(unittest.TestCase):
         self.assertEqual(operator.until("="), "= once S1 5 accept @1 TRACKER_HV1 0 SWITCH_ON (VOLTS = 5)")
         cooler.say("answer TRACKER_COOLER COLD")
         self.assertEqual(cooler.until("="), "= end TRACKER_COOLER COLD")
+
+    def test_a_panel_goes_on_from_a_number_that_is_ahead_of_the_clock(self) -> None:
+        """As the log says: the gateway was started anew meanwhile. By its clock all that it asks for would be old."""
+        self.start("--log", self.log)
+        operator, number = self.client(), time.time_ns() // 1000 + 3_000_000_000
+        operator.say(f"once {number} request TRACKER_HV1 SWITCH_ON (VOLTS = 5)")
+        self.assertEqual(operator.until("= "), f"= once S1 {number} accept @1 TRACKER_HV1 0 SWITCH_ON (VOLTS = 5)")
+        self.end()
+        self.start("--log", self.log)
+        asked = Manager(Domain(DOMAIN), self.contact).ask("request TRACKER_HV2 SWITCH_ON (VOLTS = 5)")
+        self.assertEqual([*asked], ["sent", "accepted"])
+        with open(self.log, encoding="ascii") as log:
+            self.assertIn(f"request @1 TRACKER_HV2 SWITCH_ON (VOLTS = 5) ! once S1 {number + 1}\n", log.readlines())
 
     def test_no_start_is_lost(self) -> None:
         """A detector is switched on and off, and its devices answer at once, until they have started 1,000 times."""

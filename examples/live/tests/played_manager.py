@@ -35,6 +35,8 @@ class Manager:
         self.open: dict[str, Start] = {}
         self.numbers = dict.fromkeys(self.states, 0)
         self.answers: dict[str, str] = {}
+        # Of each name the number and the object of its last request that is made once.
+        self.last: dict[str, tuple[str, str]] = {}
         self.told: list[str] = []
 
     def make(self, line: str) -> None:
@@ -60,6 +62,7 @@ class Manager:
         if once:
             self.answers[once] = f"{once}{self.told[-1]}"
             self.told.append(self.answers[once])
+            self.last[once.split()[1]] = (once.split()[2], name)
         self.waiting[name].append((session, number, action))
         self.begin(name)
 
@@ -85,7 +88,9 @@ class Manager:
 
     def standing(self) -> list[str]:
         opens = [f"open {name} {action} waits device" for name, (_, _, action) in self.open.items()]
-        return [*(f"state {name} {state}" for name, state in self.states.items()), *opens, "stands 1"]
+        lasts = [f"once {name} {number} {asked} {self.states[asked]} 0 ended"
+                 for name, (number, asked) in self.last.items()]
+        return [*(f"state {name} {state}" for name, state in self.states.items()), *opens, *lasts, "stands 1"]
 
     def resume(self, log: str) -> None:
         """Makes the lines of a log again, and tells how all stands; slowly, so that a test can come before."""

@@ -41,17 +41,20 @@ def domain() -> Any:
 
 
 class Play:
-    """A connection of the gateway: the session, how many lines it reads, what it tells then, and what is done last."""
+    """A connection of the gateway: the session, how many lines it reads, what it tells then, and what is done last; and
+    the last number that the session has had, where that is told."""
 
-    def __init__(self, session: int, count: int, told: str = "", last: Callable[[str], None] = lambda _: None) -> None:
-        self.session, self.count, self.told, self.last = session, count, told, last
+    def __init__(self, session: int, count: int, told: str = "", last: Callable[[str], None] = lambda _: None,
+                 number: int | None = None) -> None:
+        self.session, self.count, self.told, self.last, self.number = session, count, told, last, number
         self.heard: list[str] = []
 
     def run(self, link: socket.socket, contact: str, is_last: bool) -> None:
         link.settimeout(LIMIT)
         with link, link.makefile("r", encoding="ascii") as lines:
             lines.readline()  # the secret
-            link.sendall(f"# session @{self.session}\n- state HV1 OFF\n".encode())
+            number = "" if self.number is None else f"# last {self.number}\n"
+            link.sendall(f"# session @{self.session}\n{number}- state HV1 OFF\n# told\n".encode())
             self.heard += [lines.readline() for _ in range(self.count)]
             link.sendall(self.told.encode())
             self.last(contact)
@@ -140,6 +143,22 @@ class Connections(unittest.TestCase):
                 self.assertEqual([*manager.ask(REQUEST)], ["sent", "no answer yet"])
             self.assertEqual([*manager.ask(REQUEST)], ["sent", "accepted"])
             self.assertEqual(plays[1].heard, plays[0].heard[1:])
+
+    def test_numbers_go_on_from_the_last_one_of_the_session(self) -> None:
+        """Where that is ahead of the clock. In another session they begin with the clock: there it may be too far."""
+        ahead = time.time_ns() // 1000 + 7_200_000_000
+        answer = f"= {ACCEPTED}\n"
+        plays = Play(3, 1, answer, number=ahead), Play(3, 1, answer, number=ahead + 5), Play(4, 1, answer)
+        links: list[socket.socket | None] = [None]
+        with at_gateway(*plays) as manager:
+            for _ in plays:
+                with manager.changed:
+                    self.assertTrue(manager.changed.wait_for(lambda: manager.link not in links, LIMIT))
+                    links.append(manager.link)
+                self.assertEqual([*manager.ask(REQUEST)], ["sent", "accepted"])
+        numbers = [int(line.split(" ")[1]) for play in plays for line in play.heard]
+        self.assertEqual(numbers[:2], [ahead + 1, ahead + 6])
+        self.assertLess(abs(numbers[2] - time.time_ns() // 1000), LIMIT * 1_000_000)
 
 
 class Answers(unittest.TestCase):

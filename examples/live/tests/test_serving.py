@@ -1,12 +1,15 @@
 """The gateway, over a manager that is played: who is told what, and what it does where the manager has ended."""
 from __future__ import annotations
 
+import fcntl
 import os
 import signal
 import socket
 import subprocess
 import sys
 import tempfile
+import termios
+import time
 import unittest
 
 LIVE = os.path.dirname(os.path.dirname(os.path.realpath(__file__)))
@@ -51,6 +54,12 @@ class Client:
 def children_of(pid: int) -> list[int]:
     with open(f"/proc/{pid}/task/{pid}/children", encoding="ascii") as file:
         return [int(word) for word in file.read().split()]
+
+
+def unread(pid: int) -> int:
+    """How many bytes wait for a process in its standard input, a pipe."""
+    with open(f"/proc/{pid}/fd/0", "rb", buffering=0) as pipe:
+        return int.from_bytes(fcntl.ioctl(pipe, termios.FIONREAD, bytes(4)), sys.byteorder)
 
 
 class Serving(Limited):
@@ -129,6 +138,61 @@ class Serving(Limited):
                          ["- start HV1 @1 1 SWITCH_OFF", "= refused NotOpen", "= end HV1 OFF"])
         operator.say("once 7 request HV1 SWITCH_ON")
         self.assertEqual(operator.until("= once"), "= once S1 7 accept @1 HV1 0 SWITCH_ON")
+
+    def at_session(self, session: int) -> Client:
+        """A client with this session, once that is free."""
+        def is_lent() -> bool:
+            clients.append(self.client())
+            is_it = clients[-1].read() == f"# session @{session}"
+            if not is_it:
+                clients[-1].leave()
+            return is_it
+
+        clients: list[Client] = []
+        until(is_lent)
+        return clients[-1]
+
+    def test_who_has_a_session_whose_last_number_is_ahead_of_the_clock_is_told_so(self) -> None:
+        """It goes on from there. With a number by the clock all of its requests would be old."""
+        self.start()
+        number = time.time_ns() // 1000 + 3_000_000_000
+        clients = [self.client(), self.client()]
+        for session, (client, asked) in enumerate(zip(clients, (number, 7)), 1):
+            client.say(f"once {asked} request HV{session} SWITCH_ON")
+            self.assertEqual(client.until("="), f"= once S{session} {asked} accept @{session} HV{session} 0 SWITCH_ON")
+        for client in clients:
+            client.leave()
+        first = self.at_session(1)
+        self.assertEqual([first.read(), first.until("#")], [f"# last {number}", "# told"])
+        first.say(f"once {number + 1} request HV2 SWITCH_ON")
+        self.assertEqual(first.until("="), f"= once S1 {number + 1} accept @1 HV2 1 SWITCH_ON")
+        self.assertEqual(self.at_session(2).until("#"), "# told")
+
+    def test_so_it_is_where_that_number_has_no_answer_yet(self) -> None:
+        """Who had the session before was let go at once."""
+        self.start()
+        client, number = self.client(), time.time_ns() // 1000 + 3_000_000_000
+        client.until("# told")
+        manager = children_of(self.gateway.pid)[0]
+        os.kill(manager, signal.SIGSTOP)
+        self.addCleanup(os.kill, manager, signal.SIGCONT)
+        client.say(f"once {number} request HV1 SWITCH_ON")
+        until(lambda: unread(manager))
+        client.link.sendall(b"x" * 9000)
+        self.assertEqual(client.until("#"), "# a line has 8192 bytes at most")
+        self.assertEqual(self.at_session(1).read(), f"# last {number}")
+
+    def test_so_it_is_where_the_clock_was_set_back(self) -> None:
+        """As the log says, however far that was. What is much greater is refused."""
+        number = time.time_ns() // 1000 + 7_200_000_000
+        with open(self.log, "w", encoding="ascii") as file:
+            file.write(f"once S1 {number} request @1 HV1 SWITCH_ON\n")
+        self.start("--log", self.log)
+        client = self.client()
+        self.assertEqual([client.read() for _ in range(2)], ["# session @1", f"# last {number}"])
+        client.say(f"once {number + 2000} request HV2 SWITCH_ON", f"once {number + 1} request HV2 SWITCH_ON")
+        self.assertEqual([client.until("=") for _ in range(2)],
+                         ["= refused BadLine", f"= once S1 {number + 1} accept @1 HV2 0 SWITCH_ON"])
 
     def test_it_outlives_its_supervisor(self) -> None:
         self.start("--log", self.log, "--pause", "0.3")
