@@ -1,0 +1,10 @@
+pub mod Others
+pub mod Moving
+pub mod Tables
+pub mod StandsMoved
+pub mod MembersMoved
+pub mod CarriedMoved
+pub mod FrontMoved
+pub mod MovedLines
+pub mod MovedText
+pub mod AskedOf

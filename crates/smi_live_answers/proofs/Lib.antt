@@ -1,0 +1,3 @@
+mod Ends
+mod OneName
+mod OneWord

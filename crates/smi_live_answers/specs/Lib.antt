@@ -1,0 +1,2 @@
+pub mod EndWords
+pub mod Naming
