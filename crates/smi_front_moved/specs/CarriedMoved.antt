@@ -42,7 +42,7 @@ ends_added m o p =
     if is_some (killer_moved m o) then 0
     else end_if (is_some (front_killer m.front.kills p)) + end_if (not (stands_still m o p))
 
--- counts with so many ends more, as far as 64 bits go
+-- counts to which this number of ends is added, as far as 64 bits go
 abbrev pub with_ends : ℕ → CarriedCounts → CarriedCounts
 with_ends n c = record { started = c.started; ended = min (c.ended + n) (2 ^ 64 - 1) }
 

@@ -4,12 +4,12 @@ use Rattle.std.specs.List.{list_any}
 use Rattle.smi_log_front.specs.declared.front.FrontKill.{FrontKill}
 use Rattle.smi_front_moved.specs.Moving.{MovingView, front_killer}
 
--- those of so many objects are marked that are among these
+-- for each object a mark, whether it is among these
 pub record AreMarkedOf (n : ℕ) (objects : List ℕ) (marks : List Bool) : Type 0 where
   pub count : length marks ≡ n
   pub each : (o : ℕ) → o < n → get_or marks o false ≡ list_any (nat_eq o) objects
 
--- at the place of each of so many objects stands the session that kills it again by these kills, if one does
+-- for each object the session that kills it again by these kills, if one does
 pub record AreKillers (n : ℕ) (kills : List FrontKill) (killers : List (Option ℕ)) : Type 0 where
   pub count : length killers ≡ n
   pub each : (p : ℕ) → p < n → get_or killers p None ≡ front_killer kills p

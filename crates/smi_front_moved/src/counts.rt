@@ -93,7 +93,7 @@ fn ends_added(moving: &Moving<'_>, killers: &[Option<SessionId>], o: ObjId, p: O
     kill + end_if(!stands_still(moving, killers, o, p))
 }
 
-// Counts with so many ends more.
+// Counts to which this number of ends is added.
 fn with_ends(ends: u64, counts: &CarriedCounts) -> CarriedCounts
     ensures { result ≡ spec.with_ends ends counts.now }
 {

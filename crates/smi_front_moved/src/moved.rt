@@ -86,7 +86,7 @@ fn if_suiting(moving: &Moving<'_>, front: Front) -> Option<Front>
 
 /// The front of the log that goes on in another domain, by the SHA-1 of the canonical text of that domain: room and the
 /// SHA-1 of the log before are those of the front of the old domain. None if it would not suit the new domain, as where
-/// that front does not suit the old one, or where the sum is none.
+/// that front does not suit the old one, or where the sum is no SHA-1.
 ///
 /// The cost is some look-ups by hash for each object, its parameters times their count, for each set the count of
 /// sets and of objects, and that of `front_suits`. The error is out of memory.

@@ -21,7 +21,7 @@ fn mark(marks: &mut Vec<bool>, place: usize)
     }
 }
 
-/// Which of so many objects are among these. The cost is both counts. The error is out of memory.
+/// Which objects, up to this count, are among these. The cost is both counts. The error is out of memory.
 pub(crate) fn marks_of(
     alloc: Global,
     count: usize,
@@ -48,7 +48,7 @@ fn put_killer(killers: &mut Vec<Option<SessionId>>, kill: &FrontKill)
     }
 }
 
-/// Who kills each of so many objects again by these kills. The cost is both counts. The error is out of memory.
+/// Who kills each object, up to this count, again by these kills. The cost is both counts. The error is out of memory.
 pub(crate) fn killers_of(
     alloc: Global,
     count: usize,
